@@ -1,0 +1,10 @@
+pub mod Orders
+pub mod Letters
+pub mod Names
+pub mod Caps
+pub mod Costs
+pub mod Lists
+pub mod Same
+pub mod Counted
+pub mod Exact
+pub mod Merged

@@ -1,0 +1,66 @@
+-- The letters of a label.
+use Rattle.std.proofs.Common.{◌≡◌, ℕ, zero, suc, ◌<◌, ◌≤◌, true, List, [], ◌∷◌, length, take, max, refl, sym, ap, ◌∙◌, arith, get_or}
+use Rattle.std.specs.List.{list_all}
+use Rattle.std.specs.Cmp.Derive.{both_true}
+use Rattle.std.proofs.lemmas.Bool.Decides.{nat_tests}
+use Rattle.std.proofs.lemmas.List.{same_lists, get_or-take, get_or_default}
+use Rattle.std.proofs.Common.{length-take-le}
+use Rattle.std.specs.Prelude.{if◌then◌else◌, Option, Some, None}
+use Rattle.lg_gram.specs.Names.{Name, IsName, STAR, is_subscript, is_written, trimmed}
+use Rattle.lg_gram.specs.Connectors.{Connector, name_of, either, merged, label_of}
+use Rattle.lg_gram.proofs.Names.{and_parts, written_parts, is_written_from}
+
+pub length-merged : (xs ys : List ℕ) → length (merged xs ys) ≡ max (length xs) (length ys)
+length-merged [] ys = omega arith
+length-merged (x ∷ xs) [] = omega arith
+length-merged (x ∷ xs) (y ∷ ys) = omega (arith, length-merged xs ys)
+
+either_star : (x : ℕ) → x ≡ either x STAR
+either_star x = grind (arith, nat_tests)
+
+pub get_or-merged : (xs ys : List ℕ) (k d : ℕ) → k < max (length xs) (length ys) → get_or (merged xs ys) k d ≡ either (get_or xs k STAR) (get_or ys k STAR)
+get_or-merged [] ys k d h = get_or_default ys k d STAR (omega arith)
+get_or-merged (x ∷ xs) [] k d h = get_or_default (x ∷ xs) k d STAR (omega arith) ∙ either_star _
+get_or-merged (x ∷ xs) (y ∷ ys) zero d h = refl
+get_or-merged (x ∷ xs) (y ∷ ys) (suc k) d h = get_or-merged xs ys k d (omega arith)
+
+-- letters that are right at each place are the label's
+pub is_merged : (letters xs ys : List ℕ) → max (length xs) (length ys) ≤ length letters →
+    ((k : ℕ) → k < max (length xs) (length ys) → get_or letters k STAR ≡ either (get_or xs k STAR) (get_or ys k STAR)) →
+    take (max (length xs) (length ys)) letters ≡ merged xs ys
+is_merged letters xs ys room right =
+    let short : length (take (max (length xs) (length ys)) letters) ≡ max (length xs) (length ys) = length-take-le _ letters room in
+    same_lists _ (merged xs ys) (short ∙ sym (length-merged xs ys))
+    (λ k d h.
+    let within : k < max (length xs) (length ys) = omega arith in
+    get_or-take _ letters k d within ∙ get_or_default letters k d STAR (omega arith) ∙ right k within ∙ sym (get_or-merged xs ys k d within))
+
+either_subscript : (x y : ℕ) → is_subscript x ≡ true → is_subscript y ≡ true → is_subscript (either x y) ≡ true
+either_subscript x y h g = grind (arith, nat_tests)
+
+pub subscripts_merged : (xs ys : List ℕ) → list_all is_subscript xs ≡ true → list_all is_subscript ys ≡ true → list_all is_subscript (merged xs ys) ≡ true
+subscripts_merged [] ys h g = g
+subscripts_merged (x ∷ xs) [] h g = h
+subscripts_merged (x ∷ xs) (y ∷ ys) h g =
+    let p = and_parts (is_subscript x) (list_all is_subscript xs) h in
+    let q = and_parts (is_subscript y) (list_all is_subscript ys) g in
+    both_true (either_subscript x y p.0 q.0) (subscripts_merged xs ys p.1 q.1)
+
+-- the label of two connectors that match may be written
+pub written_label : (a b : Connector) → IsName (name_of a) → IsName (name_of b) → a.caps ≡ b.caps → is_written a.caps (merged a.subs b.subs) ≡ true
+written_label a b p q same =
+    let x = written_parts a.caps a.subs p.written in
+    let y = written_parts b.caps b.subs q.written in
+    is_written_from a.caps (merged a.subs b.subs) (record {
+      some = x.some;
+      few = omega (arith, x.few, y.few, ap length same, length-merged a.subs b.subs);
+      capitals = x.capitals;
+      subscripts = subscripts_merged a.subs b.subs x.subscripts y.subscripts;
+    })
+
+-- what is written so is the label
+pub label_given : (a b : Connector) → IsName (name_of a) → IsName (name_of b) → a.caps ≡ b.caps → (caps letters : List ℕ) → caps ≡ a.caps → letters ≡ merged a.subs b.subs →
+    (o : Option Name) → o ≡ (if is_written caps letters then Some (record { caps = caps; subs = trimmed letters }) else None) → o ≡ Some (label_of a b)
+label_given a b p q same caps letters e f o g =
+    g ∙ (λ i. if is_written (e i) (f i) then Some (record { caps = e i; subs = trimmed (f i) }) else None)
+    ∙ ap (λ t. if t then Some (label_of a b) else None) (written_label a b p q same)

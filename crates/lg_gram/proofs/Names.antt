@@ -1,0 +1,135 @@
+-- The letters of names.
+use Rattle.std.proofs.Common.{◌≡◌, ℕ, zero, suc, ◌+◌, ◌-◌, ◌<◌, ◌≤◌, Bool, true, false, List, [], ◌∷◌, ◌++◌, length, take, drop, replicate, refl, sym, ap, ◌∙◌, arith, append_assoc, length-append, length-take, ◌==◌, ◌&&◌, cond, Less, Greater}
+use Rattle.std.specs.Ordering.{nat_cmp, ordering_then, ordering_reverse}
+use Rattle.std.specs.Cmp.Lexicographic.{slice_cmp}
+use Rattle.std.proofs.lemmas.Cmp.{nat_list_cmp_total}
+use Rattle.std.proofs.Math.Seq.{take-nil}
+use Rattle.std.proofs.lemmas.Bool.{false≢true}
+use mathlib.Core.Bool.{beq}
+use Rattle.std.specs.Cmp.Derive.{both_true}
+use Rattle.std.proofs.lemmas.List.{length-replicate, take_at, drop_at, drop-replicate}
+use Rattle.std.proofs.lemmas.Bool.Decides.{nat_tests}
+use Rattle.std.specs.List.{list_all, suffix_len}
+use borrow.Rule.Slice.PartMut.{put_mid}
+use Rattle.lg_gram.specs.Names.{IsName, is_capital, is_subscript, is_written, trimmed, STAR}
+use Rattle.lg_gram.specs.Connectors.{Connector, name_of, connector_text, connector_cmp}
+use Rattle.lg_gram.specs.Stored.{IsStored, stored}
+
+-- what two copies leave in sixteen zeros
+pub packed_parts : (caps subs : List ℕ) → length caps + length subs ≤ 16 →
+    put_mid (length caps) (length caps + length subs - length caps) (caps ++ drop (length caps) (replicate 16 0)) subs
+    ≡ caps ++ subs ++ replicate (16 - (length caps + length subs)) 0
+packed_parts caps subs h =
+    let zeros : List ℕ = drop (length caps) (replicate 16 0) in
+    let count : 16 - length caps - (length caps + length subs - length caps) ≡ 16 - (length caps + length subs) = omega arith in
+    rw (take_at caps zeros (length caps) refl, drop_at caps zeros (length caps) refl, drop-replicate {X = ℕ} (length caps) 16 0, drop-replicate {X = ℕ} (length caps + length subs - length caps) (16 - length caps) 0, count)
+    (sym (append_assoc caps subs _))
+
+pub record WrittenParts (caps subs : List ℕ) : Type 0 where
+  pub some : 0 < length caps
+  pub few : length caps + length subs ≤ 16
+  pub capitals : list_all is_capital caps ≡ true
+  pub subscripts : list_all is_subscript subs ≡ true
+
+pub written_parts : (caps subs : List ℕ) → is_written caps subs ≡ true → WrittenParts caps subs
+written_parts caps subs h = record {
+  some = grind (arith, nat_tests);
+  few = grind (arith, nat_tests);
+  capitals = grind (arith, nat_tests);
+  subscripts = grind (arith, nat_tests);
+}
+
+pub is_written_from : (caps subs : List ℕ) → WrittenParts caps subs → is_written caps subs ≡ true
+is_written_from caps subs h = grind (arith, nat_tests, h.some, h.few, h.capitals, h.subscripts)
+
+pub and_parts : (a b : Bool) → (a && b) ≡ true → (a ≡ true) × (b ≡ true)
+and_parts true b h = (refl, h)
+and_parts false b h = absurd (false≢true h)
+
+list_all-take : (p : ℕ → Bool) (xs : List ℕ) (n : ℕ) → list_all p xs ≡ true → list_all p (take n xs) ≡ true
+list_all-take p [] n h = rw take-nil refl
+list_all-take p (x ∷ xs) zero h = refl
+list_all-take p (x ∷ xs) (suc n) h = let parts = and_parts (p x) (list_all p xs) h in both_true parts.0 (list_all-take p xs n parts.1)
+
+-- a name without its stars at the end is one
+pub trimmed_written : (caps subs : List ℕ) → is_written caps subs ≡ true → is_written caps (trimmed subs) ≡ true
+trimmed_written caps subs h =
+    let parts = written_parts caps subs h in
+    is_written_from caps (trimmed subs) (record {
+      some = parts.some;
+      few = omega (arith, parts.few, length-take (length subs - suffix_len (λ b. b == STAR) subs) subs);
+      capitals = parts.capitals;
+      subscripts = list_all-take is_subscript subs _ parts.subscripts;
+    })
+
+-- a name that is written as it may be is stored so
+pub stored_so : (caps subs : List ℕ) → is_written caps subs ≡ true → trimmed subs ≡ subs → IsStored (stored (record { caps = caps; subs = subs }))
+stored_so caps subs h short =
+    let parts = written_parts caps subs h in
+    let zeros : List ℕ = replicate (16 - (length caps + length subs)) 0 in
+    let first : take (length caps) (caps ++ subs ++ zeros) ≡ caps = rw append_assoc (take_at caps (subs ++ zeros) _ refl) in
+    let second : take (length caps + length subs - length caps) (drop (length caps) (caps ++ subs ++ zeros)) ≡ subs =
+    rw (append_assoc, drop_at caps (subs ++ zeros) (length caps) refl) (take_at subs zeros _ (omega arith)) in
+    let padded : drop (length caps + length subs) (caps ++ subs ++ zeros) ≡ zeros =
+    drop_at (caps ++ subs) zeros _ (length-append caps subs) in
+    record {
+      is_name = record {
+        written = rw (first, second) h;
+        short = rw second short;
+      };
+      ordered = omega arith;
+      fits = omega (arith, parts.few);
+      sized = omega (arith, parts.few, length-append (caps ++ subs) zeros, length-append caps subs, length-replicate {A = ℕ} (16 - (length caps + length subs)) 0);
+      padded = padded;
+    }
+
+capital_less : (b : ℕ) → is_capital b ≡ true → nat_cmp 64 b ≡ Less
+capital_less b h = grind (arith, nat_tests)
+
+below_capitals : (xs caps ys : List ℕ) → 0 < length caps → list_all is_capital caps ≡ true → Less ≡ slice_cmp nat_cmp (64 ∷ xs) (caps ++ ys)
+below_capitals xs [] ys some all = absurd (omega arith)
+below_capitals xs (b ∷ caps) ys some all =
+    let first = and_parts (is_capital b) (list_all is_capital caps) all in
+    let less : nat_cmp 64 b ≡ Less = capital_less b first.0 in
+    ap (λ o. ordering_then o (slice_cmp nat_cmp xs (caps ++ ys))) (sym less)
+
+-- the text of a connector with `@` comes before one without
+multi_first_on : (m n : Bool) (xs caps ys : List ℕ) → m ≡ true → n ≡ false → 0 < length caps → list_all is_capital caps ≡ true →
+    Less ≡ slice_cmp nat_cmp (cond m (64 ∷ xs) xs) (cond n (64 ∷ (caps ++ ys)) (caps ++ ys))
+multi_first_on true false xs caps ys e f some all = below_capitals xs caps ys some all
+multi_first_on false n xs caps ys e f some all = absurd (false≢true e)
+multi_first_on true true xs caps ys e f some all = absurd (false≢true (sym f))
+
+pub multi_first : (a b : Connector) → a.multi ≡ true → b.multi ≡ false → IsName (name_of b) → Less ≡ connector_cmp a b
+multi_first a b e f named =
+    let parts = written_parts b.caps b.subs named.written in
+    multi_first_on a.multi b.multi (a.caps ++ a.subs) b.caps b.subs e f parts.some parts.capitals
+
+pub multi_last : (a b : Connector) → a.multi ≡ false → b.multi ≡ true → IsName (name_of a) → Greater ≡ connector_cmp a b
+multi_last a b e f named = ap ordering_reverse (multi_first b a f e named) ∙ sym (nat_list_cmp_total.antisymm (connector_text a) (connector_text b))
+
+same_sign : (m n : Bool) (xs ys : List ℕ) → m ≡ n → slice_cmp nat_cmp xs ys ≡ slice_cmp nat_cmp (cond m (64 ∷ xs) xs) (cond n (64 ∷ ys) ys)
+same_sign true true xs ys h = refl
+same_sign false false xs ys h = refl
+same_sign true false xs ys h = cc
+same_sign false true xs ys h = cc
+
+-- where both have `@` or neither, the letters decide
+pub letters_decide : (a b : Connector) → a.multi ≡ b.multi → slice_cmp nat_cmp (a.caps ++ a.subs) (b.caps ++ b.subs) ≡ connector_cmp a b
+letters_decide a b e = same_sign a.multi b.multi _ _ e
+
+pub same_from_beq : (m n : Bool) → beq m n ≡ true → m ≡ n
+same_from_beq true true h = refl
+same_from_beq false false h = refl
+same_from_beq true false h = absurd (false≢true h)
+same_from_beq false true h = absurd (false≢true h)
+
+pub other_false : (m n : Bool) → beq m n ≡ false → m ≡ true → n ≡ false
+other_false true true h e = h
+other_false true false h e = refl
+other_false false n h e = absurd (false≢true e)
+
+pub other_true : (m n : Bool) → beq m n ≡ false → m ≡ false → n ≡ true
+other_true true n h e = absurd (false≢true (sym e))
+other_true false true h e = refl
+other_true false false h e = sym h

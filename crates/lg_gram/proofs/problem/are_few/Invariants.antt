@@ -1,0 +1,7 @@
+use Rattle.std.proofs.Common.{◌≡◌, ◌+◌, take, length}
+use Rattle.std.specs.List.{sum_by}
+use Rattle.lg_gram.specs.Limits.{DISJUNCTS}
+use Rattle.lg_gram.proofs.problem.are_few.Given as goal
+
+abbrev pub invariant-loop-position : goal.invariant-loop-position
+invariant-loop-position l = sum_by length (take l.position-index l.positions) + l.left ≡ DISJUNCTS

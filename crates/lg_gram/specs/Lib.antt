@@ -1,0 +1,13 @@
+pub mod Limits
+pub mod Names
+pub mod Stored
+pub mod Connectors
+pub mod Trees
+pub mod Measures
+pub mod Formulas
+pub mod Disjuncts
+pub mod Problems
+pub mod Linkages
+pub mod Walks
+pub mod Rules
+pub mod Levels

@@ -1,0 +1,48 @@
+-- The limits of the grammar, each in one place.
+use Rattle.std.specs.Prelude.{ℕ, ◌^◌, ◌-◌}
+
+-- the letters of a name, capitals and subscripts together
+abbrev pub LETTERS : ℕ
+LETTERS = 16
+
+-- where the counts of nodes and of choices stop
+abbrev pub COUNTED : ℕ
+COUNTED = 2 ^ 40
+
+-- where the count of connectors on a side stops
+abbrev pub SIDE_COUNTED : ℕ
+SIDE_COUNTED = 2 ^ 32 - 1
+
+-- the nodes and the choices of a formula
+abbrev pub FORMULA_NODES : ℕ
+FORMULA_NODES = 1000000
+
+abbrev pub FORMULA_CHOICES : ℕ
+FORMULA_CHOICES = 1000000
+
+-- the connectors on a side of a choice
+abbrev pub SIDE : ℕ
+SIDE = 255
+
+-- how far a leaf of a formula lies below the root
+abbrev pub DEPTH : ℕ
+DEPTH = 602
+
+-- a bracket's cost, from zero
+abbrev pub PRICE : ℕ
+PRICE = 10000000
+
+-- the cost of a disjunct, from zero
+abbrev pub DISJUNCT_COST : ℕ
+DISJUNCT_COST = 10 ^ 13
+
+-- the positions of a problem, and its disjuncts
+abbrev pub POSITIONS : ℕ
+POSITIONS = 122
+
+abbrev pub DISJUNCTS : ℕ
+DISJUNCTS = 8000000
+
+-- the positions of a linkage
+abbrev pub LINKAGE_POSITIONS : ℕ
+LINKAGE_POSITIONS = 252

@@ -1,0 +1,224 @@
+//! Connectors, and which of them may be linked.
+ghost use Rattle.std.specs.Prelude.{◌≡◌, ◌<◌, ◌≤◌, ◌↔◌, IsTrue, Some, None, if◌then◌else◌, max, length, take, slice_index_or};
+ghost use Rattle.std.specs.Cmp.Lexicographic.{pointwise};
+ghost use Rattle.std.specs.Cmp.{partial_equiv_from_equiv};
+ghost use Rattle.std.specs.Cmp.Rules.{comparing};
+ghost use Rattle.std.proofs.Common.{rules};
+ghost use Rattle.lg_gram.specs.Names.{is_written, trimmed, IsName, STAR};
+ghost use Rattle.lg_gram.specs.Connectors.{Match, Agree, name_of, label_of, connector_cmp, connector_eq, either, merged};
+
+use crate::label::{LETTERS, Label};
+use crate::order::Ranked;
+use std::cmp::Ordering;
+use std::marker::Model;
+
+/// One end of a link that a word can have: a name, whether it may take one link or more (`@`), and whether it joins a
+/// word to the right (`+`) or to the left (`-`).
+///
+/// Contracts see `{ caps, subs, multi, right }`.
+#[derive(Clone, Copy, Debug)]
+pub struct Connector {
+    name: Label,
+    multi: bool,
+    right: bool,
+}
+
+impl Model for Connector {
+    ghost use Rattle.lg_gram.specs.Connectors.{Connector as Seen, name_of};
+
+    ghost Value = { Seen };
+
+    ghost view = { λ c. record { caps = c.name.caps; subs = c.name.subs; multi = c.multi; right = c.right } };
+
+    ghost inverse = { λ c. record { name = name_of c; multi = c.multi; right = c.right } };
+}
+
+impl PartialEq for Connector {
+    ghost eq = { connector_eq };
+
+    ghost laws = { partial_equiv_from_equiv (Prim.search (comparing, rules) depth 9) };
+
+    fn eq(&self, other: &Connector) -> bool {
+        self.multi == other.multi && self.right == other.right && self.name == other.name
+    }
+}
+
+impl Eq for Connector {
+    ghost laws = { Prim.search (comparing, rules) depth 9 };
+}
+
+impl Ranked for Connector {
+    ghost use Rattle.lg_gram.specs.Connectors.{connector_cmp};
+    ghost use Rattle.std.specs.Cmp.Rules.{comparing};
+    ghost use Rattle.std.proofs.Common.{rules};
+
+    ghost rank = { connector_cmp };
+
+    fn rank(&self, other: &Connector) -> Ordering {
+        self.compare(other)
+    }
+
+    ghost total = { Prim.search (comparing, rules) depth 12 };
+}
+
+impl Connector {
+    /// The connector that is written so, without the stars at its end. None where a byte is not allowed, there is no
+    /// capital letter, or there are more than 16 letters.
+    pub fn of(caps: &[u8], subs: &[u8], multi: bool, right: bool) -> Option<Connector>
+        ensures { result ≡ (if is_written caps.now subs.now then
+            Some (record { caps = caps.now; subs = trimmed subs.now; multi = multi; right = right }) else None) }
+    {
+        let name = Label::of(caps, subs)?;
+        Some(Connector { name, multi, right })
+    }
+
+    /// The capital letters.
+    pub fn caps(&self) -> &[u8]
+        ensures value { result.now ≡ self.now.caps }
+        ensures named { IsName (name_of self.now) }
+    {
+        self.name.caps()
+    }
+
+    /// The subscripts.
+    pub fn subs(&self) -> &[u8]
+        ensures value { result.now ≡ self.now.subs }
+        ensures named { IsName (name_of self.now) }
+    {
+        self.name.subs()
+    }
+
+    /// Whether it may take several links.
+    pub fn is_multi(&self) -> bool
+        ensures { result ≡ self.now.multi }
+    {
+        self.multi
+    }
+
+    /// Whether it joins a word to the right.
+    pub fn is_right(&self) -> bool
+        ensures { result ≡ self.now.right }
+    {
+        self.right
+    }
+
+    /// The order by the bytes of the text without the direction sign.
+    pub fn compare(&self, other: &Connector) -> Ordering
+        ensures { result ≡ connector_cmp self.now other.now }
+    {
+        let own = self.name.letters();
+        let others = other.name.letters();
+        if self.multi == other.multi {
+            own.cmp(others)
+        } else if self.multi {
+            Ordering::Less
+        } else {
+            Ordering::Greater
+        }
+    }
+}
+
+/// Whether a link may join the two, the first at its left word and the second at its right word.
+pub fn matches(a: &Connector, b: &Connector) -> bool
+    ensures { IsTrue result ↔ Match a.now b.now }
+{
+    a.is_right() && !b.is_right() && a.caps() == b.caps() && agree(a.subs(), b.subs())
+}
+
+fn agree(xs: &[u8], ys: &[u8]) -> bool
+    ensures { IsTrue result ↔ Agree xs.now ys.now }
+{
+    xs.iter()
+        .zip(ys)
+        .all(|(x, y)| *x == *y || *x == b'*' || *y == b'*')
+}
+
+/// The label of a link of two connectors that match: the capital letters of both, and at each subscript place up to the
+/// longer of the two the letter that stands there in either, a star where neither has one. It has no star at its end.
+/// So `S**b` and `Ss` give `Ss*b`.
+pub fn link_label(a: &Connector, b: &Connector) -> Label
+    requires { Match a.now b.now }
+    ensures { result ≡ label_of a.now b.now }
+{
+    let length = a.subs().len().max(b.subs().len());
+    let letters = merged(a.subs(), b.subs());
+    Label::of(a.caps(), &letters[..length]).unwrap()
+}
+
+// The letter that stands at a place in either list, else a star.
+fn letter_at(xs: &[u8], ys: &[u8], place: usize) -> u8
+    ensures { result ≡ either (slice_index_or xs.now place STAR) (slice_index_or ys.now place STAR) }
+{
+    let letter = xs.get(place).copied().unwrap_or(b'*');
+    if letter == b'*' {
+        ys.get(place).copied().unwrap_or(b'*')
+    } else {
+        letter
+    }
+}
+
+// The letters of both lists, and stars behind them.
+fn merged(xs: &[u8], ys: &[u8]) -> [u8; LETTERS]
+    requires first { length xs.now ≤ LETTERS }
+    requires second { length ys.now ≤ LETTERS }
+    ensures { take (max (length xs.now) (length ys.now)) result ≡ merged xs.now ys.now }
+{
+    let mut letters = [b'*'; LETTERS];
+    for place in 0..xs.len().max(ys.len()) {
+        letters[place] = letter_at(xs, ys, place);
+    }
+    letters
+}
+
+/// A list of connectors.
+#[derive(Clone, Debug, Drop)]
+pub struct Connectors {
+    items: Vec<Connector>,
+}
+
+impl Model for Connectors {
+    ghost use Rattle.std.specs.Prelude.{List};
+    ghost use Rattle.lg_gram.specs.Connectors.{Connector as Seen};
+
+    ghost Value = { List Seen };
+
+    ghost view = { λ t. t.items.items };
+}
+
+impl PartialEq for Connectors {
+    ghost eq = { pointwise connector_eq };
+
+    ghost laws = { partial_equiv_from_equiv (Prim.search (comparing, rules) depth 12) };
+
+    fn eq(&self, other: &Connectors) -> bool {
+        self.items() == other.items()
+    }
+}
+
+impl Eq for Connectors {
+    ghost laws = { Prim.search (comparing, rules) depth 12 };
+}
+
+impl Connectors {
+    /// The list of these connectors.
+    pub fn of(items: Vec<Connector>) -> Self
+        ensures { result ≡ items.items }
+    {
+        Connectors { items }
+    }
+
+    /// The connectors.
+    pub fn items(&self) -> &[Connector]
+        ensures { result.now ≡ self.now }
+    {
+        self.items.as_slice()
+    }
+
+    /// The connectors, as a vector.
+    pub fn into_items(self) -> Vec<Connector>
+        ensures { result.items ≡ self }
+    {
+        let Connectors { items } = self;
+        items
+    }
+}

@@ -1,0 +1,177 @@
+//! Disjuncts, and lists of them.
+ghost use Rattle.std.specs.Prelude.{◌≡◌, ◌↔◌, IsTrue};
+ghost use Rattle.std.specs.List.{Contains};
+ghost use Rattle.lg_gram.specs.Disjuncts.{disjunct_cmp};
+
+use crate::connector::Connectors;
+use crate::order::{Ranked, rank_lists};
+use lg_base::{Cost, Text};
+use std::cmp::Ordering;
+use std::marker::Model;
+
+/// One way to use a word: its connectors to the left and to the right, each list from near to far, and what it costs.
+/// After the Link Grammar report, a word of a linkage uses exactly one disjunct.
+#[derive(Clone, Debug, Drop, PartialEq, Eq)]
+pub struct Disjunct {
+    pub word: Text,
+    pub left: Connectors,
+    pub right: Connectors,
+    pub cost: Cost,
+}
+
+impl Ranked for Disjunct {
+    ghost use Rattle.lg_gram.specs.Disjuncts.{disjunct_cmp};
+    ghost use Rattle.std.specs.Cmp.Rules.{comparing};
+    ghost use Rattle.std.proofs.Common.{rules};
+
+    ghost rank = { disjunct_cmp };
+
+    fn rank(&self, other: &Disjunct) -> Ordering {
+        self.compare(other)
+    }
+
+    ghost total = { Prim.search (comparing, rules) depth 12 };
+}
+
+impl Disjunct {
+    /// The order by word, then left list, then right list. Costs take no part.
+    pub fn compare(&self, other: &Disjunct) -> Ordering
+        ensures { result ≡ disjunct_cmp self.now other.now }
+    {
+        self.word
+            .bytes()
+            .cmp(other.word.bytes())
+            .then(rank_lists(self.left.items(), other.left.items()))
+            .then(rank_lists(self.right.items(), other.right.items()))
+    }
+}
+
+/// The disjuncts of a word, or of a position.
+#[derive(Clone, Debug, Drop)]
+pub struct Disjuncts {
+    items: Vec<Disjunct>,
+}
+
+impl Model for Disjuncts {
+    ghost use Rattle.std.specs.Prelude.{List};
+    ghost use Rattle.lg_gram.specs.declared.disjunct.Disjunct.{Disjunct as Seen};
+
+    ghost Value = { List Seen };
+
+    ghost view = { λ t. t.items.items };
+}
+
+impl Disjuncts {
+    /// The list of these disjuncts.
+    pub fn of(items: Vec<Disjunct>) -> Self
+        ensures { result ≡ items.items }
+    {
+        Disjuncts { items }
+    }
+
+    /// The disjuncts.
+    pub fn items(&self) -> &[Disjunct]
+        ensures { result.now ≡ self.now }
+    {
+        self.items.as_slice()
+    }
+
+    /// The disjuncts, as a vector.
+    pub fn into_items(self) -> Vec<Disjunct>
+        ensures { result.items ≡ self }
+    {
+        let Disjuncts { items } = self;
+        items
+    }
+
+    /// Whether the disjunct is one of the list.
+    pub fn contains(&self, disjunct: &Disjunct) -> bool
+        ensures { IsTrue result ↔ Contains self.now disjunct.now }
+    {
+        self.items.iter().any(|d| same_disjunct(d, disjunct))
+    }
+}
+
+fn same_disjunct(a: &Disjunct, b: &Disjunct) -> bool
+    ensures { IsTrue result ↔ (a.now ≡ b.now) }
+{
+    a == b
+}
+
+/// A list of positions, each a list of disjuncts.
+#[derive(Clone, Debug, Drop)]
+pub struct Positions {
+    items: Vec<Disjuncts>,
+}
+
+impl Model for Positions {
+    ghost use Rattle.std.specs.Prelude.{List};
+    ghost use Rattle.lg_gram.specs.declared.disjunct.Disjunct.{Disjunct as Seen};
+
+    ghost Value = { List (List Seen) };
+
+    ghost view = { λ t. t.items.items };
+}
+
+impl Positions {
+    /// The list of these positions.
+    pub fn of(items: Vec<Disjuncts>) -> Self
+        ensures { result ≡ items.items }
+    {
+        Positions { items }
+    }
+
+    /// The positions.
+    pub fn items(&self) -> &[Disjuncts]
+        ensures { result.now ≡ self.now }
+    {
+        self.items.as_slice()
+    }
+
+    /// The positions, as a vector.
+    pub fn into_items(self) -> Vec<Disjuncts>
+        ensures { result.items ≡ self }
+    {
+        let Positions { items } = self;
+        items
+    }
+}
+
+/// What each position uses: a disjunct, or none where the position is unlinked.
+#[derive(Clone, Debug, Drop)]
+pub struct Chosen {
+    items: Vec<Option<Disjunct>>,
+}
+
+impl Model for Chosen {
+    ghost use Rattle.std.specs.Prelude.{List, Option};
+    ghost use Rattle.lg_gram.specs.declared.disjunct.Disjunct.{Disjunct as Seen};
+
+    ghost Value = { List (Option Seen) };
+
+    ghost view = { λ t. t.items.items };
+}
+
+impl Chosen {
+    /// The list of these choices.
+    pub fn of(items: Vec<Option<Disjunct>>) -> Self
+        ensures { result ≡ items.items }
+    {
+        Chosen { items }
+    }
+
+    /// The choices.
+    pub fn items(&self) -> &[Option<Disjunct>]
+        ensures { result.now ≡ self.now }
+    {
+        self.items.as_slice()
+    }
+
+    /// The choices, as a vector.
+    pub fn into_items(self) -> Vec<Option<Disjunct>>
+        ensures { result.items ≡ self }
+    {
+        let Chosen { items } = self;
+        items
+    }
+}

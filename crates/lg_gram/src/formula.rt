@@ -1,0 +1,72 @@
+//! Formulas: what a dictionary gives each word.
+ghost use Rattle.std.specs.Prelude.{◌≡◌, MatchOption, IfOk};
+ghost use Rattle.lg_gram.specs.Trees.{tree_of};
+ghost use Rattle.lg_gram.specs.Formulas.{IsFormula};
+
+use crate::expr::{Expr, are_prices_small, choices, depth, longest_side, nodes};
+use lg_base::NoMemory;
+use std::alloc::Global;
+use std::marker::Model;
+
+// The limits of a formula.
+const NODES: u64 = 1_000_000;
+
+const CHOICES: u64 = 1_000_000;
+
+const SIDE: u32 = 255;
+
+const DEPTH: u32 = 602;
+
+/// An expression within the limits: at most 1,000,000 nodes, 1,000,000 choices and 255 connectors on a side, no leaf
+/// more than 602 steps below the root, and no bracket's cost more than 10,000,000 thousandths from zero.
+#[derive(Debug, Drop)]
+pub struct Formula {
+    expr: Expr,
+}
+
+impl Model for Formula {
+    ghost use Rattle.lg_gram.specs.declared.expr.Expr.{Expr as Seen};
+    ghost use Rattle.lg_gram.specs.Trees.{tree_of};
+    ghost use Rattle.lg_gram.specs.Formulas.{IsFormula};
+
+    ghost Value = { Seen };
+
+    ghost use Rattle.lg_gram.specs.contracts.expr.Expr as e;
+    ghost use Rattle.std.specs.Coded.{codes};
+
+    ghost coded = { Prim.hlevel (codes, e.the_row.coded) };
+
+    ghost view = { λ f. f.expr };
+
+    ghost invariant = { λ f. IsFormula (tree_of f.expr) };
+}
+
+impl Formula {
+    /// The formula of an expression. None where the expression passes a limit.
+    pub fn of(expr: Expr) -> Option<Formula>
+        ensures { MatchOption result (IsFormula (tree_of expr) → ⊥) (λ f. (f ≡ expr) × IsFormula (tree_of expr)) }
+    {
+        let fits = nodes(&expr) <= NODES
+            && choices(&expr) <= CHOICES
+            && longest_side(&expr) <= SIDE
+            && depth(&expr) <= DEPTH
+            && are_prices_small(&expr);
+        if fits { Some(Formula { expr }) } else { None }
+    }
+
+    /// The expression.
+    pub fn expr(&self) -> &Expr
+        ensures value { result.now ≡ self.now }
+        ensures limits { IsFormula (tree_of self.now) }
+    {
+        &self.expr
+    }
+
+    /// A copy: a formula of the same tree.
+    pub fn copied(&self, alloc: Global) -> Result<Formula, NoMemory>
+        ensures { IfOk result (λ copy. tree_of copy ≡ tree_of self.now) }
+    {
+        let expr = self.expr.copied(alloc)?;
+        Ok(Formula { expr })
+    }
+}

@@ -1,0 +1,144 @@
+//! Names of connectors and labels of links.
+ghost use Rattle.std.specs.Prelude.{◌≡◌, ◌+◌, ◌-◌, ◌≤◌, ◌++◌, length, replicate, Some, None, if◌then◌else◌};
+ghost use Rattle.std.specs.List.{list_all};
+ghost use Rattle.std.specs.Cmp.{partial_equiv_from_equiv};
+ghost use Rattle.std.specs.Cmp.Rules.{comparing};
+ghost use Rattle.std.proofs.Common.{rules};
+ghost use Rattle.lg_gram.specs.Names.{is_capital, is_subscript, is_written, trimmed, IsName};
+ghost use Rattle.lg_gram.specs.Connectors.{name_eq};
+
+use std::marker::Model;
+
+/// The most letters of a name, capitals and subscripts together.
+pub const LETTERS: usize = 16;
+
+/// One or more capital letters, and then subscripts, which are small letters and stars: the name of a connector, and
+/// the label of a link. It has at most 16 letters and no star at the end.
+///
+/// Contracts see `{ caps, subs }`.
+#[derive(Clone, Copy, Debug)]
+pub struct Label {
+    letters: [u8; LETTERS],
+    caps_len: usize,
+    len: usize,
+}
+
+impl Model for Label {
+    ghost use Rattle.lg_gram.specs.Names.{Name};
+
+    ghost Value = { Name };
+
+    ghost use Rattle.lg_gram.specs.Stored.{named, IsStored, stored, stored_named};
+
+    ghost view = { named };
+
+    ghost invariant = { IsStored };
+
+    ghost inverse = { stored };
+
+    ghost inverse_ok = { stored_named };
+}
+
+impl PartialEq for Label {
+    ghost eq = { name_eq };
+
+    ghost laws = { partial_equiv_from_equiv (Prim.search (comparing, rules) depth 9) };
+
+    fn eq(&self, other: &Label) -> bool {
+        self.caps() == other.caps() && self.subs() == other.subs()
+    }
+}
+
+impl Eq for Label {
+    ghost laws = { Prim.search (comparing, rules) depth 9 };
+}
+
+impl Label {
+    /// The name that is written so, without the stars at its end. None where a byte is not allowed, there is no capital
+    /// letter, or there are more than 16 letters.
+    pub fn of(caps: &[u8], subs: &[u8]) -> Option<Label>
+        ensures { result ≡ (if is_written caps.now subs.now then Some (record { caps = caps.now; subs = trimmed subs.now }) else None) }
+    {
+        if !can_be_name(caps, subs) {
+            return None;
+        }
+        let kept = without_stars(subs);
+        Some(Label {
+            letters: packed(caps, kept),
+            caps_len: caps.len(),
+            len: caps.len() + kept.len(),
+        })
+    }
+
+    /// The capital letters.
+    pub fn caps(&self) -> &[u8]
+        ensures value { result.now ≡ self.now.caps }
+        ensures named { IsName self.now }
+    {
+        &self.letters[..self.caps_len]
+    }
+
+    /// The subscripts.
+    pub fn subs(&self) -> &[u8]
+        ensures value { result.now ≡ self.now.subs }
+        ensures named { IsName self.now }
+    {
+        &self.letters[self.caps_len..self.len]
+    }
+
+    /// All letters.
+    #[tactic(auto, using(crate::proofs::Letters::stored_text))]
+    pub fn letters(&self) -> &[u8]
+        ensures value { result.now ≡ self.now.caps ++ self.now.subs }
+        ensures named { IsName self.now }
+    {
+        &self.letters[..self.len]
+    }
+}
+
+fn can_be_name(caps: &[u8], subs: &[u8]) -> bool
+    ensures { result ≡ is_written caps.now subs.now }
+{
+    !caps.is_empty()
+        && caps.len() <= LETTERS
+        && subs.len() <= LETTERS - caps.len()
+        && are_capitals(caps)
+        && are_subscripts(subs)
+}
+
+fn are_capitals(bytes: &[u8]) -> bool
+    ensures { result ≡ list_all is_capital bytes.now }
+{
+    bytes.iter().all(|b| *b >= b'A' && *b <= b'Z')
+}
+
+fn are_subscripts(bytes: &[u8]) -> bool
+    ensures { result ≡ list_all is_subscript bytes.now }
+{
+    bytes
+        .iter()
+        .all(|b| (*b >= b'a' && *b <= b'z') || *b == b'*')
+}
+
+/// The subscripts without the stars at their end.
+pub(crate) fn without_stars(subs: &[u8]) -> &[u8]
+    ensures value { result.now ≡ trimmed subs.now }
+    ensures short { trimmed result.now ≡ result.now }
+{
+    let mut n = subs.len();
+    while n > 0 && subs[n - 1] == b'*' {
+        n -= 1;
+    }
+    &subs[..n]
+}
+
+// The letters one after another, and zeros behind them.
+fn packed(caps: &[u8], subs: &[u8]) -> [u8; LETTERS]
+    requires { length caps.now + length subs.now ≤ 16 }
+    ensures { result ≡ caps.now ++ subs.now ++ replicate (16 - (length caps.now + length subs.now)) 0 }
+{
+    let mut letters = [0; LETTERS];
+    letters[..caps.len()].copy_from_slice(caps);
+    letters[caps.len()..caps.len() + subs.len()].copy_from_slice(subs);
+    letters
+}

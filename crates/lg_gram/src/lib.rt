@@ -1,0 +1,20 @@
+//! The grammar's own values: connectors, formulas, disjuncts, problems and linkages, with their measures and orders.
+#![tactic(auto)]
+
+pub mod connector;
+pub mod disjunct;
+pub mod expr;
+pub mod formula;
+pub mod label;
+pub mod law;
+pub mod linkage;
+pub mod order;
+pub mod problem;
+
+pub use connector::{Connector, Connectors, link_label, matches};
+pub use disjunct::{Chosen, Disjunct, Disjuncts, Positions};
+pub use expr::{Expr, Exprs, choices, longest_side, nodes};
+pub use formula::Formula;
+pub use label::Label;
+pub use linkage::{Link, Linkage, Links};
+pub use problem::Problem;
