@@ -11,3 +11,4 @@ pub mod Linkages
 pub mod Walks
 pub mod Rules
 pub mod Levels
+pub mod RawTrees

@@ -3,6 +3,7 @@
 
 pub mod connector;
 pub mod disjunct;
+pub mod entry;
 pub mod expr;
 pub mod formula;
 pub mod label;
@@ -13,6 +14,7 @@ pub mod problem;
 
 pub use connector::{Connector, Connectors, link_label, matches};
 pub use disjunct::{Chosen, Disjunct, Disjuncts, Positions};
+pub use entry::{Entry, Item, ItemKind, Items, RawEntry, RawExpr, RawExprs};
 pub use expr::{Expr, Exprs, choices, longest_side, nodes};
 pub use formula::Formula;
 pub use label::Label;

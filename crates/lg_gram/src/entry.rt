@@ -1,0 +1,131 @@
+//! Entries of a dictionary: as they are written, with macros still named, and as they are read, with macros put in.
+ghost use Rattle.std.specs.Prelude.{◌≡◌};
+ghost use Rattle.lg_gram.specs.RawTrees.{raw_items};
+
+use crate::connector::Connector;
+use crate::formula::Formula;
+use lg_base::{Cost, Text, Texts};
+use std::marker::Model;
+
+/// An entry that is read: its words and macros, the formula of all of them, the greatest number of brackets open at
+/// once (a macro counting as one bracket round its own), and the line of its first token, from 1.
+#[derive(Debug, Drop)]
+pub struct Entry {
+    pub words: Texts,
+    pub macros: Texts,
+    pub formula: Formula,
+    pub level: u32,
+    pub line: u32,
+}
+
+/// What an entry's item names: a word, a macro with its angle brackets, or a word file without its leading slash.
+#[derive(Clone, Copy, Debug, PartialEq, Eq)]
+pub enum ItemKind {
+    Word,
+    Macro,
+    File,
+}
+
+/// What an entry defines.
+#[derive(Clone, Debug, Drop, PartialEq, Eq)]
+pub struct Item {
+    pub kind: ItemKind,
+    pub text: Text,
+}
+
+/// A list of items.
+#[derive(Clone, Debug, Drop)]
+pub struct Items {
+    items: Vec<Item>,
+}
+
+impl Model for Items {
+    ghost use Rattle.std.specs.Prelude.{List};
+    ghost use Rattle.lg_gram.specs.declared.entry.Item.{Item as Seen};
+
+    ghost Value = { List Seen };
+
+    ghost view = { λ t. t.items.items };
+}
+
+impl Items {
+    /// The list of these items.
+    pub fn of(items: Vec<Item>) -> Self
+        ensures { result ≡ items.items }
+    {
+        Items { items }
+    }
+
+    /// The items.
+    pub fn items(&self) -> &[Item]
+        ensures { result.now ≡ self.now }
+    {
+        self.items.as_slice()
+    }
+
+    /// The items, as a vector.
+    pub fn into_items(self) -> Vec<Item>
+        ensures { result.items ≡ self }
+    {
+        let Items { items } = self;
+        items
+    }
+}
+
+/// An expression as it is written, in which macros are named.
+#[cycle(raw)]
+#[derive(Debug, Drop)]
+pub enum RawExpr {
+    /// `()`
+    Empty,
+    Conn(Connector),
+    /// A macro's name with its angle brackets, and the number of brackets open there.
+    Named(Text, u32),
+    /// Members joined by `&`.
+    And(RawExprs),
+    /// Members joined by `or`.
+    Or(RawExprs),
+    /// An expression in square brackets, with their cost.
+    Priced(Box<RawExpr>, Cost),
+}
+
+/// A list of expressions as they are written.
+#[cycle(raw)]
+#[derive(Debug, Drop)]
+pub struct RawExprs {
+    items: Vec<RawExpr>,
+}
+
+impl RawExprs {
+    /// The list of these expressions.
+    pub fn of(items: Vec<RawExpr>) -> RawExprs
+        ensures { raw_items result ≡ items.items }
+    {
+        RawExprs { items }
+    }
+
+    /// The expressions.
+    pub fn items(&self) -> &[RawExpr]
+        ensures { result.now ≡ raw_items self.now }
+    {
+        self.items.as_slice()
+    }
+
+    /// The expressions, as a vector.
+    pub fn into_items(self) -> Vec<RawExpr>
+        ensures { result.items ≡ raw_items self }
+    {
+        let RawExprs { items } = self;
+        items
+    }
+}
+
+/// An entry as it is written: its items, its expression, the greatest number of brackets open at once, and the line of
+/// its first token, from 1.
+#[derive(Debug, Drop)]
+pub struct RawEntry {
+    pub items: Items,
+    pub expr: RawExpr,
+    pub level: u32,
+    pub line: u32,
+}
