@@ -9,6 +9,7 @@ pub mod formula;
 pub mod label;
 pub mod law;
 pub mod linkage;
+pub mod listing;
 pub mod order;
 pub mod problem;
 
@@ -19,4 +20,5 @@ pub use expr::{Expr, Exprs, choices, longest_side, nodes};
 pub use formula::Formula;
 pub use label::Label;
 pub use linkage::{Link, Linkage, Links};
+pub use listing::{Bound, Page, PageItem, PageItems, Stats, Token, Tokens, Violation};
 pub use problem::Problem;
