@@ -2,9 +2,17 @@
 #![tactic(auto)]
 
 pub mod cost;
+pub mod files;
+pub mod mem_files;
+pub mod mem_sink;
 pub mod memory;
+pub mod sinks;
 pub mod text;
 
 pub use cost::Cost;
+pub use files::{FileError, Files};
+pub use mem_files::MemFiles;
+pub use mem_sink::MemSink;
 pub use memory::NoMemory;
+pub use sinks::{Sink, SinkFault};
 pub use text::{Codes, Numbers, Text, Texts};
