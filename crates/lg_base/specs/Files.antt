@@ -5,6 +5,8 @@ use Rattle.std.specs.declared.option.Option.TheVariants.{Some}
 use Rattle.std.specs.declared.result.Result.{Result}
 use Rattle.std.specs.declared.result.Result.TheVariants.{Ok, Err}
 use Rattle.std.specs.declared.vec.Vec.{Vec}
+use Rattle.std.specs.declared.io.ErrorKind.{ErrorKind}
+use Rattle.std.specs.declared.io.ErrorKind.TheVariants.{OutOfMemory}
 use Rattle.lg_base.specs.declared.files.FileError.{FileError}
 use Rattle.lg_base.specs.declared.files.FileError.TheVariants.{NoMemory, Failed, TooLong}
 use Rattle.lg_base.specs.Faults.{Rose}
@@ -27,3 +29,8 @@ Reads found limit (Err TooLong) = IsSomeAnd found (λ bytes. limit < length byte
 pub record HasReadCause {T : Type 0} (before now : ℕ) (result : Result T FileError) : Type 0 where
   pub later : before ≤ now
   pub failed : IsErrOf result Failed → Rose before now
+
+-- why a file is not read where the system gives an error of this kind
+abbrev pub fault_of : ErrorKind → FileError
+fault_of OutOfMemory = NoMemory
+fault_of _ = Failed

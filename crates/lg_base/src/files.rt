@@ -2,11 +2,13 @@
 ghost use Rattle.std.specs.Prelude.{◌≡◌, ◌≤◌, ℕ, List, IfOk, IfSome, vec_len};
 ghost use Rattle.std.specs.declared.option.Option.{Option};
 ghost use Rattle.lg_base.specs.Contents.{Contents, file};
-ghost use Rattle.lg_base.specs.Files.{asked_after, Reads, HasReadCause};
+ghost use Rattle.lg_base.specs.Files.{asked_after, Reads, HasReadCause, fault_of};
+ghost use Rattle.std.specs.IoError.{error_kind};
 ghost use Rattle.lg_base.specs.declared.files.FileError.TheVariants.{NoMemory as out_of_memory};
 
 use crate::memory::NoMemory;
 use std::alloc::{AllocError, AllocFailed, Global};
+use std::io;
 use thiserror::Error;
 
 /// Why a file was not read.
@@ -44,6 +46,18 @@ impl<T: Drop> From<AllocFailed<T>> for FileError {
 
     fn from(_error: AllocFailed<T>) -> FileError {
         FileError::NoMemory
+    }
+}
+
+impl From<io::Error> for FileError {
+    ghost from_gives = { λ cause error. error ≡ fault_of (error_kind cause) };
+
+    fn from(cause: io::Error) -> FileError {
+        if cause.kind() == io::ErrorKind::OutOfMemory {
+            FileError::NoMemory
+        } else {
+            FileError::Failed
+        }
     }
 }
 

@@ -4,12 +4,19 @@ ghost use Rattle.std.specs.declared.option.Option.{Option};
 ghost use Rattle.std.specs.Io.KnownBytes.{Appends};
 ghost use Rattle.lg_base.specs.Sinks.{AppendsFront, HasWriteCause};
 
+use std::io;
 use thiserror::Error;
 
 /// A write failed: the count of faults rose.
 #[derive(Clone, Copy, Debug, PartialEq, Eq, Error)]
 #[error("the bytes cannot be written")]
 pub struct SinkFault;
+
+impl From<io::Error> for SinkFault {
+    fn from(_cause: io::Error) -> SinkFault {
+        SinkFault
+    }
+}
 
 /// A place that bytes are written to.
 ///
