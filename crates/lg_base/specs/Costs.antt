@@ -54,3 +54,11 @@ IsCostNumber bytes (negsuc _) = ⊥
 abbrev pub ReadsCost : List ℕ → Option ℤ → Type 0
 ReadsCost bytes (Some cost) = IsCostNumber bytes cost
 ReadsCost bytes None = (cost : ℤ) → ¬ IsCostNumber bytes cost
+
+-- reading a printed cost that is not negative and at most 10000.000 gives it back
+abbrev pub IsReadBack : Type 0
+IsReadBack = (value : ℕ) → value ≤ 10 ^ 7 → (answer : Option ℤ) → ReadsCost (cost_text (pos value)) answer → answer ≡ Some (pos value)
+
+-- the same bytes are a cost number for one cost alone
+abbrev pub HasOneCost : Type 0
+HasOneCost = (bytes : List ℕ) (cost other : ℤ) → IsCostNumber bytes cost → IsCostNumber bytes other → cost ≡ other

@@ -2,7 +2,7 @@
 ghost use Rattle.std.specs.Prelude.{◌≡◌, ◌+ℤ◌, ◌++◌, ◌^◌, ◌<◌, ◌≤◌, ◌==◌, OnOk, OnErr, IfOk, IfSome, string_bytes, unsigned_abs, position, length};
 ghost use Rattle.std.specs.Option.{SomeIff};
 ghost use Rattle.std.specs.Str.Parse.{digits_value};
-ghost use Rattle.lg_base.specs.Costs.{IsWithinCosts, cost_text, sign_of, AreDigits, part_value, ReadsForm, ReadsCost};
+ghost use Rattle.lg_base.specs.Costs.{IsWithinCosts, cost_text, sign_of, AreDigits, part_value, ReadsForm, ReadsCost, IsReadBack, HasOneCost};
 
 use crate::memory::NoMemory;
 use crate::printing::write_bytes;
@@ -108,6 +108,12 @@ pub fn parse_cost(bytes: &[u8]) -> Option<Cost>
     }
     Some(Cost::of(i64::from(value)))
 }
+
+/// What holds of cost numbers: a printed one is read back, and the same bytes are never two of them.
+pub fn cost_number_laws()
+    ensures read_back { IsReadBack }
+    ensures once { HasOneCost }
+{}
 
 fn parse_form(bytes: &[u8]) -> Option<u32>
     ensures { ReadsForm bytes.now result }

@@ -215,3 +215,86 @@ impl<'a, R: Streams> WriterSink<HostStream<'a, R>> {
         }
     }
 }
+
+#[cfg(test)]
+mod tests {
+    use super::*;
+    use std::collections::VecDeque;
+    use std::test::Fail;
+
+    #[derive(Clone, Copy, PartialEq, Eq)]
+    enum Device {
+        Slow,
+        Stuck,
+        Broken,
+    }
+
+    // A byte a call, and at last no more.
+    #[derive(Drop)]
+    struct Fake {
+        held: VecDeque<u8>,
+        then: Device,
+    }
+
+    impl Read for Fake {
+        fn read(&mut self, buf: &mut [u8]) -> io::Result<usize> {
+            if self.held.is_empty() && self.then == Device::Broken {
+                return Err(io::Error::from(io::ErrorKind::BrokenPipe));
+            }
+            let count = buf.len().min(1);
+            self.held.read(&mut buf[..count])
+        }
+    }
+
+    impl Write for Fake {
+        fn write(&mut self, buf: &[u8]) -> io::Result<usize> {
+            if self.held.len() >= 3 {
+                match self.then {
+                    Device::Slow => {}
+                    Device::Stuck => return Ok(0),
+                    Device::Broken => return Err(io::Error::from(io::ErrorKind::BrokenPipe)),
+                }
+            }
+            let count = buf.len().min(1);
+            self.held.write(&buf[..count])
+        }
+
+        fn flush(&mut self) -> io::Result<()> {
+            Ok(())
+        }
+    }
+
+    #[test]
+    fn reads(rt: HostRuntime) -> Result<(), Fail> {
+        let alloc = rt.alloc();
+        for (then, limit, want) in [
+            (Device::Slow, 3, None),
+            (Device::Slow, 2, Some(FileError::TooLong)),
+            (Device::Broken, 4, Some(FileError::Failed)),
+        ] {
+            let mut held = VecDeque::new(alloc);
+            held.write_all(b"abc")?;
+            let mut source = Fake { held, then };
+            assert_eq!(rt; read_limited(alloc, &mut source, limit).err(), want);
+        }
+        Ok(())
+    }
+
+    #[test]
+    fn writes(rt: HostRuntime) -> Result<(), Fail> {
+        let alloc = rt.alloc();
+        for (then, want, count) in [
+            (Device::Slow, Ok(()), 5),
+            (Device::Stuck, Err(SinkFault), 3),
+            (Device::Broken, Err(SinkFault), 3),
+        ] {
+            let held = VecDeque::new(alloc);
+            let writer = Fake { held, then };
+            let mut sink = WriterSink { writer, faults: 0 };
+            assert_eq!(rt; sink.put(b"abcde"), want);
+            assert_eq!(rt; sink.writer.held.len(), count);
+            assert_eq!(rt; sink.faults, if want.is_ok() { 0 } else { 1 });
+        }
+        Ok(())
+    }
+}

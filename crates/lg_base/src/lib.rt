@@ -10,9 +10,11 @@ pub mod memory;
 pub mod printing;
 pub mod sinks;
 pub mod steps;
+#[cfg(test)]
+mod tests;
 pub mod text;
 
-pub use cost::{Cost, parse_cost, write_cost};
+pub use cost::{Cost, cost_number_laws, parse_cost, write_cost};
 pub use files::{FileError, Files};
 pub use host::{HostFiles, HostSink};
 pub use mem_files::MemFiles;
