@@ -42,8 +42,12 @@ const CHUNK: usize = 4096;
 fn read_limited<S: Read>(alloc: Global, source: &mut S, limit: u64) -> Result<Vec<u8>, FileError>
     ensures whole { IfOk result (λ bytes. IfSome (S.remaining source.old) (λ known. bytes.items ≡ known)) }
     ensures limited { IfOk result (λ bytes. vec_len bytes ≤ limit) }
-    ensures too_long { IsErrOf result FileError.TooLong → IfSome (S.remaining source.old) (λ known. limit < length known) }
-    ensures stops { IsErrOf result FileError.TooLong → Loses (S.remaining source.old) (S.remaining source.new) (limit + 1) }
+    ensures too_long { IsErrOf result FileError.TooLong →
+        IfSome (S.remaining source.old) (λ known. limit < length known) }
+
+    // it stops one byte past the limit
+    ensures stops { IsErrOf result FileError.TooLong →
+        Loses (S.remaining source.old) (S.remaining source.new) (limit + 1) }
 {
     let mut bytes = Vec::new(alloc);
     let mut chunk = [0u8; CHUNK];
