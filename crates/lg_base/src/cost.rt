@@ -79,6 +79,7 @@ pub fn write_cost(alloc: Global, out: &mut Vec<u8>, cost: Cost) -> Result<(), No
     write_bytes(out, text.as_bytes())
 }
 
+// The printed cost.
 fn printed(alloc: Global, cost: Cost) -> Result<String, NoMemory>
     ensures { IfOk result (λ text. string_bytes text ≡ cost_text cost) }
 {
@@ -115,6 +116,7 @@ pub fn cost_number_laws()
     ensures once { HasOneCost }
 {}
 
+// The thousandths that the bytes stand for in one of the three forms, which the place of the point tells apart.
 fn parse_form(bytes: &[u8]) -> Option<u32>
     ensures { ReadsForm bytes.now result }
 {

@@ -1,9 +1,10 @@
 //! The files and standard streams of the process. They tell no content.
-ghost use Rattle.std.specs.Prelude.{None, ◌≡◌, ◌≤◌, ◌<◌, [], OnOk, OnErr, IfOk, IfSome, IsOk, IsErrOf, is_err, vec_len, length, map, string_bytes, if◌then◌else◌};
+ghost use Rattle.std.specs.Prelude.{None, ◌≡◌, ◌+◌, ◌≤◌, ◌<◌, [], OnOk, OnErr, IfOk, IfSome, IsOk, IsErrOf, is_err, vec_len, length, map, string_bytes, if◌then◌else◌};
 ghost use Rattle.std.specs.Io.{WritesAtMost};
 ghost use Rattle.std.specs.Io.KnownBytes.{Appends};
 ghost use Rattle.lg_base.specs.Faults.{raised};
 ghost use Rattle.lg_base.specs.Files.{fault_of};
+ghost use Rattle.lg_base.specs.Reading.{Loses};
 ghost use Rattle.lg_base.specs.Sinks.{AppendsFront, HasWriteCause};
 
 use crate::files::{FileError, Files};
@@ -37,12 +38,16 @@ impl<'a, R: rt::Files> HostFiles<'a, R> {
 // The most bytes that a turn reads.
 const CHUNK: usize = 4096;
 
-// All bytes that a reader has left, or that there are more than `limit`. Each turn takes at least one byte, and one more
-// than `limit` is never passed.
+// All bytes that a reader has left, or that there are more than `limit`. Each turn takes at least one byte.
 fn read_limited<S: Read>(alloc: Global, source: &mut S, limit: u64) -> Result<Vec<u8>, FileError>
     ensures whole { IfOk result (λ bytes. IfSome (S.remaining source.old) (λ known. bytes.items ≡ known)) }
     ensures limited { IfOk result (λ bytes. vec_len bytes ≤ limit) }
-    ensures too_long { IsErrOf result FileError.TooLong → IfSome (S.remaining source.old) (λ known. limit < length known) }
+    ensures too_long { IsErrOf result FileError.TooLong →
+        IfSome (S.remaining source.old) (λ known. limit < length known) }
+
+    // it stops one byte past the limit
+    ensures stops { IsErrOf result FileError.TooLong →
+        Loses (S.remaining source.old) (S.remaining source.new) (limit + 1) }
 {
     let mut bytes = Vec::new(alloc);
     let mut chunk = [0u8; CHUNK];
@@ -107,11 +112,11 @@ fn write_whole<W: Write>(writer: &mut W, bytes: &[u8]) -> Result<(), SinkFault>
 {
     let mut done = 0;
     while done < bytes.len() {
-        let count = writer.write(&bytes[done..])?;
-        if count == 0 {
+        let taken = writer.write(&bytes[done..])?;
+        if taken == 0 {
             return Err(SinkFault);
         }
-        done += count;
+        done += taken;
     }
     Ok(())
 }
@@ -195,7 +200,8 @@ pub type HostSink<'a, R> = WriterSink<HostStream<'a, R>>;
 impl<'a, R: Streams> WriterSink<HostStream<'a, R>> {
     /// Standard output.
     pub fn output(rt: &'a R) -> HostSink<'a, R>
-        ensures { result.faults ≡ 0 }
+        ensures stream { result.writer.stream ≡ Stream.Output }
+        ensures faults { result.faults ≡ 0 }
     {
         let stream = Stream::Output;
         WriterSink {
@@ -206,7 +212,8 @@ impl<'a, R: Streams> WriterSink<HostStream<'a, R>> {
 
     /// Standard error.
     pub fn errors(rt: &'a R) -> HostSink<'a, R>
-        ensures { result.faults ≡ 0 }
+        ensures stream { result.writer.stream ≡ Stream.Errors }
+        ensures faults { result.faults ≡ 0 }
     {
         let stream = Stream::Errors;
         WriterSink {

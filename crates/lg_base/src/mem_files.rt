@@ -53,7 +53,9 @@ impl MemFiles {
 
     /// Adds a file, or gives the name new bytes.
     pub fn add(&mut self, name: &str, bytes: &[u8]) -> Result<(), NoMemory>
-        ensures ok { OnOk result (self.new ≡ record self.old { contents = finite.insert self.old.contents name.now bytes.now }) }
+        ensures ok { OnOk result (self.new ≡ record self.old {
+          contents = finite.insert self.old.contents name.now bytes.now;
+        }) }
         ensures err { OnErr result (self.new ≡ self.old) }
     {
         let alloc = *self.entries.allocator();

@@ -46,7 +46,13 @@ const LAST_CALL: u128 = 1 << 64;
 impl MemSink {
     /// An empty sink with room for `room` bytes, for which it takes the memory now.
     pub fn new(alloc: Global, room: u32) -> Result<MemSink, NoMemory>
-        ensures { IfOk result (λ sink. sink ≡ record { bytes = []; left = room; calls = 0; faults = 0; failing = [] }) }
+        ensures { IfOk result (λ sink. sink ≡ record {
+          bytes = [];
+          left = room;
+          calls = 0;
+          faults = 0;
+          failing = [];
+        }) }
     {
         let bytes = Vec::with_capacity(alloc, room as usize)?;
         Ok(MemSink {
