@@ -8,3 +8,4 @@ pub mod Same
 pub mod Counted
 pub mod Exact
 pub mod Merged
+pub mod Pairs

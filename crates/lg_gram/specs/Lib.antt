@@ -12,3 +12,4 @@ pub mod Walks
 pub mod Rules
 pub mod Levels
 pub mod RawTrees
+pub mod Pairs
