@@ -9,3 +9,4 @@ pub mod Counted
 pub mod Exact
 pub mod Merged
 pub mod Pairs
+pub mod Ground

@@ -13,3 +13,4 @@ pub mod Rules
 pub mod Levels
 pub mod RawTrees
 pub mod Pairs
+pub mod Ground
