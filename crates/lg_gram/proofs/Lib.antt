@@ -10,3 +10,4 @@ pub mod Exact
 pub mod Merged
 pub mod Pairs
 pub mod Ground
+pub mod Filled

@@ -14,3 +14,4 @@ pub mod Levels
 pub mod RawTrees
 pub mod Pairs
 pub mod Ground
+pub mod Filled
