@@ -12,3 +12,6 @@ pub mod Walks
 pub mod Rules
 pub mod Levels
 pub mod RawTrees
+pub mod Pairs
+pub mod Ground
+pub mod Filled

@@ -1,11 +1,14 @@
 //! Entries of a dictionary: as they are written, with macros still named, and as they are read, with macros put in.
-ghost use Rattle.std.specs.Prelude.{◌≡◌};
-ghost use Rattle.lg_gram.specs.RawTrees.{raw_items};
+ghost use Rattle.std.specs.Prelude.{◌≡◌, ◌+◌, Some, length, map, slice_get};
+ghost use Rattle.std.specs.Option.{option_copied};
+ghost use Rattle.std.specs.ControlFlow.{MatchControlFlow};
+ghost use Rattle.lg_gram.specs.RawTrees.{raw_items, raw_tree_of, raw_trees_in, macros_of, macros_in};
 
 use crate::connector::Connector;
 use crate::formula::Formula;
 use lg_base::{Cost, Text, Texts};
 use std::marker::Model;
+use std::ops::ControlFlow;
 
 /// An entry that is read: its words and macros, the formula of all of them, the greatest number of brackets open at
 /// once (a macro counting as one bracket round its own), and the line of its first token, from 1.
@@ -128,4 +131,47 @@ pub struct RawEntry {
     pub expr: RawExpr,
     pub level: u32,
     pub line: u32,
+}
+
+impl RawEntry {
+    /// The name of the macro reference of that number, in reading order from 0. None past the last reference.
+    pub fn macro_name(&self, index: u32) -> Option<&Text>
+        ensures { option_copied result ≡ slice_get (map (λ m. m.0) (macros_of (raw_tree_of self.now.expr))) index }
+    {
+        reference(&self.expr, index).break_value()
+    }
+}
+
+// The name of the reference of that number, or else the number less the references that there are.
+#[cycle(reference)]
+fn reference(e: &RawExpr, index: u32) -> ControlFlow<&Text, u32>
+    ensures { let references = macros_of (raw_tree_of e.now) in
+        MatchControlFlow result (λ left. left + length references ≡ index) (λ name. slice_get (map (λ m. m.0) references) index ≡ Some name.now) }
+{
+    match e {
+        RawExpr::Empty => ControlFlow::Continue(index),
+        RawExpr::Conn(_) => ControlFlow::Continue(index),
+        RawExpr::Named(name, _) => {
+            if index == 0 {
+                ControlFlow::Break(name)
+            } else {
+                ControlFlow::Continue(index - 1)
+            }
+        }
+        RawExpr::And(members) => reference_among(members, index),
+        RawExpr::Or(members) => reference_among(members, index),
+        RawExpr::Priced(inner, _) => reference(inner, index),
+    }
+}
+
+#[cycle(reference)]
+fn reference_among(members: &RawExprs, index: u32) -> ControlFlow<&Text, u32>
+    ensures { let references = macros_in (raw_trees_in (raw_items members.now)) in
+        MatchControlFlow result (λ left. left + length references ≡ index) (λ name. slice_get (map (λ m. m.0) references) index ≡ Some name.now) }
+{
+    let mut left = index;
+    for member in members.items() {
+        left = reference(member, left)?;
+    }
+    ControlFlow::Continue(left)
 }

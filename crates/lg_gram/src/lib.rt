@@ -10,6 +10,7 @@ pub mod label;
 pub mod law;
 pub mod linkage;
 pub mod listing;
+pub mod macros;
 pub mod order;
 pub mod problem;
 
@@ -21,4 +22,5 @@ pub use formula::Formula;
 pub use label::Label;
 pub use linkage::{Link, Linkage, Links};
 pub use listing::{Bound, Page, PageItem, PageItems, Stats, Token, Tokens, Violation};
+pub use macros::Macros;
 pub use problem::Problem;
