@@ -9,3 +9,6 @@ mod verdict;
 pub use checker::check;
 pub use membership::belongs;
 pub use verdict::Verdict;
+
+#[cfg(test)]
+mod tests;
