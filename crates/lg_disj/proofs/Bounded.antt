@@ -5,7 +5,7 @@ use Rattle.std.specs.Prelude.{if◌then◌else◌}
 use Rattle.std.specs.Bool.{beq}
 use Rattle.std.specs.List.{All}
 use Rattle.std.proofs.lemmas.Int.{ints}
-use Rattle.std.proofs.lemmas.Bool.{false≢true}
+use Rattle.std.proofs.lemmas.Bool.{and_parts}
 use Rattle.std.proofs.lemmas.Bool.Decides.{nat_tests}
 use Rattle.std.proofs.lemmas.List.Elements.{All-nil, All-cons, All-append, All-map, All-head, All-tail, All-weaker}
 use Rattle.lg_base.specs.Costs.{IsWithinCosts}
@@ -72,17 +72,12 @@ side_bounded : (right : Bool) (c : Connector) → IsBounded 1 (if beq right fals
 side_bounded true c = record { low = omega (arith, ints); high = omega (arith, ints); left = omega arith; right = omega arith }
 side_bounded false c = record { low = omega (arith, ints); high = omega (arith, ints); left = omega arith; right = omega arith }
 
--- both of two tests
-pub both_small : (a b : Bool) → (a && b) ≡ true → (a ≡ true) × (b ≡ true)
-both_small true b h = (refl, h)
-both_small false b h = absurd (false≢true h)
-
 is_true : {b : Bool} → b ≡ true → T b
 is_true {b} h = subst T (sym h) tt
 
 small_parts : (price : ℤ) → is_small_price price ≡ true → (neg_ℤ (pos PRICE) ≤ℤ price) × (price ≤ℤ pos PRICE)
 small_parts price h =
-    let parts = both_small (int_le (neg_ℤ (pos PRICE)) price) (int_le price (pos PRICE)) h in
+    let parts = and_parts (int_le (neg_ℤ (pos PRICE)) price) (int_le price (pos PRICE)) h in
     let low : int_le (neg_ℤ (pos PRICE)) price ≡ true = parts.0 in
     let high : int_le price (pos PRICE) ≡ true = parts.1 in
     (record { le = is_true low }, record { le = is_true high })
@@ -114,7 +109,7 @@ mutual
       All-weaker (IsBounded (nodes_in ts) (longest_in false ts) (longest_in true ts)) (IsBounded (1 + nodes_in ts) (longest_in false ts) (longest_in true ts))
       (λ c h. wider (nodes_in ts) (1 + nodes_in ts) _ _ _ _ c (omega arith) (omega arith) (omega arith) h) (choices_of_any ts) (any_bounded ts small)
   bounded (priced t price) small =
-      let parts = both_small (is_small_price price) (prices_are_small t) small in
+      let parts = and_parts (is_small_price price) (prices_are_small t) small in
       let P : Choice → Type 0 = IsBounded (1 + node_count t) (side_count false t) (side_count true t) in
       All-map P (dearer price) (choices_of t)
       (All-weaker (IsBounded (node_count t) (side_count false t) (side_count true t)) (λ c. P (dearer price c))
@@ -123,14 +118,14 @@ mutual
   pub picks_bounded : (ts : Trees) → prices_in_are_small ts ≡ true → All (IsBounded (nodes_in ts) (side_in false ts) (side_in true ts)) (picks_of ts)
   picks_bounded no_trees small = All-cons (IsBounded 0 0 0) no_connectors [] no_connectors_bounded (All-nil (IsBounded 0 0 0))
   picks_bounded (tree t ts) small =
-      let parts = both_small (prices_are_small t) (prices_in_are_small ts) small in
+      let parts = and_parts (prices_are_small t) (prices_in_are_small ts) small in
       products_bounded (node_count t) (nodes_in ts) (side_count false t) (side_in false ts) (side_count true t) (side_in true ts) (choices_of t) (picks_of ts)
       (bounded t parts.0) (picks_bounded ts parts.1)
 
   any_bounded : (ts : Trees) → prices_in_are_small ts ≡ true → All (IsBounded (nodes_in ts) (longest_in false ts) (longest_in true ts)) (choices_of_any ts)
   any_bounded no_trees small = All-nil (IsBounded 0 0 0)
   any_bounded (tree t ts) small =
-      let parts = both_small (prices_are_small t) (prices_in_are_small ts) small in
+      let parts = and_parts (prices_are_small t) (prices_in_are_small ts) small in
       let P : Choice → Type 0 = IsBounded (node_count t + nodes_in ts) (max (side_count false t) (longest_in false ts)) (max (side_count true t) (longest_in true ts)) in
       All-append P (choices_of t) (choices_of_any ts)
       (All-weaker (IsBounded (node_count t) (side_count false t) (side_count true t)) P
@@ -139,7 +134,7 @@ mutual
       (λ c h. wider (nodes_in ts) _ _ _ _ _ c (omega arith) (omega arith) (omega arith) h) (choices_of_any ts) (any_bounded ts parts.1))
 
 -- the cost of at most a formula's nodes is small
-few_nodes : (n l r : ℕ) → n ≤ FORMULA_NODES → (c : Choice) → IsBounded n l r c → HasSmallCost c
+pub few_nodes : (n l r : ℕ) → n ≤ FORMULA_NODES → (c : Choice) → IsBounded n l r c → HasSmallCost c
 few_nodes n l r few c h = (omega (arith, ints, h.low), omega (arith, ints, h.high))
 
 -- no choice of a small expression is dear

@@ -6,8 +6,7 @@ ghost use Rattle.std.specs.Ordering.{as_partial_cmp, eq_by_cmp};
 ghost use Rattle.std.proofs.Common.{rules};
 ghost use Rattle.lg_base.specs.Costs.{IsWithinCosts};
 ghost use Rattle.lg_gram.specs.Measures.{no_connectors, single, joined, dearer};
-ghost use Rattle.lg_gram.specs.Disjuncts.{choice_of};
-ghost use Rattle.lg_disj.specs.Choices.{lists_cmp, choice_cmp, IsSided};
+ghost use Rattle.lg_disj.specs.Choices.{lists_cmp, choice_cmp, disjunct_of, IsSided};
 
 use lg_base::{Cost, NoMemory, Text};
 use lg_gram::order::rank_lists;
@@ -140,8 +139,7 @@ impl Choice {
 
     /// The disjunct of a word that this choice is.
     pub(crate) fn into_disjunct(self, word: Text) -> Disjunct
-        ensures named { result.word ≡ word }
-        ensures choice { choice_of result ≡ self }
+        ensures { result ≡ disjunct_of word self }
     {
         let Choice { left, right, cost } = self;
         Disjunct {
