@@ -1,0 +1,11 @@
+pub mod Parts
+pub mod Products
+pub mod Sided
+pub mod Bounded
+pub mod Folds
+pub mod Members
+pub mod Told_apart
+pub mod Runs
+pub mod Kept
+pub mod One_list
+pub mod Disjuncts

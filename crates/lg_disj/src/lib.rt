@@ -1,0 +1,39 @@
+//! The disjuncts of a word: the ways to use it that its formula stands for, each once and at its least cost.
+#![tactic(auto)]
+
+ghost use Rattle.std.specs.Prelude.{◌≤◌, length, IfOk};
+ghost use Rattle.std.specs.List.{All};
+ghost use Rattle.lg_gram.specs.Trees.{tree_of};
+ghost use Rattle.lg_gram.specs.Measures.{choice_count};
+ghost use Rattle.lg_gram.specs.Disjuncts.{AreDisjuncts};
+ghost use Rattle.lg_gram.specs.Problems.{FitsProblem};
+
+mod cheapest;
+mod choice;
+mod choices;
+pub mod law;
+mod product;
+
+use crate::cheapest::{cheapest, disjuncts_of};
+use crate::choices::choices_of;
+use lg_base::{NoMemory, Text};
+use lg_gram::law::choices_are_counted;
+use lg_gram::{Disjuncts, Formula};
+use std::alloc::Global;
+
+/// The disjuncts of a word: the distinct pairs of lists among the choices of its formula, each at its least cost,
+/// strictly increasing by left list and right list.
+///
+/// There are at most 1,000,000, since a formula has no more choices. A disjunct has at most 255 connectors on a side, and
+/// its cost is at most 10^13 thousandths from zero. Time and memory grow in proportion to the choices and their lengths,
+/// but for the sort.
+pub fn expand(alloc: Global, word: &Text, formula: &Formula) -> Result<Disjuncts, NoMemory>
+    ensures disjuncts { IfOk result (λ ds. AreDisjuncts word.now (tree_of formula.now) ds) }
+    ensures fits { IfOk result (λ ds. All FitsProblem ds) }
+    ensures few { IfOk result (λ ds. length ds ≤ choice_count (tree_of formula.now)) }
+{
+    choices_are_counted();
+    let all = choices_of(alloc, formula.expr())?;
+    let kept = cheapest(all)?;
+    disjuncts_of(alloc, word, kept)
+}
