@@ -3,6 +3,7 @@
 
 ghost use Rattle.std.specs.Prelude.{◌≤◌, length, IfOk};
 ghost use Rattle.std.specs.List.{All};
+ghost use Rattle.lg_gram.specs.Limits.{FORMULA_CHOICES};
 ghost use Rattle.lg_gram.specs.Trees.{tree_of};
 ghost use Rattle.lg_gram.specs.Measures.{choice_count};
 ghost use Rattle.lg_gram.specs.Disjuncts.{AreDisjuncts};
@@ -31,6 +32,7 @@ pub fn expand(alloc: Global, word: &Text, formula: &Formula) -> Result<Disjuncts
     ensures disjuncts { IfOk result (λ ds. AreDisjuncts word.now (tree_of formula.now) ds) }
     ensures fits { IfOk result (λ ds. All FitsProblem ds) }
     ensures few { IfOk result (λ ds. length ds ≤ choice_count (tree_of formula.now)) }
+    ensures limit { IfOk result (λ ds. length ds ≤ FORMULA_CHOICES) }
 {
     choices_are_counted();
     let all = choices_of(alloc, formula.expr())?;

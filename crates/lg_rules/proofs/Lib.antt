@@ -8,3 +8,14 @@ pub mod Keys
 pub mod FewLinks
 pub mod Cases
 pub mod Limits
+pub mod Allowed
+pub mod Partners
+pub mod Sublists
+pub mod Adding
+pub mod Completing
+pub mod Sorting
+pub mod Pruned
+pub mod Choosing
+pub mod Fitting
+pub mod Unlinked
+pub mod Fewest

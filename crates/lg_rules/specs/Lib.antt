@@ -2,3 +2,7 @@ pub mod Places
 pub mod Least
 pub mod Verdicts
 pub mod Checks
+pub mod Partners
+pub mod Prunes
+pub mod Steps
+pub mod Orders

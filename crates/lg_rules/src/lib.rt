@@ -2,11 +2,13 @@
 #![tactic(auto)]
 
 mod checker;
+mod list;
 mod membership;
 mod sides;
 mod verdict;
 
 pub use checker::check;
+pub use list::{PLAIN_POSITIONS, plain_list};
 pub use membership::belongs;
 pub use verdict::Verdict;
 

@@ -1,0 +1,75 @@
+-- What a good linkage has, each prune finds.
+use Rattle.std.proofs.Common.{◌≡◌, ℕ, suc, zero, ◌<◌, List, [], ◌∷◌, ◌++◌, length, get_or, refl, sym, ◌∙◌, subst, append_assoc, Option, Some, None, arith, slice_get}
+use Rattle.std.specs.List.{All, Any, Contains}
+use Rattle.std.proofs.lemmas.List.{get_or_default}
+use Rattle.std.proofs.lemmas.Option.{slice_get-get_or}
+use Rattle.lg_gram.specs.Connectors.{Connector, Match}
+use Rattle.lg_gram.specs.Linkages.{Linkage}
+use Rattle.lg_gram.specs.Rules.{right_list}
+use Rattle.lg_gram.specs.declared.disjunct.Disjunct.{Disjunct}
+use Rattle.lg_gram.specs.declared.linkage.Link.{Link}
+use Rattle.lg_rules.specs.Partners.{right_at, left_at, CanLink}
+use Rattle.lg_rules.specs.Prunes.{HasPartner, AllReached}
+use Rattle.lg_rules.specs.Steps.{IsSoundWith, GoesOn}
+use Rattle.lg_rules.proofs.Completing.{has_right_of, has_left_of}
+use Rattle.lg_rules.proofs.Allowed.{found_if_below}
+
+-- the choice allows each link of a sound linkage
+pub sound_can : (chosen : List (Option Disjunct)) (g : Linkage) → IsSoundWith chosen g → (k : Link) → Contains g.links k → CanLink chosen k
+sound_can chosen g with k m =
+    subst (λ c. CanLink c k) with.same (record { forward = with.sound.rules.matched.forward k m; joins = with.sound.rules.matched.joins k m })
+
+pub sound_reached : (chosen : List (Option Disjunct)) (candidates : List Link) → ((k : Link) → CanLink chosen k → Contains candidates k) → (g : Linkage) → IsSoundWith chosen g → AllReached chosen candidates
+sound_reached chosen candidates every g with = record {
+  on_right = λ i p _ below.
+      let c = found_if_below (right_at chosen i) p below in
+      let k = (with.sound.rules.satisfied.on_right i p c.0 (subst (λ o. slice_get (right_at o i) p ≡ Some c.0) (sym with.same) c.1)).some in
+      has_right_of candidates i p k.0 (every k.0 (sound_can chosen g with k.0 k.1)) k.2 k.3;
+  on_left = λ i p _ below.
+      let c = found_if_below (left_at chosen i) p below in
+      let k = (with.sound.rules.satisfied.on_left i p c.0 (subst (λ o. slice_get (left_at o i) p ≡ Some c.0) (sym with.same) c.1)).some in
+      has_left_of candidates i p k.0 (every k.0 (sound_can chosen g with k.0 k.1)) k.2 k.3;
+}
+
+left_here : (xs : List (Option Disjunct)) (d : Disjunct) (ds : List (Option Disjunct)) → left_at (xs ++ Some d ∷ ds) (length xs) ≡ d.left
+left_here [] d ds = refl
+left_here (x ∷ xs) d ds = left_here xs d ds
+
+right_before : (xs ys : List (Option Disjunct)) (i : ℕ) → i < length xs → right_at (xs ++ ys) i ≡ right_list (get_or xs i None)
+right_before [] ys i h = absurd (omega arith)
+right_before (x ∷ xs) ys zero h = refl
+right_before (x ∷ xs) ys (suc i) h = right_before xs ys i (omega arith)
+
+same_some : (b c : Connector) → Some b ≡ Some c → b ≡ c
+same_some b c h = cc
+
+any_of_found : (P : Connector → Type 0) (cs : List Connector) (p : ℕ) (c : Connector) → slice_get cs p ≡ Some c → P c → Any P cs
+any_of_found P [] p c e h = cc
+any_of_found P (x ∷ xs) zero c e h = (0, x, omega arith, refl, subst P (sym (same_some x c e)) h)
+any_of_found P (x ∷ xs) (suc p) c e h = let r = any_of_found P xs p c e h in (suc r.0, r.1, omega (arith, r.2), r.3, r.4)
+
+module _ (chosen : List (Option Disjunct)) (d : Disjunct) (ds : List (Option Disjunct)) (g : Linkage) (with : IsSoundWith (chosen ++ Some d ∷ ds) g) where
+  partner_by : (p : ℕ) (c : Connector) → slice_get d.left p ≡ Some c → (k : Link) → Contains g.links k → k.right ≡ length chosen → k.rplace ≡ p → HasPartner chosen c
+  unfolding HasPartner
+  partner_by p c h k m at_right at_place =
+      let can = sound_can (chosen ++ Some d ∷ ds) g with k m in
+      let a = can.joins.0 in
+      let low : k.left < length chosen = let f = can.forward in omega arith in
+      let here : slice_get (left_at (chosen ++ Some d ∷ ds) k.right) k.rplace ≡ Some c = rw (at_right, at_place, left_here chosen d ds) h in
+      let same = same_some can.joins.1 c (sym can.joins.3 ∙ here) in
+      let o = get_or chosen k.left None in
+      let found : slice_get (right_list o) k.lplace ≡ Some a = rw (right_before chosen (Some d ∷ ds) k.left low) at can.joins.2 in
+      (k.left, o, low, get_or_default chosen k.left o None low, any_of_found (λ z. Match z c) (right_list o) k.lplace a found (subst (λ z. Match a z) same can.joins.4))
+
+  partners_if_sound : All (HasPartner chosen) d.left
+  partners_if_sound p e below =
+      let c = get_or d.left p e in
+      let here : slice_get d.left p ≡ Some c = slice_get-get_or d.left p e below in
+      let there : slice_get (left_at g.chosen (length chosen)) p ≡ Some c = subst (λ o. slice_get (left_at o (length chosen)) p ≡ Some c) (sym with.same) (rw (left_here chosen d ds) here) in
+      let k = (with.sound.rules.satisfied.on_left (length chosen) p c there).some in
+      partner_by p c here k.0 k.1 k.2 k.3
+
+pub goes_on_partners : (chosen : List (Option Disjunct)) (d : Disjunct) (rows : List (List Disjunct)) (spare : ℕ) (g : Linkage) → GoesOn (chosen ++ Some d ∷ []) rows spare g → All (HasPartner chosen) d.left
+unfolding GoesOn
+goes_on_partners chosen d rows spare g q =
+    partners_if_sound chosen d q.0 g (subst (λ c. IsSoundWith c g) (append_assoc chosen (Some d ∷ []) q.0) q.3)

@@ -1,0 +1,15 @@
+//! The top call: the words of the command line, the order of the work, and how a run ends.
+#![tactic(auto)]
+
+mod command;
+mod inputs;
+mod sentence;
+mod status;
+mod stop;
+mod top;
+
+pub use status::Status;
+pub use top::run;
+
+#[cfg(test)]
+mod tests;
