@@ -1,0 +1,19 @@
+//! Dictionary texts: their entries, with expressions of connectors and macros, and the first fault of a text.
+//!
+//! The format is after link-parser's: `words : expression ;`, where `&` and `or` join connectors, braces make optional,
+//! and square brackets put a cost on an expression.
+#![tactic(auto)]
+
+mod brackets;
+mod fault;
+mod frame;
+mod law;
+mod macros;
+mod part;
+mod reader;
+
+pub use fault::{Fault, Refusal};
+pub use law::exactly_one;
+pub use macros::{Known, Macros};
+pub use part::{Bracket, Operator, Part};
+pub use reader::{Progress, State, step};
