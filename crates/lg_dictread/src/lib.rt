@@ -11,9 +11,13 @@ mod law;
 mod macros;
 mod part;
 mod reader;
+#[cfg(test)]
+mod tests;
+mod word;
 
 pub use fault::{Fault, Refusal};
-pub use law::exactly_one;
+pub use law::{exactly_one, parts_are_written};
 pub use macros::{Known, Macros};
 pub use part::{Bracket, Operator, Part};
 pub use reader::{Progress, State, step};
+pub use word::part_of;
