@@ -1,6 +1,6 @@
 -- What is kept of the choices is, for each pair of lists, the cheapest.
-use Rattle.std.proofs.Common.{◌≡◌, ◌<◌, ℤ, ◌≤ℤ◌, true, List, length, get_or, refl, sym, ap, subst, ◌∙◌, arith, Equal}
-use Rattle.std.specs.List.{All, Any, Contains, dedup}
+use Rattle.std.proofs.Common.{◌≡◌, ℤ, ◌≤ℤ◌, List, sym, subst, ◌∙◌, arith, Equal}
+use Rattle.std.specs.List.{All, Contains, dedup}
 use Rattle.std.specs.List.Sorted.{IsSorted, IsPermutation}
 use Rattle.std.specs.Cmp.{eq_by_cmp_equiv}
 use Rattle.std.proofs.lemmas.Int.{ints}

@@ -1,11 +1,10 @@
 -- Choices of several expressions, one after another.
-use Rattle.std.proofs.Common.{◌≡◌, ℕ, zero, suc, set, drop, ◌+◌, ◌<◌, ◌≤◌, ℤ, pos, ◌+ℤ◌, List, [], ◌∷◌, ◌++◌, map, length, take, get_or, refl, sym, ap, ◌∙◌, arith, append_assoc, append-nil}
-use Rattle.std.specs.List.{flat_map}
+use Rattle.std.proofs.Common.{◌≡◌, ℕ, zero, suc, set, drop, ◌<◌, ◌≤◌, ℤ, pos, ◌+ℤ◌, List, [], ◌∷◌, ◌++◌, map, length, take, get_or, refl, sym, ap, ◌∙◌, arith, append_assoc, append-nil}
 use Rattle.std.proofs.lemmas.Int.{ints}
-use Rattle.std.proofs.lemmas.List.{map-append, take_more}
+use Rattle.std.proofs.lemmas.List.{map-append}
 use Rattle.std.proofs.lemmas.Grind.{flat_map-append}
 use Rattle.lg_gram.specs.declared.expr.Expr.{Expr}
-use Rattle.lg_gram.specs.Trees.{Trees, no_trees, tree, trees_of, trees_in, tree_of}
+use Rattle.lg_gram.specs.Trees.{trees_in, tree_of}
 use Rattle.lg_gram.specs.Measures.{Choice, no_connectors, joined, choices_of, picks_of, choices_of_any}
 use Rattle.lg_disj.specs.Choices.{products}
 

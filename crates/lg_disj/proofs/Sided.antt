@@ -1,5 +1,5 @@
 -- Choices whose connectors are each in the list of their direction.
-use Rattle.std.proofs.Common.{◌≡◌, Bool, true, false, List, [], ◌∷◌, ◌++◌, map, refl}
+use Rattle.std.proofs.Common.{true, false, List, [], ◌∷◌, map}
 use Rattle.std.specs.List.{All}
 use Rattle.std.proofs.lemmas.List.Elements.{All-nil, All-append, All-map, All-head, All-tail, All-weaker}
 use Rattle.lg_gram.specs.Measures.{Choice, joined, dearer}

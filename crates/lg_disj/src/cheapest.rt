@@ -24,7 +24,11 @@ pub(crate) fn cheapest(mut choices: Vec<Choice>) -> Result<Vec<Choice>, NoMemory
 }
 
 /// The choices as disjuncts of a word, in the same order.
-pub(crate) fn disjuncts_of(alloc: Global, word: &Text, choices: Vec<Choice>) -> Result<Disjuncts, NoMemory>
+pub(crate) fn disjuncts_of(
+    alloc: Global,
+    word: &Text,
+    choices: Vec<Choice>,
+) -> Result<Disjuncts, NoMemory>
     ensures { IfOk result (λ disjuncts. disjuncts ≡ map (disjunct_of word.now) choices.items) }
 {
     let mut disjuncts = Vec::with_capacity(alloc, choices.len())?;

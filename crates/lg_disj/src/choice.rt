@@ -151,7 +151,11 @@ impl Choice {
     }
 }
 
-fn concatenated(alloc: Global, first: &[Connector], second: &[Connector]) -> Result<Vec<Connector>, NoMemory>
+fn concatenated(
+    alloc: Global,
+    first: &[Connector],
+    second: &[Connector],
+) -> Result<Vec<Connector>, NoMemory>
     ensures { IfOk result (λ both. both.items ≡ first.now ++ second.now) }
 {
     let mut both = Vec::with_capacity(alloc, first.len() + second.len())?;

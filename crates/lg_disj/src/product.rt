@@ -12,7 +12,11 @@ use std::alloc::Global;
 ///
 /// A first choice is copied for each second but the last, where it is moved. So a list of one second copies nothing, and
 /// many such lists in a row take time in proportion to what they make.
-pub(crate) fn products(alloc: Global, firsts: Vec<Choice>, seconds: &[Choice]) -> Result<Vec<Choice>, NoMemory>
+pub(crate) fn products(
+    alloc: Global,
+    firsts: Vec<Choice>,
+    seconds: &[Choice],
+) -> Result<Vec<Choice>, NoMemory>
     requires first_costs { All HasSmallCost firsts.items }
     requires second_costs { All HasSmallCost seconds.now }
     ensures { IfOk result (λ all. all.items ≡ products firsts.items seconds.now) }
@@ -24,7 +28,12 @@ pub(crate) fn products(alloc: Global, firsts: Vec<Choice>, seconds: &[Choice]) -
     Ok(all)
 }
 
-fn push_products(alloc: Global, first: Choice, seconds: &[Choice], all: &mut Vec<Choice>) -> Result<(), NoMemory>
+fn push_products(
+    alloc: Global,
+    first: Choice,
+    seconds: &[Choice],
+    all: &mut Vec<Choice>,
+) -> Result<(), NoMemory>
     requires first_cost { HasSmallCost first }
     requires second_costs { All HasSmallCost seconds.now }
     ensures { OnOk result (all.new.items ≡ all.old.items ++ map (joined first) seconds.now) }

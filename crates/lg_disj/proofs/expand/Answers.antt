@@ -1,4 +1,4 @@
-use Rattle.std.proofs.Common.{◌≡◌, List, ap, subst, ◌∙◌, sym}
+use Rattle.std.proofs.Common.{ap, subst, ◌∙◌}
 use Rattle.std.proofs.lemmas.Result.{IfOk-weaker}
 use Rattle.lg_gram.specs.Trees.{tree_of}
 use Rattle.lg_gram.specs.Measures.{Choice, choices_of}

@@ -1,8 +1,6 @@
-use Rattle.std.proofs.Common.{rules, ◌≡◌, sym, ◌∙◌, refl, subst}
-use Rattle.std.specs.List.{dedup}
+use Rattle.std.proofs.Common.{rules, refl}
 use Rattle.std.proofs.lemmas.Fn.{dedup_same}
 use Rattle.std.proofs.lemmas.List.Kept.{IsStrictlySortedBy-dedup}
-use Rattle.lg_disj.specs.Choices.{lists_cmp}
 use Rattle.lg_disj.proofs.Runs.{same, lists_cmp_total, lists_sorted}
 use Rattle.lg_disj.proofs.Kept.{kept_is_cheapest, cheapest_is_kept}
 use Rattle.lg_disj.proofs.cheapest.cheapest.Goals as goal

@@ -1,5 +1,4 @@
-use Rattle.std.proofs.Common.{◌≡◌, ◌++◌, ◌<◌, map, length, get_or, take, drop, set, sym, ap, subst, ◌∙◌, add-one, arith}
-use Rattle.std.specs.List.{All}
+use Rattle.std.proofs.Common.{◌<◌, length, get_or, set, sym, ap, subst, ◌∙◌, add-one, arith}
 use Rattle.lg_gram.specs.Measures.{dearer}
 use Rattle.lg_disj.specs.Choices.{HasSmallCost}
 use Rattle.lg_disj.proofs.Bounded.{small_dearer}

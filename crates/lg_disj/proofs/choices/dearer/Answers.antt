@@ -1,4 +1,4 @@
-use Rattle.std.proofs.Common.{◌≡◌, ◌∙◌, sym, ap, map, arith, drop, length}
+use Rattle.std.proofs.Common.{◌∙◌, ap, map, arith, drop, length}
 use Rattle.std.proofs.lemmas.List.{take_at}
 use Rattle.lg_gram.specs.Measures.{dearer}
 use Rattle.lg_disj.proofs.choices.dearer.Goals as goal

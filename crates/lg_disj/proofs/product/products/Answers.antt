@@ -1,9 +1,8 @@
-use Rattle.std.proofs.Common.{◌≡◌, ◌∷◌, [], ◌++◌, List, length, refl, sym, ap, subst, ◌∙◌, append_assoc, append-nil, arith}
+use Rattle.std.proofs.Common.{◌≡◌, ◌∷◌, ◌++◌, sym, ap, subst, ◌∙◌}
 use Rattle.std.specs.List.{All}
 use Rattle.std.specs.Vec.Iter.{into_iter_items}
-use Rattle.lg_disj.specs.Choices.{products, HasSmallCost}
+use Rattle.lg_disj.specs.Choices.{HasSmallCost}
 use Rattle.lg_disj.proofs.Parts.{at_middle}
-use Rattle.lg_disj.proofs.Products.{products_push}
 use Rattle.lg_disj.proofs.product.products.Goals as goal
 
 pub push_products-requires-clause-first_cost : goal.push_products-requires-clause-first_cost

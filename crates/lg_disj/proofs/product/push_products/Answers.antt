@@ -1,4 +1,4 @@
-use Rattle.std.proofs.Common.{◌≡◌, ◌++◌, [], ◌∷◌, subst}
+use Rattle.std.proofs.Common.{[], ◌∷◌, subst}
 use Rattle.std.specs.List.{All}
 use Rattle.lg_disj.specs.Choices.{HasSmallCost}
 use Rattle.lg_disj.proofs.Parts.{at_middle, in_front, at_place}
