@@ -109,6 +109,22 @@ fn connectors_from_near_to_far(rt: HostRuntime) -> Result<(), Fail> {
     Ok(())
 }
 
+// A connector in as many brackets as a formula may have
+#[test]
+fn costs_of_brackets_add_up(rt: HostRuntime) -> Result<(), Fail> {
+    let alloc = rt.alloc();
+    let mut e = leaf(b"A", false, true)?;
+    for _ in 0..602 {
+        e = bracketed(alloc, e)?;
+    }
+    let disjuncts = expanded(alloc, e)?;
+    assert_eq!(rt; disjuncts.items().len(), 1);
+    for disjunct in disjuncts.items() {
+        assert_eq!(rt; shown(alloc, disjunct)?.as_str(), "A+ 602000");
+    }
+    Ok(())
+}
+
 // So many factors of ten alternatives each, all of other names.
 fn factors(alloc: Global, count: u8) -> Result<Vec<Expr>, Fail> {
     let mut members = Vec::new(alloc);
