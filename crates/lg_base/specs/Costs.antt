@@ -1,6 +1,64 @@
--- How large costs are.
-use Rattle.std.specs.Prelude.{◌^◌, ℤ, pos, neg_ℤ, ◌≤ℤ◌}
+-- Costs: how large they are, how they are printed, and how they are written in a dictionary.
+use Rattle.std.specs.Prelude.{◌≡◌, ◌+◌, ◌-◌, ◌*◌, ◌/◌, ◌%◌, ◌^◌, ◌≤◌, ℕ, ℤ, pos, negsuc, neg_ℤ, unsigned_abs, ◌≤ℤ◌, List, [], ◌∷◌, ◌++◌, length, decimal}
+use Rattle.std.specs.declared.option.Option.{Option}
+use Rattle.std.specs.declared.option.Option.TheVariants.{None, Some}
+use Rattle.std.specs.Str.Parse.{IsNumeral, digits_value}
 
 -- at most 10 ^ 16 thousandths from zero
 abbrev pub IsWithinCosts : ℤ → Type 0
 IsWithinCosts z = (neg_ℤ (pos (10 ^ 16)) ≤ℤ z) × (z ≤ℤ pos (10 ^ 16))
+
+-- three digits, with leading zeros (48 is the digit 0)
+abbrev pub three_digits : ℕ → List ℕ
+three_digits n = (48 + n / 100) ∷ (48 + n / 10 % 10) ∷ (48 + n % 10) ∷ []
+
+-- so many thousandths: the whole part, a point (46) and three digits
+abbrev pub thousandths_text : ℕ → List ℕ
+thousandths_text n = decimal (n / 1000) ++ 46 ∷ three_digits (n % 1000)
+
+-- a minus sign (45) where the cost is below zero
+abbrev pub sign_of : ℤ → List ℕ
+sign_of (pos _) = []
+sign_of (negsuc _) = 45 ∷ []
+
+-- a printed cost
+abbrev pub cost_text : ℤ → List ℕ
+cost_text cost = sign_of cost ++ thousandths_text (unsigned_abs cost)
+
+-- one digit or more, and at most so many
+abbrev pub AreDigits : ℕ → List ℕ → Type 0
+AreDigits most digits = IsNumeral 10 digits × (length digits ≤ most)
+
+-- the thousandths that up to three digits after a point stand for
+abbrev pub part_value : List ℕ → ℕ
+part_value part = digits_value 10 part * 10 ^ (3 - length part)
+
+-- the three forms of a cost number and the thousandths that they stand for: digits; digits, a point (46) and digits;
+-- a point and digits
+pub data CostForm (bytes : List ℕ) (value : ℕ) : Type 0 where
+  Whole : AreDigits 5 bytes → value ≡ 1000 * digits_value 10 bytes → CostForm bytes value
+  WholeAndPart : (whole part : List ℕ) → bytes ≡ whole ++ 46 ∷ part → AreDigits 5 whole → AreDigits 3 part → value ≡ 1000 * digits_value 10 whole + part_value part → CostForm bytes value
+  Part : (part : List ℕ) → bytes ≡ 46 ∷ part → AreDigits 3 part → value ≡ part_value part → CostForm bytes value
+
+-- the answer to these bytes: their thousandths where they have one of the forms, and else None
+abbrev pub ReadsForm : List ℕ → Option ℕ → Type 0
+ReadsForm bytes (Some value) = CostForm bytes value
+ReadsForm bytes None = (value : ℕ) → ¬ CostForm bytes value
+
+-- the bytes are a cost number, at most 10000.000, and this is its cost
+abbrev pub IsCostNumber : List ℕ → ℤ → Type 0
+IsCostNumber bytes (pos value) = CostForm bytes value × (value ≤ 10 ^ 7)
+IsCostNumber bytes (negsuc _) = ⊥
+
+-- the answer to these bytes: the cost where they are a cost number, and else None
+abbrev pub ReadsCost : List ℕ → Option ℤ → Type 0
+ReadsCost bytes (Some cost) = IsCostNumber bytes cost
+ReadsCost bytes None = (cost : ℤ) → ¬ IsCostNumber bytes cost
+
+-- reading a printed cost that is not negative and at most 10000.000 gives it back
+abbrev pub IsReadBack : Type 0
+IsReadBack = (value : ℕ) → value ≤ 10 ^ 7 → (answer : Option ℤ) → ReadsCost (cost_text (pos value)) answer → answer ≡ Some (pos value)
+
+-- the same bytes are a cost number for one cost alone
+abbrev pub HasOneCost : Type 0
+HasOneCost = (bytes : List ℕ) (cost other : ℤ) → IsCostNumber bytes cost → IsCostNumber bytes other → cost ≡ other

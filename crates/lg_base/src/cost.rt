@@ -1,7 +1,12 @@
 //! Costs, which rank the linkages of a sentence.
-ghost use Rattle.std.specs.Prelude.{◌≡◌, ◌+ℤ◌};
-ghost use Rattle.lg_base.specs.Costs.{IsWithinCosts};
+ghost use Rattle.std.specs.Prelude.{◌≡◌, ◌+ℤ◌, ◌++◌, ◌^◌, ◌<◌, ◌≤◌, ◌==◌, OnOk, OnErr, IfOk, IfSome, string_bytes, unsigned_abs, position, length};
+ghost use Rattle.std.specs.Option.{SomeIff};
+ghost use Rattle.std.specs.Str.Parse.{digits_value};
+ghost use Rattle.lg_base.specs.Costs.{IsWithinCosts, cost_text, sign_of, AreDigits, part_value, ReadsForm, ReadsCost, IsReadBack, HasOneCost};
 
+use crate::memory::NoMemory;
+use crate::printing::write_bytes;
+use std::alloc::Global;
 use std::marker::Model;
 
 /// A cost in thousandths, at most 10^16 of them from zero. Contracts see it as a signed number.
@@ -47,4 +52,124 @@ impl Cost {
     {
         self.0
     }
+}
+
+impl Cost {
+    // The sign that is printed.
+    fn sign(self) -> &'static str
+        ensures { result.now ≡ sign_of self }
+    {
+        if self.0 < 0 { "-" } else { "" }
+    }
+
+    // How many thousandths from zero.
+    fn size(self) -> u64
+        ensures { result ≡ unsigned_abs self }
+    {
+        self.0.unsigned_abs()
+    }
+}
+
+/// Appends the printed cost: a `-` where it is below zero, the whole part, a point, and three digits.
+pub fn write_cost(alloc: Global, out: &mut Vec<u8>, cost: Cost) -> Result<(), NoMemory>
+    ensures ok { OnOk result (out.new.items ≡ out.old.items ++ cost_text cost) }
+    ensures err { OnErr result (out.new.items ≡ out.old.items) }
+{
+    let text = printed(alloc, cost)?;
+    write_bytes(out, text.as_bytes())
+}
+
+// The printed cost.
+fn printed(alloc: Global, cost: Cost) -> Result<String, NoMemory>
+    ensures { IfOk result (λ text. string_bytes text ≡ cost_text cost) }
+{
+    let size = cost.size();
+    let text = format!(in alloc; "{}{}.{:03}", cost.sign(), size / 1000, size % 1000)?;
+    Ok(text)
+}
+
+// The most digits before the point, and after it.
+const WHOLE_DIGITS: usize = 5;
+
+const PART_DIGITS: usize = 3;
+
+// The largest cost number, 10000.000.
+const LARGEST: u32 = 10_000_000;
+
+/// The cost that the bytes write, or `None` exactly where they are no cost number.
+///
+/// A cost number is one to five digits; or one to five digits, a point and one to three digits; or a point and one to
+/// three digits. It is at most 10000.000, and has no sign.
+pub fn parse_cost(bytes: &[u8]) -> Option<Cost>
+    ensures { ReadsCost bytes.now result }
+{
+    let value = parse_form(bytes)?;
+    if value > LARGEST {
+        return None;
+    }
+    Some(Cost::of(i64::from(value)))
+}
+
+/// What holds of cost numbers: a printed one is read back, and the same bytes are never two of them.
+pub fn cost_number_laws()
+    ensures read_back { IsReadBack }
+    ensures once { HasOneCost }
+{}
+
+// The thousandths that the bytes stand for in one of the three forms, which the place of the point tells apart.
+fn parse_form(bytes: &[u8]) -> Option<u32>
+    ensures { ReadsForm bytes.now result }
+{
+    match point(bytes) {
+        None => {
+            let whole = parse_digits(bytes, WHOLE_DIGITS)?;
+            Some(1000 * whole)
+        }
+        Some(0) => parse_part(&bytes[1..]),
+        Some(at) => {
+            let whole = parse_digits(&bytes[..at], WHOLE_DIGITS)?;
+            let part = parse_part(&bytes[at + 1..])?;
+            Some(1000 * whole + part)
+        }
+    }
+}
+
+// Where the first point stands.
+fn point(bytes: &[u8]) -> Option<usize>
+    ensures { result ≡ position (λ byte. byte == 46) bytes.now }
+{
+    bytes.iter().position(|byte| *byte == b'.')
+}
+
+// The digits after a point, in thousandths.
+fn parse_part(part: &[u8]) -> Option<u32>
+    ensures value { SomeIff result (AreDigits 3 part.now) (part_value part.now) }
+    ensures bound { IfSome result (λ value. value < 1000) }
+{
+    let digits = parse_digits(part, PART_DIGITS)?;
+    let scale = match part.len() {
+        1 => 100,
+        2 => 10,
+        _ => 1,
+    };
+    Some(digits * scale)
+}
+
+// One digit or more, at most so many.
+fn parse_digits(bytes: &[u8], most: usize) -> Option<u32>
+    requires { most ≤ 5 }
+    ensures value { SomeIff result (AreDigits most bytes.now) (digits_value 10 bytes.now) }
+    ensures bound { IfSome result (λ value. value < 10 ^ length bytes.now) }
+{
+    if bytes.is_empty() || bytes.len() > most {
+        return None;
+    }
+    let mut value = 0;
+    for byte in bytes {
+        if !byte.is_ascii_digit() {
+            return None;
+        }
+        value = value * 10 + u32::from(*byte - b'0');
+    }
+    Some(value)
 }

@@ -8,3 +8,6 @@ pub mod Same
 pub mod Counted
 pub mod Exact
 pub mod Merged
+pub mod Pairs
+pub mod Ground
+pub mod Filled

@@ -11,3 +11,7 @@ pub mod Linkages
 pub mod Walks
 pub mod Rules
 pub mod Levels
+pub mod RawTrees
+pub mod Pairs
+pub mod Ground
+pub mod Filled

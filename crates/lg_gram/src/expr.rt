@@ -130,7 +130,7 @@ pub fn longest_side(e: &Expr) -> u32
 }
 
 #[cycle(sides)]
-fn side_length(e: &Expr, right: bool) -> u32
+pub(crate) fn side_length(e: &Expr, right: bool) -> u32
     ensures { result ≡ min (side_count right (tree_of e.now)) SIDE_COUNTED }
 {
     match e {

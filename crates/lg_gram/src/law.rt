@@ -5,6 +5,12 @@ ghost use Rattle.lg_gram.specs.Trees.{Tree};
 ghost use Rattle.lg_gram.specs.Measures.{choices_of, choice_count};
 ghost use Rattle.lg_gram.specs.Linkages.{linkage_cmp};
 ghost use Rattle.lg_gram.specs.Levels.{TellsApart};
+ghost use Rattle.lg_gram.specs.Pairs.{PairsDecide};
+ghost use Rattle.std.specs.declared.cmp.Ordering.TheVariants.{Less};
+ghost use Rattle.lg_gram.specs.Problems.{IsProblem};
+ghost use Rattle.lg_gram.specs.Rules.{Good};
+ghost use Rattle.lg_gram.specs.Ground.{mary_ran, mary_ran_linked, mary_ran_unlinked, linked_twice, crossed};
+ghost use Rattle.lg_gram.specs.declared.disjunct.Disjunct.{Disjunct};
 
 /// The order of linkages is total, and tells the linkages of one problem apart.
 pub fn linkages_are_ordered()
@@ -15,4 +21,21 @@ pub fn linkages_are_ordered()
 /// An expression has as many choices as are counted.
 pub fn choices_are_counted()
     ensures { (t : Tree) → length (choices_of t) ≡ choice_count t }
+{}
+
+/// Links that are compared one by one, in their order, compare as they do pair by pair of positions: no link before a
+/// link, and then by the places.
+pub fn pairs_decide()
+    ensures { PairsDecide }
+{}
+
+/// What the rules and the order say of a few linkages: `Mary ran` has a good linkage, which comes before the one with
+/// both words unlinked; and no linkage is good, for any problem, that has two links between the same two words, or two
+/// links that cross.
+pub fn ground_facts()
+    ensures problem { IsProblem mary_ran }
+    ensures good { Good mary_ran mary_ran_linked }
+    ensures once { (positions : List (List Disjunct)) → Good positions linked_twice → ⊥ }
+    ensures planar { (positions : List (List Disjunct)) → Good positions crossed → ⊥ }
+    ensures first { linkage_cmp mary_ran_linked mary_ran_unlinked ≡ Less }
 {}

@@ -3,18 +3,24 @@
 
 pub mod connector;
 pub mod disjunct;
+pub mod entry;
 pub mod expr;
 pub mod formula;
 pub mod label;
 pub mod law;
 pub mod linkage;
+pub mod listing;
+pub mod macros;
 pub mod order;
 pub mod problem;
 
 pub use connector::{Connector, Connectors, link_label, matches};
 pub use disjunct::{Chosen, Disjunct, Disjuncts, Positions};
+pub use entry::{Entry, Item, ItemKind, Items, RawEntry, RawExpr, RawExprs};
 pub use expr::{Expr, Exprs, choices, longest_side, nodes};
 pub use formula::Formula;
 pub use label::Label;
 pub use linkage::{Link, Linkage, Links};
+pub use listing::{Bound, Page, PageItem, PageItems, Stats, Token, Tokens, Violation};
+pub use macros::Macros;
 pub use problem::Problem;

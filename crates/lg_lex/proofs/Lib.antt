@@ -1,0 +1,6 @@
+pub mod Steps
+pub mod Sound
+pub mod Unique
+pub mod Loops
+pub mod Columns
+pub mod RunLists

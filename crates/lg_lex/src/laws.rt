@@ -1,0 +1,45 @@
+//! Facts about what the contracts of this crate cite, each proved of every text. The functions do nothing: a caller
+//! whose proof needs a fact calls its function.
+
+ghost use Rattle.std.specs.Prelude.{◌≡◌, ℕ, ◌+◌, ◌≤◌, false, List, ◌∷◌, ◌++◌, length, take, slice_range};
+ghost use Rattle.std.specs.List.{list_any};
+ghost use Rattle.lg_lex.specs.declared.marks.Marks.{Marks};
+ghost use Rattle.lg_lex.specs.declared.place.Place.{Place};
+ghost use Rattle.lg_lex.specs.declared.run.Separators.{Separators};
+ghost use Rattle.lg_lex.specs.Classes.{line_feed};
+ghost use Rattle.lg_lex.specs.Tokens.{Lexeme, AreTokens};
+ghost use Rattle.lg_lex.specs.Lexing.{between, lex};
+ghost use Rattle.lg_lex.specs.Runs.{AreRuns, outside, runs_of};
+ghost use Rattle.lg_lex.specs.Places.{first_place, capped, is_line_feed, place_of, place_after};
+
+/// A text has one list of tokens, and `lex` gives it.
+pub fn tokens_are_one_list()
+    ensures lexed { (marks : Marks) (before : ℕ) (bytes : List ℕ)
+        → AreTokens marks (lex marks between before bytes) before bytes }
+    ensures one { (marks : Marks) (tokens : List (Lexeme × ℕ)) (before : ℕ) (bytes : List ℕ)
+        → AreTokens marks tokens before bytes
+        → lex marks between before bytes ≡ tokens }
+{}
+
+/// A text has one list of runs between separators, and `runs_of` gives it.
+pub fn runs_are_one_list()
+    ensures cut { (separators : Separators) (before : ℕ) (bytes : List ℕ)
+        → AreRuns separators (runs_of separators outside before bytes) before bytes }
+    ensures one { (separators : Separators) (runs : List (List ℕ × ℕ)) (before : ℕ) (bytes : List ℕ)
+        → AreRuns separators runs before bytes
+        → runs_of separators outside before bytes ≡ runs }
+{}
+
+/// The places of a text add up, from its first byte or from one place to a later one, and a column counts from the
+/// last line feed.
+pub fn places_add_up()
+    ensures from_first { (text : List ℕ) (i : ℕ) → place_after first_place (take i text) ≡ place_of text i }
+    ensures from_earlier { (text : List ℕ) (i j : ℕ)
+        → i ≤ j
+        → place_after (place_of text i) (slice_range text i j) ≡ place_of text j }
+    ensures twice { (p : Place) (bytes more : List ℕ)
+        → place_after (place_after p bytes) more ≡ place_after p (bytes ++ more) }
+    ensures on_a_line { (p : Place) (bytes line : List ℕ)
+        → list_any is_line_feed line ≡ false
+        → (place_after p (bytes ++ line_feed ∷ line)).column ≡ capped (1 + length line) }
+{}

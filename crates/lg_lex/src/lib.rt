@@ -1,0 +1,21 @@
+//! What the texts of lgparse share: their bytes and tokens, their lines and columns, and UTF-8.
+//!
+//! Dictionary texts, knowledge texts, word files, scripts and sentences are read through this crate. It allocates
+//! nothing, and each function takes time linear in the bytes that it looks at.
+#![tactic(auto)]
+
+mod laws;
+mod marks;
+mod place;
+mod run;
+#[cfg(test)]
+mod tests;
+mod token;
+mod utf8;
+
+pub use laws::{places_add_up, runs_are_one_list, tokens_are_one_list};
+pub use marks::{Class, Marks, class_of};
+pub use place::{Place, place_at};
+pub use run::{Run, Separators, next_run};
+pub use token::{Found, Token, next_token};
+pub use utf8::{utf8_fault, without_mark};

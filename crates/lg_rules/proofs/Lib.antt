@@ -1,0 +1,10 @@
+pub mod LeastCases
+pub mod Pairs
+pub mod Ordered
+pub mod Counts
+pub mod Served
+pub mod Labels
+pub mod Keys
+pub mod FewLinks
+pub mod Cases
+pub mod Limits

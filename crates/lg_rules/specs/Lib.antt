@@ -1,0 +1,4 @@
+pub mod Places
+pub mod Least
+pub mod Verdicts
+pub mod Checks

@@ -1,0 +1,91 @@
+-- What is printed of a linkage and of a page.
+use Rattle.std.specs.Prelude.{◌≡◌, ℕ, List, [], ◌∷◌, ◌++◌, length, map, codes, Option, Some, None, is_none, slice_get, if◌then◌else◌}
+use Rattle.std.specs.List.{flat_map, enumerate_from, zip, join_with_byte, count_by}
+use Rattle.std.specs.Option.{option_map_or}
+use Rattle.std.specs.Fmt.{decimal}
+use Rattle.lg_base.specs.Costs.{cost_text}
+use Rattle.lg_gram.specs.Connectors.{Connector, connector_text, label_of}
+use Rattle.lg_gram.specs.Linkages.{Linkage, unlinked, total_cost, total_length}
+use Rattle.lg_gram.specs.Rules.{Good, rights_of, lefts_of}
+use Rattle.lg_gram.specs.declared.disjunct.Disjunct.{Disjunct}
+use Rattle.lg_gram.specs.declared.linkage.Link.{Link}
+use Rattle.lg_gram.specs.declared.listing.Token.{Token}
+use Rattle.lg_gram.specs.declared.listing.PageItem.{PageItem}
+use Rattle.lg_gram.specs.declared.listing.Page.{Page}
+use Rattle.lg_gram.specs.declared.listing.Violation.{Violation}
+use Rattle.lg_gram.specs.declared.listing.Bound.{Bound}
+use Rattle.lg_gram.specs.declared.listing.Bound.TheVariants.{TooManyWords, TooWide}
+
+-- pieces with single spaces between them, and a line feed
+abbrev pub line_of : List (List ℕ) → List ℕ
+line_of pieces = join_with_byte 32 pieces ++ 10 ∷ []
+
+-- the connectors of a side from near to far, joined by commas, without direction signs; a dash where there is none
+abbrev pub side_text : List Connector → List ℕ
+side_text [] = codes "-"
+side_text (c ∷ cs) = join_with_byte 44 (map connector_text (c ∷ cs))
+
+abbrev pub heading_line : ℕ → Linkage → List ℕ
+heading_line number g =
+    line_of (codes "linkage" ∷ decimal number ∷ codes "unused" ∷ decimal (unlinked g) ∷ codes "cost" ∷ cost_text (total_cost g) ∷ codes "length" ∷ decimal (total_length g) ∷ [])
+
+-- what a position uses: a word with its connectors to the left and to the right and its cost, or null
+abbrev pub choice_pieces : Option Disjunct → List (List ℕ)
+choice_pieces None = codes "null" ∷ []
+choice_pieces (Some d) = d.word ∷ side_text d.left ∷ side_text d.right ∷ cost_text d.cost ∷ []
+
+abbrev pub word_line : ℕ × (Token × Option Disjunct) → List ℕ
+word_line w = line_of (codes "word" ∷ decimal w.0 ∷ w.1.0.text ∷ choice_pieces w.1.1)
+
+-- the label of a link, by the connectors at its two places
+abbrev pub label_between : Option Connector → Option Connector → List ℕ
+label_between (Some a) (Some b) = (label_of a b).caps ++ (label_of a b).subs
+label_between _ _ = []
+
+abbrev pub label_text : Linkage → Link → List ℕ
+label_text g l = label_between (slice_get (rights_of g l.left) l.lplace) (slice_get (lefts_of g l.right) l.rplace)
+
+abbrev pub link_line : Linkage → Link → List ℕ
+link_line g l = line_of (codes "link" ∷ decimal l.left ∷ decimal l.right ∷ label_text g l ∷ decimal l.lplace ∷ decimal l.rplace ∷ [])
+
+-- a linkage: a heading, a line for each position, a line for each link
+abbrev pub linkage_text : List Token → ℕ → Linkage → List ℕ
+linkage_text tokens number g =
+    heading_line number g ++ (flat_map word_line (enumerate_from 0 (zip tokens g.chosen)) ++ flat_map (link_line g) g.links)
+
+-- a linkage that can be printed for these tokens: it is a good linkage of some problem, with as many positions
+pub record IsPrintable (tokens : List Token) (g : Linkage) : Type 0 where
+  pub same_length : length tokens ≡ length g.chosen
+  pub positions : List (List Disjunct)
+  pub good : Good positions g
+
+abbrev pub fail_line : ℕ → Violation → List ℕ
+fail_line number v = line_of (codes "fail" ∷ decimal number ∷ codes "rule" ∷ decimal v.rule ∷ codes "link" ∷ decimal v.left ∷ decimal v.right ∷ [])
+
+-- a candidate that passes has its linkage text, another one line
+abbrev pub item_text : List Token → PageItem → List ℕ
+item_text tokens item = option_map_or (fail_line item.number) item.broken (linkage_text tokens item.number item.linkage)
+
+-- how many candidates of a page pass
+abbrev pub shown : List PageItem → ℕ
+shown items = count_by (λ item. is_none item.broken) items
+
+abbrev pub page_line : Page → List ℕ
+page_line page =
+    line_of (codes "page" ∷ codes "shown" ∷ decimal (shown page.items) ∷ codes "examined" ∷ decimal (length page.items) ∷ codes "next" ∷ decimal page.next ∷ (if page.end then codes "end" else codes "more") ∷ [])
+
+-- a page: its candidates in order, and a last line
+abbrev pub page_text : List Token → Page → List ℕ
+page_text tokens page = flat_map (item_text tokens) page.items ++ page_line page
+
+-- what is printed for a sentence past a limit
+abbrev pub too_many_words_line : ℕ → List ℕ
+too_many_words_line count = line_of (codes "too" ∷ codes "many" ∷ codes "words" ∷ decimal count ∷ [])
+
+abbrev pub too_many_choices_line : ℕ → List ℕ
+too_many_choices_line count = line_of (codes "too" ∷ codes "many" ∷ codes "choices" ∷ decimal count ∷ [])
+
+-- the line that names a bound
+abbrev pub bound_line : Bound → List ℕ
+bound_line (TooManyWords count) = too_many_words_line count
+bound_line (TooWide count) = too_many_choices_line count

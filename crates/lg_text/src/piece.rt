@@ -1,0 +1,85 @@
+//! Lines of pieces, at the end of a buffer.
+ghost use Rattle.std.specs.Prelude.{◌≡◌, ◌∷◌, ◌++◌, OnOk, map};
+ghost use Rattle.lg_gram.specs.Connectors.{connector_text};
+ghost use Rattle.lg_text.specs.Texts.{line_of, side_text};
+ghost use Rattle.lg_text.specs.Pieces.{piece_text};
+
+use lg_base::{Cost, NoMemory, write_bytes, write_cost, write_number};
+use lg_gram::Connector;
+use std::alloc::Global;
+
+// A part of a line.
+#[derive(Clone, Copy)]
+pub(crate) enum Piece<'a> {
+    Word(&'a [u8]),
+    Number(u64),
+    Cost(Cost),
+    // The connectors on a side of a disjunct.
+    Side(&'a [Connector]),
+}
+
+// Appends a line that begins with the word and has the pieces behind it, each after a space.
+pub(crate) fn write_line(
+    alloc: Global,
+    out: &mut Vec<u8>,
+    word: &[u8],
+    pieces: &[Piece<'_>],
+) -> Result<(), NoMemory>
+    ensures { OnOk result (out.new.items ≡ out.old.items ++ line_of (word.now ∷ map piece_text pieces.now)) }
+{
+    write_bytes(out, word)?;
+    for piece in pieces {
+        write_bytes(out, b" ")?;
+        write_piece(alloc, out, piece)?;
+    }
+    write_bytes(out, b"\n")?;
+    Ok(())
+}
+
+fn write_piece(alloc: Global, out: &mut Vec<u8>, piece: &Piece<'_>) -> Result<(), NoMemory>
+    ensures { OnOk result (out.new.items ≡ out.old.items ++ piece_text piece.now) }
+{
+    match piece {
+        Piece::Word(bytes) => write_bytes(out, bytes),
+        Piece::Number(number) => write_number(alloc, out, *number),
+        Piece::Cost(cost) => write_cost(alloc, out, *cost),
+        Piece::Side(connectors) => write_side(out, connectors),
+    }
+}
+
+// Appends the connectors of a side, with commas between them, or a dash where there is none.
+fn write_side(out: &mut Vec<u8>, connectors: &[Connector]) -> Result<(), NoMemory>
+    ensures { OnOk result (out.new.items ≡ out.old.items ++ side_text connectors.now) }
+{
+    match connectors.split_first() {
+        None => write_bytes(out, b"-"),
+        Some((first, rest)) => write_connectors(out, first, rest),
+    }
+}
+
+fn write_connectors(
+    out: &mut Vec<u8>,
+    first: &Connector,
+    rest: &[Connector],
+) -> Result<(), NoMemory>
+    ensures { OnOk result (out.new.items ≡ out.old.items ++ side_text (first.now ∷ rest.now)) }
+{
+    write_connector(out, first)?;
+    for connector in rest {
+        write_bytes(out, b",")?;
+        write_connector(out, connector)?;
+    }
+    Ok(())
+}
+
+// Appends the connector without its direction sign.
+fn write_connector(out: &mut Vec<u8>, connector: &Connector) -> Result<(), NoMemory>
+    ensures { OnOk result (out.new.items ≡ out.old.items ++ connector_text connector.now) }
+{
+    if connector.is_multi() {
+        write_bytes(out, b"@")?;
+    }
+    write_bytes(out, connector.caps())?;
+    write_bytes(out, connector.subs())?;
+    Ok(())
+}
