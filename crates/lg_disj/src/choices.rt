@@ -26,7 +26,7 @@ pub(crate) fn choices_of(alloc: Global, e: &Expr) -> Result<Vec<Choice>, NoMemor
         Expr::Empty => only(alloc, Choice::empty(alloc)),
         Expr::Conn(connector) => only(alloc, Choice::single(alloc, connector)?),
         Expr::And(members) => {
-            // Else the members before one without choices might have any number of products.
+            // The members before one that has no choice may have any number of products.
             if has_no_choice(e) {
                 Ok(Vec::new(alloc))
             } else {

@@ -26,8 +26,8 @@ use std::alloc::Global;
 /// strictly increasing by left list and right list.
 ///
 /// There are at most 1,000,000, since a formula has no more choices. A disjunct has at most 255 connectors on a side, and
-/// its cost is at most 10^13 thousandths from zero. Time and memory grow in proportion to the choices and their lengths,
-/// but for the sort.
+/// its cost is at most 10^13 thousandths from zero. The call fails only for want of memory. Its time and memory grow in
+/// proportion to the choices and their lengths, but for the sort.
 pub fn expand(alloc: Global, word: &Text, formula: &Formula) -> Result<Disjuncts, NoMemory>
     ensures disjuncts { IfOk result (λ ds. AreDisjuncts word.now (tree_of formula.now) ds) }
     ensures fits { IfOk result (λ ds. All FitsProblem ds) }
@@ -39,3 +39,6 @@ pub fn expand(alloc: Global, word: &Text, formula: &Formula) -> Result<Disjuncts
     let kept = cheapest(all)?;
     disjuncts_of(alloc, word, kept)
 }
+
+#[cfg(test)]
+mod tests;

@@ -1,0 +1,318 @@
+ghost use Rattle.std.specs.Prelude.{◌≡◌, [], ◌∷◌, List, length, IfOk, pos};
+ghost use Rattle.lg_gram.specs.declared.listing.Token.{Token as SeenToken};
+ghost use Rattle.lg_gram.specs.Linkages.{IsLinkage};
+ghost use Rattle.lg_text.specs.Texts.{IsPrintable};
+
+use crate::{bound_text, linkage_text, page_text};
+use lg_base::{Cost, Text, Texts};
+use lg_gram::{
+    Bound, Chosen, Connector, Connectors, Disjunct, Link, Linkage, Links, Page, PageItem,
+    PageItems, Token, Tokens, Violation, matches,
+};
+use std::alloc::Global;
+use std::process::Abort;
+use std::test::Fail;
+
+// Four words, each as it is written.
+fn tokens(alloc: Global, words: [&[u8]; 4]) -> Result<Tokens, Fail>
+    ensures { IfOk result (λ tokens. length tokens ≡ 4) }
+{
+    let [first, second, third, fourth] = words;
+    let mut items = Vec::new(alloc);
+    items.push(token(alloc, first)?)?;
+    items.push(token(alloc, second)?)?;
+    items.push(token(alloc, third)?)?;
+    items.push(token(alloc, fourth)?)?;
+    Ok(Tokens::of(items))
+}
+
+fn token(alloc: Global, word: &[u8]) -> Result<Token, Fail> {
+    let text = Text::of(alloc, word)?;
+    let words = Texts::of(Vec::new(alloc));
+    Ok(Token {
+        from: 0,
+        to: 0,
+        text,
+        words,
+    })
+}
+
+fn side(alloc: Global, one: Connector) -> Result<Connectors, Fail>
+    ensures { IfOk result (λ side. side ≡ one ∷ []) }
+{
+    let mut items = Vec::new(alloc);
+    items.push(one)?;
+    Ok(Connectors::of(items))
+}
+
+fn pair(alloc: Global, near: Connector, far: Connector) -> Result<Connectors, Fail>
+    ensures { IfOk result (λ side. side ≡ near ∷ far ∷ []) }
+{
+    let mut items = Vec::new(alloc);
+    items.push(near)?;
+    items.push(far)?;
+    Ok(Connectors::of(items))
+}
+
+// What a position uses.
+fn word(
+    alloc: Global,
+    text: &[u8],
+    left: Connectors,
+    right: Connectors,
+    cost: Cost,
+) -> Result<Option<Disjunct>, Fail>
+    ensures { IfOk result (λ word. word ≡ Some (record { word = text.now; left = left; right = right; cost = cost })) }
+{
+    let word = Text::of(alloc, text)?;
+    Ok(Some(Disjunct {
+        word,
+        left,
+        right,
+        cost,
+    }))
+}
+
+// A word with one connector, to the left.
+fn dependent(alloc: Global, text: &[u8], one: Connector) -> Result<Option<Disjunct>, Fail>
+    ensures { IfOk result (λ word. word ≡ Some (record { word = text.now; left = one ∷ []; right = []; cost = pos 0 })) }
+{
+    let left = side(alloc, one)?;
+    let word = word(
+        alloc,
+        text,
+        left,
+        Connectors::of(Vec::new(alloc)),
+        Cost::of(0),
+    )?;
+    Ok(word)
+}
+
+// A word with two connectors to the right.
+fn head(
+    alloc: Global,
+    text: &[u8],
+    near: Connector,
+    far: Connector,
+    cost: Cost,
+) -> Result<Option<Disjunct>, Fail>
+    ensures { IfOk result (λ word. word ≡ Some (record { word = text.now; left = []; right = near ∷ far ∷ []; cost = cost })) }
+{
+    let right = pair(alloc, near, far)?;
+    let word = word(alloc, text, Connectors::of(Vec::new(alloc)), right, cost)?;
+    Ok(word)
+}
+
+fn chosen(
+    alloc: Global,
+    first: Option<Disjunct>,
+    second: Option<Disjunct>,
+    third: Option<Disjunct>,
+) -> Result<Vec<Option<Disjunct>>, Fail>
+    ensures { IfOk result (λ chosen. chosen.items ≡ first ∷ second ∷ third ∷ None ∷ []) }
+{
+    let mut items = Vec::new(alloc);
+    items.push(first)?;
+    items.push(second)?;
+    items.push(third)?;
+    items.push(None)?;
+    Ok(items)
+}
+
+// The first position is linked to the next two.
+fn links(alloc: Global) -> Result<Vec<Link>, Fail>
+    ensures { IfOk result (λ links. links.items ≡
+        record { left = 0; lplace = 0; right = 1; rplace = 0 } ∷ record { left = 0; lplace = 1; right = 2; rplace = 0 } ∷ []) }
+{
+    let mut items = Vec::new(alloc);
+    items.push(Link {
+        left: 0,
+        lplace: 0,
+        right: 1,
+        rplace: 0,
+    })?;
+    items.push(Link {
+        left: 0,
+        lplace: 1,
+        right: 2,
+        rplace: 0,
+    })?;
+    Ok(items)
+}
+
+fn linkage(chosen: Vec<Option<Disjunct>>, links: Vec<Link>) -> Result<Linkage, Fail>
+    ensures value { IfOk result (λ g. g ≡ record { chosen = chosen.items; links = links.items }) }
+    ensures limits { IfOk result IsLinkage }
+{
+    let linkage = Linkage::of(Chosen::of(chosen), Links::of(links)).ok_or("a linkage")?;
+    Ok(linkage)
+}
+
+// The first word is linked to the next two, and the fourth is unlinked.
+fn fork(
+    rt: &impl Abort,
+    alloc: Global,
+    near: (Connector, Connector),
+    far: (Connector, Connector),
+    cost: Cost,
+) -> Result<Linkage, Fail>
+    ensures { IfOk result (λ g. (tokens : List SeenToken) → length tokens ≡ 4 → IsPrintable tokens g) }
+{
+    assert!(rt; matches(&near.0, &near.1));
+    assert!(rt; matches(&far.0, &far.1));
+    let first = head(alloc, b"x", near.0, far.0, cost)?;
+    let second = dependent(alloc, b"y", near.1)?;
+    let third = dependent(alloc, b"z", far.1)?;
+    let chosen = chosen(alloc, first, second, third)?;
+    let links = links(alloc)?;
+    let linkage = linkage(chosen, links)?;
+    Ok(linkage)
+}
+
+fn connector(caps: &[u8], subs: &[u8], multi: bool, right: bool) -> Result<Connector, Fail> {
+    let connector = Connector::of(caps, subs, multi, right).ok_or("a connector")?;
+    Ok(connector)
+}
+
+// x has the connectors S**b and @B to the right.
+fn stars(rt: &impl Abort, alloc: Global) -> Result<Linkage, Fail>
+    ensures { IfOk result (λ g. (tokens : List SeenToken) → length tokens ≡ 4 → IsPrintable tokens g) }
+{
+    let near = (
+        connector(b"S", b"**b", false, true)?,
+        connector(b"S", b"s", false, false)?,
+    );
+    let far = (
+        connector(b"B", b"", true, true)?,
+        connector(b"B", b"", false, false)?,
+    );
+    let linkage = fork(rt, alloc, near, far, Cost::of(1250))?;
+    Ok(linkage)
+}
+
+// x has the connectors C and B to the right.
+fn plain(rt: &impl Abort, alloc: Global) -> Result<Linkage, Fail>
+    ensures { IfOk result (λ g. (tokens : List SeenToken) → length tokens ≡ 4 → IsPrintable tokens g) }
+{
+    let near = (
+        connector(b"C", b"", false, true)?,
+        connector(b"C", b"", false, false)?,
+    );
+    let far = (
+        connector(b"B", b"", false, true)?,
+        connector(b"B", b"", false, false)?,
+    );
+    let linkage = fork(rt, alloc, near, far, Cost::of(-250))?;
+    Ok(linkage)
+}
+
+const STARS: &str = "linkage 1 unused 1 cost 1.250 length 3
+word 0 x x - S**b,@B 1.250
+word 1 y y Ss - 0.000
+word 2 z z B - 0.000
+word 3 w null
+link 0 1 Ss*b 0 0
+link 0 2 B 1 0
+";
+
+#[test]
+fn a_linkage_is_printed(rt: HostRuntime) -> Result<(), Fail> {
+    let alloc = rt.alloc();
+    let tokens = tokens(alloc, [b"x", b"y", b"z", b"w"])?;
+    let linkage = stars(&rt, alloc)?;
+    let text = linkage_text(alloc, &tokens, 1, &linkage)?;
+    assert_eq!(rt; text.as_slice(), STARS.as_bytes());
+    Ok(())
+}
+
+fn three(alloc: Global, one: PageItem, two: PageItem, three: PageItem) -> Result<PageItems, Fail>
+    ensures { IfOk result (λ items. items ≡ one ∷ two ∷ three ∷ []) }
+{
+    let mut items = Vec::new(alloc);
+    items.push(one)?;
+    items.push(two)?;
+    items.push(three)?;
+    Ok(PageItems::of(items))
+}
+
+const PAGE: &str = "linkage 1 unused 1 cost 1.250 length 3
+word 0 x x - S**b,@B 1.250
+word 1 y y Ss - 0.000
+word 2 z z B - 0.000
+word 3 w null
+link 0 1 Ss*b 0 0
+link 0 2 B 1 0
+fail 2 rule 1 link 0 1
+linkage 3 unused 1 cost -0.250 length 3
+word 0 x x - C,B -0.250
+word 1 y y C - 0.000
+word 2 z z B - 0.000
+word 3 w null
+link 0 1 C 0 0
+link 0 2 B 1 0
+page shown 2 examined 3 next 4 more
+";
+
+#[test]
+fn a_page_is_printed(rt: HostRuntime) -> Result<(), Fail> {
+    let alloc = rt.alloc();
+    let tokens = tokens(alloc, [b"x", b"y", b"z", b"w"])?;
+    let shown = PageItem {
+        number: 1,
+        linkage: stars(&rt, alloc)?,
+        broken: None,
+    };
+    let violation = Violation {
+        rule: 1,
+        left: 0,
+        right: 1,
+    };
+    let broken = PageItem {
+        number: 2,
+        linkage: plain(&rt, alloc)?,
+        broken: Some(violation),
+    };
+    let last = PageItem {
+        number: 3,
+        linkage: plain(&rt, alloc)?,
+        broken: None,
+    };
+    let page = Page {
+        items: three(alloc, shown, broken, last)?,
+        next: 4,
+        end: false,
+    };
+    let text = page_text(alloc, &tokens, &page)?;
+    assert_eq!(rt; text.as_slice(), PAGE.as_bytes());
+    Ok(())
+}
+
+#[test]
+fn an_empty_page_is_its_last_line(rt: HostRuntime) -> Result<(), Fail> {
+    let alloc = rt.alloc();
+    let tokens = tokens(alloc, [b"w", b"z", b"z", b"z"])?;
+    let page = Page {
+        items: PageItems::of(Vec::new(alloc)),
+        next: 3,
+        end: true,
+    };
+    let text = page_text(alloc, &tokens, &page)?;
+    assert_eq!(rt;
+        text.as_slice(),
+        b"page shown 0 examined 0 next 3 end\n".as_slice()
+    );
+    Ok(())
+}
+
+#[test]
+fn a_bound_is_named(rt: HostRuntime) -> Result<(), Fail> {
+    let table = [
+        (Bound::TooManyWords(123), "too many words 123\n"),
+        (Bound::TooWide(5_000_000), "too many choices 5000000\n"),
+    ];
+    for (bound, line) in table {
+        let text = bound_text(rt.alloc(), bound)?;
+        assert_eq!(rt; text.as_slice(), line.as_bytes());
+    }
+    Ok(())
+}
