@@ -1,6 +1,6 @@
 -- Formulas: expressions within the limits.
-use Rattle.std.specs.Prelude.{◌≡◌, ◌≤◌, Bool, true, false, ◌&&◌, ℤ, pos, neg_ℤ, int_le}
-use Rattle.lg_gram.specs.Limits.{FORMULA_NODES, FORMULA_CHOICES, SIDE, DEPTH, PRICE}
+use Rattle.std.specs.Prelude.{◌≡◌, ◌≤◌, ◌+◌, ◌*◌, ℕ, Bool, true, false, ◌&&◌, ℤ, pos, neg_ℤ, int_le}
+use Rattle.lg_gram.specs.Limits.{FORMULA_NODES, FORMULA_CHOICES, SIDE, DEPTH, PRICE, LEVEL}
 use Rattle.lg_gram.specs.Trees.{Tree, Trees, empty, leaf, all_of, one_of, priced, no_trees, tree}
 use Rattle.lg_gram.specs.Measures.{node_count, choice_count, side_count, depth_of}
 
@@ -27,3 +27,9 @@ pub record IsFormula (t : Tree) : Type 0 where
   pub right_side : side_count true t ≤ SIDE
   pub depth : depth_of t ≤ DEPTH
   pub prices : prices_are_small t ≡ true
+
+-- A level is the greatest number of brackets open at once, where a macro counts as one bracket round its own. It fits a
+-- formula where it is within its limit and no leaf lies more than 3 * level + 2 steps below the root.
+pub record LevelFits (level : ℕ) (formula : Tree) : Type 0 where
+  pub few : level ≤ LEVEL
+  pub depth : depth_of formula ≤ 3 * level + 2

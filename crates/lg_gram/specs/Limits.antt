@@ -13,6 +13,14 @@ COUNTED = 2 ^ 40
 abbrev pub SIDE_COUNTED : ℕ
 SIDE_COUNTED = 2 ^ 32 - 1
 
+-- where the count of references to macros stops
+abbrev pub REFERENCES_COUNTED : ℕ
+REFERENCES_COUNTED = 2 ^ 32 - 1
+
+-- where the count of brackets open at once stops
+abbrev pub LEVEL_COUNTED : ℕ
+LEVEL_COUNTED = 2 ^ 32 - 1
+
 -- the nodes and the choices of a formula
 abbrev pub FORMULA_NODES : ℕ
 FORMULA_NODES = 1000000
@@ -23,6 +31,10 @@ FORMULA_CHOICES = 1000000
 -- the connectors on a side of a choice
 abbrev pub SIDE : ℕ
 SIDE = 255
+
+-- the brackets open at once
+abbrev pub LEVEL : ℕ
+LEVEL = 200
 
 -- how far a leaf of a formula lies below the root
 abbrev pub DEPTH : ℕ
