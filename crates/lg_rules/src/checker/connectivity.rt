@@ -1,14 +1,14 @@
 //! Connectivity: any two linked positions are joined by a walk over links.
-ghost use Rattle.std.specs.Prelude.{◌≡◌, ◌≢◌, ◌↔◌, ◌<◌, ◌≤◌, ℕ, [], length, EachIndex, IfNone, IfSome, slice_index, if◌then◌else◌, ◌==◌};
-ghost use Rattle.std.specs.List.{All, Contains};
+ghost use Rattle.std.specs.Prelude.{◌≡◌, ◌≢◌, ◌≤◌, ℕ, [], length, EachIndex, IfNone, IfSome, slice_index};
 ghost use Rattle.lg_gram.specs.Rules.{IsConnected, IsLinked, HasLink};
-ghost use Rattle.lg_gram.specs.Walks.{Walk, LinkFrom};
+ghost use Rattle.lg_gram.specs.Walks.{LinkFrom};
 ghost use Rattle.lg_rules.specs.Least.{IsLeast};
 ghost use Rattle.lg_rules.specs.Places.{ArePlaced, linkage_of};
 ghost use Rattle.lg_rules.specs.Verdicts.{ApartAt};
 
 use lg_gram::linkage::LINKAGE_POSITIONS;
 use lg_gram::{Disjunct, Link};
+use lg_walks::label_islands;
 
 /// The least linked position that no walk over links joins to the first linked position.
 pub(super) fn first_apart(chosen: &[Option<Disjunct>], links: &[Link]) -> Option<u32>
@@ -19,8 +19,7 @@ pub(super) fn first_apart(chosen: &[Option<Disjunct>], links: &[Link]) -> Option
         IfNone result (IsConnected (IsLinked g) (LinkFrom (HasLink g))) }
 {
     let mut labels = [0; LINKAGE_POSITIONS];
-    number(&mut labels);
-    label_all(links, &mut labels);
+    label_islands(links, &mut labels);
     let first = first_linked(chosen)?;
     first_labelled_otherwise(chosen, &labels, labels[first])
 }
@@ -49,39 +48,4 @@ fn first_labelled_otherwise(
         }
     }
     None
-}
-
-// Gives each position its own label.
-fn number(labels: &mut [usize])
-    ensures { (k : ℕ) → k < length labels.old → slice_index labels.new k ≡ k }
-{
-    for i in 0..labels.len() {
-        labels[i] = i;
-    }
-}
-
-// Gives the positions that a walk joins, and no others, one label.
-fn label_all(links: &[Link], labels: &mut [usize])
-    requires own { (k : ℕ) → k < length labels.old → slice_index labels.old k ≡ k }
-    requires within { All (λ l. (l.left < length labels.old) × (l.right < length labels.old)) links.now }
-    ensures { (a b : ℕ) → a < length labels.old → b < length labels.old
-        → (slice_index labels.new a ≡ slice_index labels.new b) ↔ Walk (LinkFrom (Contains links.now)) a b }
-{
-    for link in links {
-        let from = labels[link.left as usize];
-        let to = labels[link.right as usize];
-        replace(labels, from, to);
-    }
-}
-
-// Puts the second label wherever the first stands.
-fn replace(labels: &mut [usize], from: usize, to: usize)
-    ensures { (k : ℕ) → k < length labels.old
-        → slice_index labels.new k ≡ (if slice_index labels.old k == from then to else slice_index labels.old k) }
-{
-    for label in labels.iter_mut() {
-        if *label == from {
-            *label = to;
-        }
-    }
 }

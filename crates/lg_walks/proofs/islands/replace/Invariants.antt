@@ -1,5 +1,5 @@
 use Rattle.std.proofs.Common.{◌≡◌, ℕ, ◌<◌, ◌≤◌, get_or, cond, eqb, length}
-use Rattle.lg_rules.proofs.checker.connectivity.replace.Given as goal
+use Rattle.lg_walks.proofs.islands.replace.Given as goal
 
 -- the labels so far are replaced, and the others are as they were
 abbrev pub invariant-loop-label : goal.invariant-loop-label

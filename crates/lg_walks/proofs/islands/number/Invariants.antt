@@ -1,5 +1,5 @@
 use Rattle.std.proofs.Common.{◌≡◌, ℕ, ◌<◌, get_or}
-use Rattle.lg_rules.proofs.checker.connectivity.number.Given as goal
+use Rattle.lg_walks.proofs.islands.number.Given as goal
 
 -- the positions so far have their own labels
 abbrev pub invariant-loop-i : goal.invariant-loop-i
