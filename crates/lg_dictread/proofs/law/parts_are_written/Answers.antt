@@ -1,8 +1,0 @@
-use Rattle.lg_dictread.proofs.Lexemes.{token_right, token_only}
-use Rattle.lg_dictread.proofs.law.parts_are_written.Goals as goal
-
-pub returns-clause-written : goal.returns-clause-written
-returns-clause-written c = token_right
-
-pub returns-clause-only : goal.returns-clause-only
-returns-clause-only c = token_only c.cost_number_laws.ensures.once

@@ -1,0 +1,10 @@
+pub mod Reach
+pub mod Complete
+pub mod Sound
+pub mod Laxer
+pub mod Refusals
+pub mod First
+pub mod Tokens
+pub mod Costs
+pub mod Words
+pub mod Lexemes

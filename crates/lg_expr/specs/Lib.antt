@@ -1,0 +1,7 @@
+pub mod Parts
+pub mod Words
+pub mod Grammar
+pub mod Reading
+pub mod Automaton
+pub mod Classes
+pub mod View
