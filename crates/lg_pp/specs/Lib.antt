@@ -1,3 +1,0 @@
-pub mod Labels
-pub mod Domains
-pub mod Breaks
