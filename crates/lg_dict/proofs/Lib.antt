@@ -1,0 +1,4 @@
+pub mod Points
+pub mod Lookups
+pub mod Gathered
+pub mod Words

@@ -1,0 +1,82 @@
+-- Look-ups by bytes in tables whose keys are bytes.
+use Rattle.std.proofs.Common.{◌≡◌, ◌<◌, ℕ, length, get_or, All, subst, List, [], ◌∷◌, ◌++◌, Bool, true, false, cond, if◌then◌else◌, map, nat_eq, vec_len, Option, Some, None, refl, sym, ap, ◌∙◌}
+use Rattle.std.proofs.lemmas.Bool.{cases_Bool, cond-true, cond-false}
+use mathlib.Core.Logic.{⊎_elim}
+use lib.Pointwise.{pointwise}
+use Rattle.std.specs.declared.vec.Vec.{Vec}
+use Rattle.std.specs.Map.{KeepsOthers, lookup}
+use Rattle.std.specs.Option.{option_map, option_map_or, UnwrapsOrElse}
+use Rattle.std.specs.Ordering.{nat_cmp}
+use Rattle.std.specs.Cmp.Lexicographic.{slice_cmp, bytes_decides, nat_list_eq_equiv, nat_list_cmp_total, texts_ties}
+use Rattle.std.specs.FinMap.{get, find, from_entries, get-from_entries}
+use Rattle.indexmap.specs.IndexMap.{IndexMap, Updates, get as get_in}
+use Rattle.std.specs.List.{IsAmong}
+use Rattle.std.proofs.lemmas.Option.{slice_get-get_or}
+use Rattle.lg_gram.specs.Trees.{empty, tree_of}
+use Rattle.lg_gram.specs.declared.expr.Expr.{Expr}
+use Rattle.lg_dict.specs.Tables.{text_entries, at_text, listed, same_text, tree_at}
+
+-- how the keys of a table are compared
+abbrev pub key_eq : {A : Type 0} → Vec ℕ A → Vec ℕ A → Bool
+key_eq a b = pointwise nat_eq a.items b.items
+
+-- each entry with what its value stands for
+abbrev pub shown_as : {V X : Type 0} → (V → X) → List (List ℕ × V) → List (List ℕ × X)
+shown_as g es = map (λ e. (e.0, g e.1)) es
+
+found_shown : {A V X : Type 0} (g : V → X) (text : List ℕ) (es : List (Vec ℕ A × V))
+    → find (slice_cmp nat_cmp) text (shown_as g (map (λ (e : Vec ℕ A × V). (e.0.items, e.1)) es)) ≡ option_map g (lookup (λ k. pointwise nat_eq text k.items) es)
+found_shown g text [] = refl
+found_shown {A} {V} {X} g text (e ∷ es) =
+    let step : (b : Bool) → cond b (Some (g e.1)) (option_map g (lookup (λ k. pointwise nat_eq text k.items) es)) ≡ option_map g (cond b (Some e.1) (lookup (λ k. pointwise nat_eq text k.items) es))
+    = λ b. elim b as (λ t. cond t (Some (g e.1)) (option_map g (lookup (λ k. pointwise nat_eq text k.items) es)) ≡ option_map g (cond t (Some e.1) (lookup (λ k. pointwise nat_eq text k.items) es))) [ true ↦ refl | false ↦ refl ] in
+    ap (λ b. cond b (Some (g e.1)) (find (slice_cmp nat_cmp) text (shown_as g (map (λ (e : Vec ℕ A × V). (e.0.items, e.1)) es)))) (sym (texts_ties text e.0.items))
+    ∙ ap (cond (pointwise nat_eq text e.0.items) (Some (g e.1))) (found_shown g text es)
+    ∙ step (pointwise nat_eq text e.0.items)
+
+module _ {A V S : Type 0} where
+  -- a change at a key is seen at its bytes alone
+  pub at_text-updates : (old new : IndexMap (Vec ℕ A) V S) (key : Vec ℕ A) (w : Option V) → Updates key_eq old new key w
+      → (text : List ℕ) → at_text new text ≡ cond (same_text text key.items) w (at_text old text)
+  unfolding KeepsOthers
+  at_text-updates old new key w h text =
+      ⊎_elim
+      (λ same. ap (at_text new) ((bytes_decides text key.items).0 same) ∙ h.1 ∙ sym (cond-true (same_text text key.items) w (at_text old text) same))
+      (λ other.
+      h.3 (λ k. pointwise nat_eq text k.items) (λ x y p. nat_list_eq_equiv.congr text x.items y.items p)
+      (λ k p. nat_list_eq_equiv.symm text k.items ∙ sym (nat_list_eq_equiv.congr key.items k.items text p) ∙ nat_list_eq_equiv.symm key.items text ∙ other)
+      ∙ sym (cond-false (same_text text key.items) w (at_text old text) other))
+      (cases_Bool (same_text text key.items))
+
+  -- what the map of the entries has at a text is what the table has there
+  pub get-shown : {X : Type 0} (g : V → X) (table : IndexMap (Vec ℕ A) V S) (text : List ℕ)
+      → get (from_entries {R = slice_cmp nat_cmp} (shown_as g (text_entries table))) text ≡ option_map g (at_text table text)
+  get-shown g table text = get-from_entries nat_list_cmp_total _ text ∙ found_shown g text table.entries
+
+unwrapped : {B : Type 0} (found : Option (Vec (List ℕ) B)) (start : Vec (List ℕ) B) → UnwrapsOrElse found (λ x. (x.items ≡ []) × (vec_len x ≡ 0)) start
+    → start.items ≡ option_map_or (λ words. words.items) found []
+unwrapped None start h = h.0
+unwrapped (Some words) start h = ap (λ words. words.items) h
+
+module _ {A B S : Type 0} where
+  -- one more word at a key
+  pub listed-push : (old new : IndexMap (Vec ℕ A) (Vec (List ℕ) B) S) (key : Vec ℕ A) (list start : Vec (List ℕ) B) (found : Option (Vec (List ℕ) B)) (word : List ℕ)
+      → Updates key_eq old new key (Some list) → found ≡ get_in key_eq old key → UnwrapsOrElse found (λ x. (x.items ≡ []) × (vec_len x ≡ 0)) start → list.items ≡ start.items ++ word ∷ []
+      → (text : List ℕ) → listed new text ≡ (if same_text text key.items then listed old text ++ word ∷ [] else listed old text)
+  listed-push old new key list start found word h is from more text =
+      let items : list.items ≡ listed old key.items ++ word ∷ [] = more ∙ ap (λ l. l ++ word ∷ []) (unwrapped found start from ∙ ap (λ o. option_map_or (λ words. words.items) o []) is) in
+      ap (λ o. option_map_or (λ words. words.items) o []) (at_text-updates old new key (Some list) h text)
+      ∙ ⊎_elim
+      (λ same. ap (λ b. option_map_or (λ words. words.items) (cond b (Some list) (at_text old text)) []) same ∙ items
+      ∙ ap (λ t. listed old t ++ word ∷ []) (sym ((bytes_decides text key.items).0 same))
+      ∙ sym (cond-true (same_text text key.items) (listed old text ++ word ∷ []) (listed old text) same))
+      (λ other. ap (λ b. option_map_or (λ words. words.items) (cond b (Some list) (at_text old text)) []) other
+      ∙ sym (cond-false (same_text text key.items) (listed old text ++ word ∷ []) (listed old text) other))
+      (cases_Bool (same_text text key.items))
+
+-- what holds of all holds of one of them
+pub among_all : {X : Type 0} (P : X → Type 0) (xs : List X) (x : X) → All P xs → IsAmong xs x → P x
+among_all P xs x all one = subst P (sym one.1.1) (all one.0 x one.1.0)
+
+pub tree_at-get_or : (formulas : List Expr) (place : ℕ) (formula : Expr) → place < length formulas → formula ≡ get_or formulas place formula → tree_at formulas place ≡ tree_of formula
+tree_at-get_or formulas place formula within is = ap (λ o. option_map_or tree_of o empty) (slice_get-get_or formulas place formula within ∙ ap Some (sym is))

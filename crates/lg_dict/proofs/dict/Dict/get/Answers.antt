@@ -1,0 +1,26 @@
+use Rattle.std.proofs.Common.{◌<◌, length, Some, ap, sym, ◌∙◌}
+use Rattle.std.specs.Option.{option_map}
+use Rattle.std.specs.FinMap.{get}
+use Rattle.indexmap.specs.IndexMap.{values}
+use Rattle.lg_gram.specs.Trees.{tree_of}
+use Rattle.lg_dict.specs.Tables.{tree_at}
+use Rattle.lg_dict.specs.Dictionary.{Dictionary}
+use Rattle.lg_dict.proofs.Lookups.{get-shown, among_all, tree_at-get_or}
+use Rattle.lg_dict.proofs.dict.Dict.get.Goals as goal
+
+pub returns-in_err-place : goal.returns-in_err-place
+returns-in_err-place c =
+    ap (option_map (λ formula. tree_of formula.now)) c.from_residual.ensures
+    ∙ ap (option_map (tree_at c.self.inside.formulas.items)) c.in_err-place.ensures.value
+    ∙ sym (get-shown (tree_at c.self.inside.formulas.items) c.self.inside.words c.args.word.now)
+    ∙ ap (λ (d : Dictionary). get d.words c.args.word.now) c.self.view_is
+
+pub returns : goal.returns
+returns c =
+    let formulas = c.self.inside.formulas.items in
+    let place = c.in_ok-place.field-0.now in
+    let within : place < length formulas = among_all (λ n. n < length formulas) (values c.self.inside.words) place c.self.invariant.words c.in_ok-place.ensures.member in
+    ap Some (sym (tree_at-get_or formulas place c.index.result.now within c.index.ensures))
+    ∙ ap (option_map (tree_at formulas)) c.in_ok-place.ensures.value
+    ∙ sym (get-shown (tree_at formulas) c.self.inside.words c.args.word.now)
+    ∙ ap (λ (d : Dictionary). get d.words c.args.word.now) c.self.view_is

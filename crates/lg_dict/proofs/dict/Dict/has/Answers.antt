@@ -1,0 +1,15 @@
+use Rattle.std.proofs.Common.{◌||◌, ◌==◌, not, length, ap, sym, ◌∙◌}
+use Rattle.lg_dict.specs.Tables.{listed}
+use Rattle.lg_dict.proofs.Words.{has_seen}
+use Rattle.lg_dict.proofs.dict.Dict.has.Goals as goal
+
+pub returns-then-contains_key : goal.returns-then-contains_key
+returns-then-contains_key c =
+    has_seen c.self.inside c.args.self.now c.self.view_is c.self.invariant c.args.text.now c.contains_key.result
+    (ap (λ b. b || not (length (listed c.self.inside.stems c.args.text.now) == 0)) (sym c.contains_key.ensures ∙ c.if-contains_key.true) ∙ sym c.if-contains_key.true)
+
+pub returns-else-contains_key : goal.returns-else-contains_key
+returns-else-contains_key c =
+    has_seen c.self.inside c.args.self.now c.self.view_is c.self.invariant c.args.text.now (not c.is_empty.result)
+    (ap (λ b. b || not (length (listed c.self.inside.stems c.args.text.now) == 0)) (sym c.contains_key.ensures ∙ c.if-contains_key.false)
+    ∙ ap (λ l. not (length l == 0)) (sym c.with_stem.ensures) ∙ ap not (sym c.is_empty.ensures))

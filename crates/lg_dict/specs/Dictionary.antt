@@ -1,0 +1,59 @@
+-- What contracts see of a dictionary: two finite maps.
+use Rattle.std.specs.Prelude.{◌≡◌, ◌≢◌, ◌⊎◌, ◌↔◌, ℕ, List, map, All, AllPairs, Contains, IsSome}
+use Rattle.std.specs.List.{flat_map}
+use Rattle.std.specs.List.Sorted.{IsStrictlySortedBy}
+use Rattle.std.specs.Ordering.{nat_cmp}
+use Rattle.std.specs.Cmp.Lexicographic.{slice_cmp}
+use Rattle.std.specs.FinMap.{FinMap, get, from_entries}
+use Rattle.lg_gram.specs.Trees.{Tree, tree_of}
+use Rattle.lg_gram.specs.Formulas.{LevelFits}
+use Rattle.lg_gram.specs.declared.entry.Entry.{Entry}
+use Rattle.lg_dict.specs.Subscripts.{stem_of}
+
+-- a finite map from texts, in the order of their bytes
+abbrev pub TextMap : Type 0 → Type 0
+TextMap V = FinMap (slice_cmp nat_cmp) V
+
+-- the formula of each word, and the formula and the level of each macro; formulas are seen as trees
+pub record Dictionary : Type 0 where
+  pub words : TextMap Tree
+  pub macros : TextMap (Tree × ℕ)
+
+-- all words of the entries, in their order
+abbrev pub words_in : List Entry → List (List ℕ)
+words_in entries = flat_map (λ e. e.words) entries
+
+-- all macros of the entries, in their order
+abbrev pub macros_in : List Entry → List (List ℕ)
+macros_in entries = flat_map (λ e. e.macros) entries
+
+-- no word and no macro stands twice, and each entry's level fits its formula
+pub record AreEntries (entries : List Entry) : Type 0 where
+  pub words : AllPairs (λ a b. a ≢ b) (words_in entries)
+  pub macros : AllPairs (λ a b. a ≢ b) (macros_in entries)
+  pub levels : All (λ e. LevelFits e.level (tree_of e.formula)) entries
+
+-- each word of the entries with its formula
+abbrev pub words_with_formulas : List Entry → List (List ℕ × Tree)
+words_with_formulas entries = flat_map (λ e. map (λ word. (word, tree_of e.formula)) e.words) entries
+
+-- each macro of the entries with its formula and its level
+abbrev pub macros_with_formulas : List Entry → List (List ℕ × (Tree × ℕ))
+macros_with_formulas entries = flat_map (λ e. map (λ name. (name, (tree_of e.formula, e.level))) e.macros) entries
+
+-- the dictionary of the entries: each of their words has its entry's formula, each macro its entry's formula and level, and there is nothing else
+abbrev pub dictionary_of : List Entry → Dictionary
+dictionary_of entries = record {
+  words = from_entries (words_with_formulas entries);
+  macros = from_entries (macros_with_formulas entries);
+}
+
+-- a word of the dictionary that equals the text or has it as stem
+pub record IsWordOf (dict : Dictionary) (text word : List ℕ) : Type 0 where
+  pub kept : IsSome (get dict.words word)
+  pub fits : (word ≡ text) ⊎ (stem_of word ≡ text)
+
+-- exactly those words, increasing by bytes
+pub record AreWordsOf (dict : Dictionary) (text : List ℕ) (words : List (List ℕ)) : Type 0 where
+  pub rise : IsStrictlySortedBy (slice_cmp nat_cmp) words
+  pub exactly : (word : List ℕ) → Contains words word ↔ IsWordOf dict text word

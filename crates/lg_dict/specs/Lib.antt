@@ -1,0 +1,5 @@
+pub mod Subscripts
+pub mod Dictionary
+pub mod Stored
+pub mod Tables
+pub mod Layout

@@ -1,0 +1,13 @@
+//! The dictionary: words and macros with their formulas, and views of it.
+#![tactic(auto)]
+
+pub mod dict;
+pub mod subscript;
+pub mod tables;
+#[cfg(test)]
+mod tests;
+pub mod view;
+
+pub use dict::Dict;
+pub use subscript::{stem, words_have_one_stem};
+pub use view::View;

@@ -1,0 +1,107 @@
+//! The hash tables of a dictionary, each made once from the entries. Their keys are bytes.
+ghost use Rattle.std.specs.Prelude.{◌≡◌, ◌≢◌, ◌<◌, ◌++◌, [], ◌∷◌, ℕ, List, map, filter, length, All, AllPairs, IfOk, OnOk, nat_eq, if◌then◌else◌};
+ghost use Rattle.std.specs.List.{IsDistinct};
+ghost use Rattle.indexmap.specs.IndexMap.{values};
+ghost use Rattle.lg_dict.specs.Subscripts.{stem_of};
+ghost use Rattle.lg_dict.specs.Dictionary.{words_in, macros_in, words_with_formulas, macros_with_formulas, AreEntries};
+ghost use Rattle.lg_dict.specs.Tables.{text_entries, text_keys, listed, same_text, with_trees, with_macros, IsMacro};
+
+use crate::subscript::stem;
+use indexmap::IndexMap;
+use lg_base::{NoMemory, Text};
+use lg_gram::Entry;
+use std::alloc::Global;
+
+pub(crate) type Table<V> = IndexMap<Vec<u8>, V>;
+
+/// Where a macro's formula stands among the formulas, and its level.
+#[derive(Clone, Copy, Debug, PartialEq, Eq)]
+pub struct Macro {
+    pub formula: usize,
+    pub level: u32,
+}
+
+/// The place of its entry for each word.
+pub(crate) fn word_table(alloc: Global, entries: &[Entry]) -> Result<Table<usize>, NoMemory>
+    requires { AreEntries entries.now }
+    ensures kept { IfOk result (λ table. with_trees (map (λ e. e.formula) entries.now) (text_entries table) ≡ words_with_formulas entries.now) }
+    ensures within { IfOk result (λ table. All (λ place. place < length entries.now) (values table)) }
+{
+    let mut table = IndexMap::new(alloc);
+    for (place, entry) in entries.iter().enumerate() {
+        add_names(alloc, &mut table, entry.words.items(), place)?;
+    }
+    Ok(table)
+}
+
+/// The place of its entry, and the entry's level, for each macro.
+pub(crate) fn macro_table(alloc: Global, entries: &[Entry]) -> Result<Table<Macro>, NoMemory>
+    requires { AreEntries entries.now }
+    ensures kept { IfOk result (λ table. with_macros (map (λ e. e.formula) entries.now) (text_entries table) ≡ macros_with_formulas entries.now) }
+    ensures fit { IfOk result (λ table. All (IsMacro (map (λ e. e.formula) entries.now)) (values table)) }
+{
+    let mut table = IndexMap::new(alloc);
+    for (place, entry) in entries.iter().enumerate() {
+        let found = Macro {
+            formula: place,
+            level: entry.level,
+        };
+        add_names(alloc, &mut table, entry.macros.items(), found)?;
+    }
+    Ok(table)
+}
+
+// Gives each name the value. None of the names is there yet.
+fn add_names<V: Copy>(
+    alloc: Global,
+    table: &mut Table<V>,
+    names: &[Text],
+    value: V,
+) -> Result<(), NoMemory>
+    requires { IsDistinct same_text (text_keys table.old ++ names.now) }
+    ensures { OnOk result (text_entries table.new ≡ text_entries table.old ++ map (λ name. (name, value)) names.now) }
+{
+    for name in names {
+        let key = copied(alloc, name.bytes())?;
+        table.insert(key, value)?;
+    }
+    Ok(())
+}
+
+fn copied(alloc: Global, bytes: &[u8]) -> Result<Vec<u8>, NoMemory>
+    ensures { IfOk result (λ copy. copy.items ≡ bytes.now) }
+{
+    let copy = bytes.to_vec(alloc)?;
+    Ok(copy)
+}
+
+/// The words of each stem.
+pub(crate) fn stem_table(alloc: Global, words: &Table<usize>) -> Result<Table<Vec<Text>>, NoMemory>
+    ensures { IfOk result (λ stems. (text : List ℕ) → listed stems text ≡ filter (λ word. same_text text (stem_of word)) (text_keys words.now)) }
+{
+    let mut stems = IndexMap::new(alloc);
+    for word in words.keys() {
+        list_word(alloc, &mut stems, word.as_slice())?;
+    }
+    Ok(stems)
+}
+
+// Adds a word to those of its stem.
+fn list_word(alloc: Global, stems: &mut Table<Vec<Text>>, word: &[u8]) -> Result<(), NoMemory>
+    ensures { OnOk result ((text : List ℕ) → listed stems.new text ≡ (if same_text text (stem_of word.now) then listed stems.old text ++ word.now ∷ [] else listed stems.old text)) }
+{
+    let key = copied(alloc, stem(word))?;
+    let word = Text::of(alloc, word)?;
+    stems.entry(key)?.or_default().push(word)?;
+    Ok(())
+}
+
+/// The words that a table of stems lists for a stem. No memory.
+pub(crate) fn with_stem<'a>(stems: &'a Table<Vec<Text>>, stem: &[u8]) -> &'a [Text]
+    ensures { result.now ≡ listed stems.now stem.now }
+{
+    match stems.get(stem) {
+        Some(words) => words.as_slice(),
+        None => &[],
+    }
+}
