@@ -10,9 +10,10 @@ use Rattle.std.proofs.lemmas.List.{length-map}
 use Rattle.std.proofs.lemmas.List.Folds.{prefix_len-append}
 use Rattle.lg_gram.specs.declared.entry.RawExpr.{RawExpr}
 use Rattle.lg_gram.specs.Trees.{tree, trees_of}
+use Rattle.lg_gram.specs.Limits.{REFERENCES_COUNTED}
 use Rattle.lg_gram.specs.RawTrees.{raw_tree_of, raw_trees_in, macros_of, macros_in}
 use Rattle.lg_gram.specs.Measures.{choice_count, product_in}
-use Rattle.lg_gram.specs.Filled.{Formulas, filled, filled_in, is_unknown, FirstUnknown, REFERENCES_COUNTED, highest}
+use Rattle.lg_gram.specs.Filled.{Formulas, filled, filled_in, is_unknown, FirstUnknown, highest}
 
 pub filled_product-drop : (formulas : Formulas) (es : List RawExpr) (i : ℕ) (d : RawExpr) → i < length es →
     product_in (filled_in formulas (raw_trees_in (drop i es))) ≡ choice_count (filled formulas (raw_tree_of (get_or es i d))) * product_in (filled_in formulas (raw_trees_in (drop (i + 1) es)))

@@ -1,8 +1,9 @@
 -- Expressions with their macros put in.
-use Rattle.std.specs.Prelude.{ℕ, ◌≡◌, ◌+◌, ◌-◌, ◌^◌, ◌<◌, min, max, length, List, [], ◌∷◌, map, Option, Some, None, Bool, is_none}
+use Rattle.std.specs.Prelude.{ℕ, ◌≡◌, ◌+◌, ◌<◌, min, max, length, List, [], ◌∷◌, map, Option, Some, None, Bool, is_none}
 use Rattle.std.specs.List.{position_or_len}
 use Rattle.std.specs.ControlFlow.{MatchControlFlow}
 use Rattle.std.specs.declared.ops.ControlFlow.{ControlFlow}
+use Rattle.lg_gram.specs.Limits.{REFERENCES_COUNTED}
 use Rattle.lg_gram.specs.Trees.{Tree, Trees, empty, leaf, all_of, one_of, priced, no_trees, tree}
 use Rattle.lg_gram.specs.RawTrees.{RawTree, RawTrees, raw_empty, raw_leaf, named, raw_all, raw_one, raw_priced, no_raw_trees, raw_tree, macros_of}
 
@@ -36,10 +37,6 @@ macro_names t = map (λ m. m.0) (macros_of t)
 abbrev pub is_unknown : Formulas → List ℕ → Bool
 is_unknown formulas name = is_none (formulas name)
 
--- where the count of references stops
-abbrev pub REFERENCES_COUNTED : ℕ
-REFERENCES_COUNTED = 2 ^ 32 - 1
-
 -- Of references that are counted from `first` on: the number of the first that is not known, or else the next number.
 abbrev pub FirstUnknown : Formulas → List (List ℕ × ℕ) → ℕ → ControlFlow ℕ ℕ → Type 0
 FirstUnknown formulas references first answer =
@@ -55,10 +52,6 @@ level_within (Some m) = m.1
 -- how many brackets a reference opens at most, where so many are open already: a macro counts as one bracket round its own
 abbrev pub level_reached : Formulas → List ℕ × ℕ → ℕ
 level_reached formulas m = m.1 + 1 + level_within (formulas m.0)
-
--- where the count of levels stops
-abbrev pub LEVEL_COUNTED : ℕ
-LEVEL_COUNTED = 2 ^ 32 - 1
 
 abbrev pub highest : List ℕ → ℕ
 highest [] = 0

@@ -13,6 +13,14 @@ COUNTED = 2 ^ 40
 abbrev pub SIDE_COUNTED : ℕ
 SIDE_COUNTED = 2 ^ 32 - 1
 
+-- where the count of references to macros stops
+abbrev pub REFERENCES_COUNTED : ℕ
+REFERENCES_COUNTED = 2 ^ 32 - 1
+
+-- where the count of brackets open at once stops
+abbrev pub LEVEL_COUNTED : ℕ
+LEVEL_COUNTED = 2 ^ 32 - 1
+
 -- the nodes and the choices of a formula
 abbrev pub FORMULA_NODES : ℕ
 FORMULA_NODES = 1000000

@@ -13,6 +13,8 @@ pub mod listing;
 pub mod macros;
 pub mod order;
 pub mod problem;
+#[cfg(test)]
+mod tests;
 
 pub use connector::{Connector, Connectors, link_label, matches};
 pub use disjunct::{Chosen, Disjunct, Disjuncts, Positions};

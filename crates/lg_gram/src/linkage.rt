@@ -4,6 +4,10 @@ ghost use Rattle.std.specs.List.{All, sum_by};
 ghost use Rattle.std.specs.List.Sorted.{IsStrictlySortedBy};
 ghost use Rattle.std.specs.Option.{option_cmp};
 ghost use Rattle.std.specs.Cmp.Lexicographic.{slice_cmp};
+ghost use Rattle.std.specs.Cmp.{partial_order_from_own_ties};
+ghost use Rattle.std.specs.Cmp.Rules.{comparing};
+ghost use Rattle.std.specs.Ordering.{as_partial_cmp};
+ghost use Rattle.std.proofs.Common.{rules};
 ghost use Rattle.lg_base.specs.Costs.{IsWithinCosts};
 ghost use Rattle.lg_gram.specs.Limits.{LINKAGE_POSITIONS};
 ghost use Rattle.lg_gram.specs.Disjuncts.{disjunct_cmp};
@@ -50,6 +54,30 @@ impl Ranked for Link {
     }
 
     ghost total = { Prim.search (comparing, rules) depth 12 };
+}
+
+impl Ord for Link {
+    ghost cmp = { link_cmp };
+
+    ghost total = { Prim.search (comparing, rules) depth 12 };
+
+    ghost matches_partial_cmp = { Prim.search (comparing, rules) depth 12 };
+
+    ghost matches_eq = { Prim.search (comparing, rules) depth 14 };
+
+    fn cmp(&self, other: &Link) -> Ordering {
+        self.rank(other)
+    }
+}
+
+impl PartialOrd for Link {
+    ghost partial_cmp = { as_partial_cmp link_cmp };
+
+    ghost laws = { partial_order_from_own_ties (Prim.search (comparing, rules) depth 12) (Prim.search (comparing, rules) depth 14) };
+
+    fn partial_cmp(&self, other: &Link) -> Option<Ordering> {
+        Some(self.rank(other))
+    }
 }
 
 /// A list of links.

@@ -2,11 +2,11 @@
 ghost use Rattle.std.specs.Prelude.{◌≡◌, ◌+◌, ◌<◌, ◌^◌, ◌-◌, min, max, true, false, length, map, IfOk, IfSome, MatchOption, Some, None};
 ghost use Rattle.std.specs.List.{position};
 ghost use Rattle.std.specs.Option.{option_map};
-ghost use Rattle.lg_gram.specs.Limits.{COUNTED, SIDE_COUNTED};
+ghost use Rattle.lg_gram.specs.Limits.{COUNTED, SIDE_COUNTED, REFERENCES_COUNTED, LEVEL_COUNTED};
 ghost use Rattle.lg_gram.specs.Trees.{tree_of, trees_in, expr_items};
 ghost use Rattle.lg_gram.specs.Measures.{node_count, nodes_in, choice_count, product_in, choices_in, side_count, side_in, longest_in};
 ghost use Rattle.lg_gram.specs.RawTrees.{raw_tree_of, raw_trees_in, raw_items, macros_of, macros_in};
-ghost use Rattle.lg_gram.specs.Filled.{filled, filled_in, put_in, macro_names, is_unknown, FirstUnknown, REFERENCES_COUNTED, level_within, level_reached, highest, filled_level, LEVEL_COUNTED};
+ghost use Rattle.lg_gram.specs.Filled.{filled, filled_in, put_in, macro_names, is_unknown, FirstUnknown, level_within, level_reached, highest, filled_level};
 
 use crate::entry::{RawEntry, RawExpr, RawExprs};
 use crate::expr::{Expr, Exprs, choices, nodes, side_length};

@@ -1,6 +1,7 @@
 use Rattle.std.proofs.Common.{◌≡◌, min, max, ◌≤◌, drop, map}
+use Rattle.lg_gram.specs.Limits.{LEVEL_COUNTED}
 use Rattle.lg_gram.specs.RawTrees.{raw_items, raw_trees_in, macros_in}
-use Rattle.lg_gram.specs.Filled.{level_reached, highest, LEVEL_COUNTED}
+use Rattle.lg_gram.specs.Filled.{level_reached, highest}
 use Rattle.lg_gram.proofs.macros.+filled_level.Given as goal
 
 abbrev pub invariant-level_among-loop-member : goal.invariant-level_among-loop-member

@@ -1,7 +1,8 @@
 use Rattle.std.proofs.Common.{ℕ, ◌≤◌, drop}
 use Rattle.std.specs.declared.ops.ControlFlow.{ControlFlow}
+use Rattle.lg_gram.specs.Limits.{REFERENCES_COUNTED}
 use Rattle.lg_gram.specs.RawTrees.{raw_items, raw_trees_in, macros_in}
-use Rattle.lg_gram.specs.Filled.{FirstUnknown, REFERENCES_COUNTED}
+use Rattle.lg_gram.specs.Filled.{FirstUnknown}
 use Rattle.lg_gram.proofs.macros.+first_unknown.Given as goal
 
 -- what is found among the other members is found among all
