@@ -2,7 +2,7 @@
 use Rattle.std.proofs.Common.{◌≡◌, ◌≢◌, ℕ, ◌<◌, ◌≤◌, Bool, true, false, cond, nat_eq, ℤ, pos, negsuc, List, [], ◌∷◌, ◌++◌, ◌⊎◌, inl, inr, length, Option, None, Some, refl, sym, ap, subst, ◌∙◌, arith}
 use Rattle.std.specs.Prelude.{IsTrue, codes}
 use Rattle.std.specs.Cmp.Lexicographic.{same_text}
-use Rattle.std.proofs.lemmas.Bool.{eqb-true, false≢true}
+use Rattle.std.proofs.lemmas.Bool.{eqb-true, false≢true, and_parts}
 use Rattle.std.proofs.lemmas.Bool.Decides.{nat_tests}
 use Rattle.std.proofs.lemmas.List.{append-nil}
 use Rattle.std.specs.List.{list_all}
@@ -11,7 +11,7 @@ use Rattle.lg_base.specs.Costs.{AreDigits, CostForm, IsCostNumber, ReadsCost, Ha
 use Rattle.lg_base.specs.Costs.CostForm.{Whole, WholeAndPart, Part as PartAlone}
 use Rattle.lg_gram.specs.Names.{is_capital}
 use Rattle.lg_gram.specs.Connectors.{Connector}
-use Rattle.lg_gram.proofs.Names.{written_parts, and_parts}
+use Rattle.lg_gram.proofs.Names.{written_parts}
 use Rattle.lg_lex.specs.Tokens.{Lexeme, sign, quoted, plain, broken}
 use Rattle.lg_expr.specs.declared.part.Operator.TheVariants.{And, Or}
 use Rattle.lg_expr.specs.declared.part.Bracket.TheVariants.{Round, Curly, Square}

@@ -18,18 +18,18 @@ use Rattle.lg_gram.specs.Problems.{IsProblem}
 use Rattle.lg_gram.specs.Rules.{Belongs}
 use Rattle.lg_gram.proofs.Orders.{disjuncts_total}
 
-Less≢Equal : Less ≡ Equal → ⊥
+pub Less≢Equal : Less ≡ Equal → ⊥
 Less≢Equal h = let e : ◌≡◌ {A = ℕ} 0 1 = cc in omega (arith, e)
 
-Greater≢Equal : Greater ≡ Equal → ⊥
+pub Greater≢Equal : Greater ≡ Equal → ⊥
 Greater≢Equal h = let e : ◌≡◌ {A = ℕ} 0 1 = cc in omega (arith, e)
 
-first_equal : (o p : Ordering) → ordering_then o p ≡ Equal → o ≡ Equal
+pub first_equal : (o p : Ordering) → ordering_then o p ≡ Equal → o ≡ Equal
 first_equal Less p h = h
 first_equal Equal p h = refl
 first_equal Greater p h = h
 
-second_equal : (o p : Ordering) → ordering_then o p ≡ Equal → p ≡ Equal
+pub second_equal : (o p : Ordering) → ordering_then o p ≡ Equal → p ≡ Equal
 second_equal Less p h = absurd (Less≢Equal h)
 second_equal Equal p h = h
 second_equal Greater p h = absurd (Greater≢Equal h)

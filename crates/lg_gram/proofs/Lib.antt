@@ -1,6 +1,7 @@
 pub mod Orders
 pub mod Letters
 pub mod Names
+pub mod Apart
 pub mod Caps
 pub mod Costs
 pub mod Lists

@@ -2,13 +2,14 @@
 use Rattle.std.proofs.Common.{◌≡◌, ℕ, zero, suc, ◌<◌, ◌≤◌, true, List, [], ◌∷◌, length, take, max, refl, sym, ap, ◌∙◌, arith, get_or}
 use Rattle.std.specs.List.{list_all}
 use Rattle.std.specs.Cmp.Derive.{both_true}
+use Rattle.std.proofs.lemmas.Bool.{and_parts}
 use Rattle.std.proofs.lemmas.Bool.Decides.{nat_tests}
 use Rattle.std.proofs.lemmas.List.{same_lists, get_or-take, get_or_default}
 use Rattle.std.proofs.Common.{length-take-le}
 use Rattle.std.specs.Prelude.{if◌then◌else◌, Option, Some, None}
 use Rattle.lg_gram.specs.Names.{Name, IsName, STAR, is_subscript, is_written, trimmed}
 use Rattle.lg_gram.specs.Connectors.{Connector, name_of, either, merged, label_of}
-use Rattle.lg_gram.proofs.Names.{and_parts, written_parts, is_written_from}
+use Rattle.lg_gram.proofs.Names.{written_parts, is_written_from}
 
 pub length-merged : (xs ys : List ℕ) → length (merged xs ys) ≡ max (length xs) (length ys)
 length-merged [] ys = omega arith

@@ -1,17 +1,17 @@
 -- The letters of names.
-use Rattle.std.proofs.Common.{◌≡◌, ℕ, zero, suc, ◌+◌, ◌-◌, ◌<◌, ◌≤◌, Bool, true, false, List, [], ◌∷◌, ◌++◌, length, take, drop, replicate, refl, sym, ap, ◌∙◌, arith, append_assoc, length-append, length-take, ◌==◌, ◌&&◌, cond, Less, Greater}
+use Rattle.std.proofs.Common.{◌≡◌, ℕ, zero, suc, ◌+◌, ◌-◌, ◌<◌, ◌≤◌, Bool, true, false, List, [], ◌∷◌, ◌++◌, length, take, drop, replicate, refl, sym, ap, ◌∙◌, arith, append_assoc, length-append, length-take, ◌==◌, cond, Less, Greater}
 use Rattle.std.specs.Ordering.{nat_cmp, ordering_then, ordering_reverse}
 use Rattle.std.specs.Cmp.Lexicographic.{slice_cmp}
 use Rattle.std.proofs.lemmas.Cmp.{nat_list_cmp_total}
 use Rattle.std.proofs.Math.Seq.{take-nil}
-use Rattle.std.proofs.lemmas.Bool.{false≢true}
+use Rattle.std.proofs.lemmas.Bool.{false≢true, and_parts}
 use mathlib.Core.Bool.{beq}
 use Rattle.std.specs.Cmp.Derive.{both_true}
 use Rattle.std.proofs.lemmas.List.{length-replicate, take_at, drop_at, drop-replicate}
 use Rattle.std.proofs.lemmas.Bool.Decides.{nat_tests}
 use Rattle.std.specs.List.{list_all, suffix_len}
 use borrow.Rule.Slice.PartMut.{put_mid}
-use Rattle.lg_gram.specs.Names.{IsName, is_capital, is_subscript, is_written, trimmed, STAR}
+use Rattle.lg_gram.specs.Names.{IsName, is_capital, is_subscript, is_written, WrittenParts, trimmed, STAR}
 use Rattle.lg_gram.specs.Connectors.{Connector, name_of, connector_text, connector_cmp}
 use Rattle.lg_gram.specs.Stored.{IsStored, stored}
 
@@ -25,12 +25,6 @@ packed_parts caps subs h =
     rw (take_at caps zeros (length caps) refl, drop_at caps zeros (length caps) refl, drop-replicate {X = ℕ} (length caps) 16 0, drop-replicate {X = ℕ} (length caps + length subs - length caps) (16 - length caps) 0, count)
     (sym (append_assoc caps subs _))
 
-pub record WrittenParts (caps subs : List ℕ) : Type 0 where
-  pub some : 0 < length caps
-  pub few : length caps + length subs ≤ 16
-  pub capitals : list_all is_capital caps ≡ true
-  pub subscripts : list_all is_subscript subs ≡ true
-
 pub written_parts : (caps subs : List ℕ) → is_written caps subs ≡ true → WrittenParts caps subs
 written_parts caps subs h = record {
   some = grind (arith, nat_tests);
@@ -41,10 +35,6 @@ written_parts caps subs h = record {
 
 pub is_written_from : (caps subs : List ℕ) → WrittenParts caps subs → is_written caps subs ≡ true
 is_written_from caps subs h = grind (arith, nat_tests, h.some, h.few, h.capitals, h.subscripts)
-
-pub and_parts : (a b : Bool) → (a && b) ≡ true → (a ≡ true) × (b ≡ true)
-and_parts true b h = (refl, h)
-and_parts false b h = absurd (false≢true h)
 
 list_all-take : (p : ℕ → Bool) (xs : List ℕ) (n : ℕ) → list_all p xs ≡ true → list_all p (take n xs) ≡ true
 list_all-take p [] n h = rw take-nil refl

@@ -3,8 +3,9 @@ use Rattle.std.specs.Prelude.{◌≡◌, ℕ, ◌<◌, List, [], ◌∷◌, ◌+
 use Rattle.std.specs.Ordering.{nat_cmp, on, eq_of_both}
 use Rattle.std.specs.Bool.{beq}
 use Rattle.std.specs.declared.cmp.Ordering.{Ordering}
+use Rattle.std.specs.declared.cmp.Ordering.TheVariants.{Equal}
 use Rattle.std.specs.Cmp.Lexicographic.{slice_cmp, pointwise}
-use Rattle.lg_gram.specs.Names.{Name, STAR, trimmed}
+use Rattle.lg_gram.specs.Names.{Name, IsName, STAR, trimmed}
 
 -- What contracts see of a connector: its name, whether it may take several links (`@`), and whether it joins a word to the right (`+`) or to the left (`-`).
 pub record Connector : Type 0 where
@@ -53,6 +54,10 @@ connector_text c = if c.multi then 64 ∷ c.caps ++ c.subs else c.caps ++ c.subs
 -- by the bytes of the text without the sign
 abbrev pub connector_cmp : Connector → Connector → Ordering
 connector_cmp = on connector_text (slice_cmp nat_cmp)
+
+-- connectors of one direction that the order does not tell apart are one
+abbrev pub ConnectorsToldApart : Type 0
+ConnectorsToldApart = (a b : Connector) → IsName (name_of a) → IsName (name_of b) → a.right ≡ b.right → connector_cmp a b ≡ Equal → a ≡ b
 
 -- what `==` answers of names, and of connectors
 abbrev pub name_eq : Name → Name → Bool

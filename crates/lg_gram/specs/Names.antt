@@ -1,5 +1,5 @@
 -- Names: of connectors, and of links, where they are called labels.
-use Rattle.std.specs.Prelude.{◌≡◌, ℕ, ◌+◌, ◌-◌, List, length, take, Bool, true, ◌&&◌, ◌||◌, ◌==◌, nat_le, nat_lt}
+use Rattle.std.specs.Prelude.{◌≡◌, ℕ, ◌+◌, ◌-◌, ◌<◌, ◌≤◌, List, length, take, Bool, true, ◌&&◌, ◌||◌, ◌==◌, nat_le, nat_lt}
 use Rattle.std.specs.List.{list_all, suffix_len}
 use Rattle.lg_gram.specs.Limits.{LETTERS}
 
@@ -24,6 +24,13 @@ is_subscript b = (nat_le 97 b && nat_le b 122) || (b == STAR)
 abbrev pub is_written : List ℕ → List ℕ → Bool
 is_written caps subs =
     nat_lt 0 (length caps) && nat_le (length caps + length subs) LETTERS && list_all is_capital caps && list_all is_subscript subs
+
+-- what it says of the letters that they may be written so
+pub record WrittenParts (caps subs : List ℕ) : Type 0 where
+  pub some : 0 < length caps
+  pub few : length caps + length subs ≤ LETTERS
+  pub capitals : list_all is_capital caps ≡ true
+  pub subscripts : list_all is_subscript subs ≡ true
 
 -- without the stars at the end
 abbrev pub trimmed : List ℕ → List ℕ

@@ -1,6 +1,8 @@
 //! Laws of the grammar, each the contract of a function without a body.
-ghost use Rattle.std.specs.Prelude.{◌≡◌, List, length};
+ghost use Rattle.std.specs.Prelude.{◌≡◌, ℕ, true, List, length};
 ghost use Rattle.std.specs.Cmp.{IsTotalOrder};
+ghost use Rattle.lg_gram.specs.Names.{is_written, WrittenParts};
+ghost use Rattle.lg_gram.specs.Connectors.{connector_cmp, ConnectorsToldApart};
 ghost use Rattle.lg_gram.specs.Trees.{Tree};
 ghost use Rattle.lg_gram.specs.Measures.{choices_of, choice_count};
 ghost use Rattle.lg_gram.specs.Linkages.{linkage_cmp};
@@ -11,6 +13,17 @@ ghost use Rattle.lg_gram.specs.Problems.{IsProblem};
 ghost use Rattle.lg_gram.specs.Rules.{Good};
 ghost use Rattle.lg_gram.specs.Ground.{mary_ran, mary_ran_linked, mary_ran_unlinked, linked_twice, crossed};
 ghost use Rattle.lg_gram.specs.declared.disjunct.Disjunct.{Disjunct};
+
+/// A name that may be written has one capital letter or more, at most 16 letters, and letters of the two kinds alone.
+pub fn names_are_written()
+    ensures { (caps subs : List ℕ) → is_written caps subs ≡ true → WrittenParts caps subs }
+{}
+
+/// The order of connectors is total, and tells connectors of one direction apart.
+pub fn connectors_are_ordered()
+    ensures total { IsTotalOrder connector_cmp }
+    ensures exact { ConnectorsToldApart }
+{}
 
 /// The order of linkages is total, and tells the linkages of one problem apart.
 pub fn linkages_are_ordered()
