@@ -4,6 +4,12 @@
 //! program takes now.
 #![tactic(auto)]
 
+mod entry;
 pub mod first_form;
+mod items;
+mod law;
+mod spot;
+mod stop;
 
 pub use first_form::{FirstFormError, read_first_form};
+pub use law::exactly_one_entry;
