@@ -10,7 +10,8 @@ use Rattle.lg_dictread.specs.Items.{Head, item, colon, other, head_of}
 use Rattle.lg_dictread.specs.Entries.{Token}
 use Rattle.lg_dictread.specs.Scanning.{scan_step, scan}
 use Rattle.lg_dictread.specs.Spots.{IsSpot}
-use Rattle.lg_dictread.specs.View.{KeepsItems, line_of}
+use Rattle.lg_dictread.specs.Places.{line_of}
+use Rattle.lg_dictread.specs.View.{KeepsItems}
 
 no_sign : (b : Bool) (i : Item) → item i ≡ cond b colon other → ⊥
 no_sign true i e = cc
