@@ -4,6 +4,15 @@
 //! program takes now.
 #![tactic(auto)]
 
+mod entry;
+mod entry_text;
 pub mod first_form;
+mod items;
+mod law;
+mod limits;
+mod spot;
+mod stop;
 
+pub use entry_text::{EntryError, read_entry};
 pub use first_form::{FirstFormError, read_first_form};
+pub use law::{exactly_one_entry, exactly_one_entry_text};

@@ -20,4 +20,4 @@ pub use law::{exactly_one, parts_are_written};
 pub use macros::{Known, Macros};
 pub use part::{Bracket, Operator, Part};
 pub use reader::{Progress, State, step};
-pub use word::part_of;
+pub use word::{is_macro_name, part_of};

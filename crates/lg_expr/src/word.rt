@@ -64,8 +64,8 @@ fn part_of_word(word: &[u8]) -> Part<'_>
     }
 }
 
-/// Whether a word stands in angle brackets with at least one byte between.
-fn is_macro_name(word: &[u8]) -> bool
+/// Whether a word stands in angle brackets with at least one byte between, as the name of a macro.
+pub fn is_macro_name(word: &[u8]) -> bool
     ensures { result ≡ is_macro_name word.now }
 {
     word.len() > 2 && word[0] == b'<' && word[word.len() - 1] == b'>'

@@ -4,3 +4,4 @@ pub mod Unique
 pub mod Loops
 pub mod Columns
 pub mod RunLists
+pub mod ValidFronts

@@ -1,8 +1,9 @@
 //! Facts about what the contracts of this crate cite, each proved of every text. The functions do nothing: a caller
 //! whose proof needs a fact calls its function.
 
-ghost use Rattle.std.specs.Prelude.{◌≡◌, ℕ, ◌+◌, ◌≤◌, false, List, ◌∷◌, ◌++◌, length, take, slice_range};
+ghost use Rattle.std.specs.Prelude.{◌≡◌, ℕ, ◌+◌, ◌≤◌, false, List, ◌∷◌, ◌++◌, length, take, slice_range, ◌⊎◌};
 ghost use Rattle.std.specs.List.{list_any};
+ghost use Rattle.std.specs.Str.{IsUtf8, IsValidUpTo};
 ghost use Rattle.lg_lex.specs.declared.marks.Marks.{Marks};
 ghost use Rattle.lg_lex.specs.declared.place.Place.{Place};
 ghost use Rattle.lg_lex.specs.declared.run.Separators.{Separators};
@@ -28,6 +29,13 @@ pub fn runs_are_one_list()
     ensures one { (separators : Separators) (runs : List (List ℕ × ℕ)) (before : ℕ) (bytes : List ℕ)
         → AreRuns separators runs before bytes
         → runs_of separators outside before bytes ≡ runs }
+{}
+
+/// Bytes are UTF-8, or have one first byte that belongs to no whole valid character.
+pub fn bytes_are_utf8_or_at_fault()
+    ensures some { (bytes : List ℕ) → IsUtf8 bytes ⊎ ((n : ℕ) × IsValidUpTo bytes n) }
+    ensures one { (bytes : List ℕ) (n m : ℕ) → IsValidUpTo bytes n → IsValidUpTo bytes m → n ≡ m }
+    ensures apart { (bytes : List ℕ) (n : ℕ) → IsValidUpTo bytes n → IsUtf8 bytes → ⊥ }
 {}
 
 /// The places of a text add up, from its first byte or from one place to a later one, and a column counts from the

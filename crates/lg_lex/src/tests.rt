@@ -1,6 +1,7 @@
 use crate::{
-    Class, Marks, Place, Separators, Token, class_of, next_run, next_token, place_at,
-    places_add_up, runs_are_one_list, tokens_are_one_list, utf8_fault, without_mark,
+    Class, Marks, Place, Separators, Token, bytes_are_utf8_or_at_fault, class_of, next_run,
+    next_token, place_at, places_add_up, runs_are_one_list, tokens_are_one_list, utf8_fault,
+    without_mark,
 };
 use std::test::Fail;
 
@@ -141,4 +142,5 @@ fn laws_do_nothing() {
     tokens_are_one_list();
     runs_are_one_list();
     places_add_up();
+    bytes_are_utf8_or_at_fault();
 }

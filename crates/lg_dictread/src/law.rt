@@ -1,0 +1,31 @@
+ghost use Rattle.std.specs.Prelude.{◌≡◌, ℕ, List, Result};
+ghost use Rattle.lg_expr.specs.Grammar.{Rules};
+ghost use Rattle.lg_dictread.specs.Entries.{Token, EntryAnswer, EntryIs};
+ghost use Rattle.lg_dictread.specs.Scanning.{answer_of};
+ghost use Rattle.lg_dictread.specs.declared.entry_text.EntryError.{EntryError};
+ghost use Rattle.lg_dictread.specs.EntryTexts.{EntryView, EntryTextIs};
+
+use lg_expr::exactly_one;
+use lg_lex::{bytes_are_utf8_or_at_fault, tokens_are_one_list};
+
+/// At the front of some tokens stands one entry, or they have one first fault.
+///
+/// The function does nothing: a caller whose proof needs the fact calls it.
+pub fn exactly_one_entry()
+    ensures some { (r : Rules) (ts : List Token) → EntryIs r ts (answer_of r ts) }
+    ensures one { (r : Rules) (ts : List Token) (x y : EntryAnswer) → EntryIs r ts x → EntryIs r ts y → x ≡ y }
+{
+    exactly_one();
+}
+
+/// A text is one entry or has one first fault.
+///
+/// The function does nothing: a caller whose proof needs the fact calls it.
+pub fn exactly_one_entry_text()
+    ensures some { (bytes : List ℕ) → (x : Result EntryView EntryError) × EntryTextIs bytes x }
+    ensures one { (bytes : List ℕ) (x y : Result EntryView EntryError) → EntryTextIs bytes x → EntryTextIs bytes y → x ≡ y }
+{
+    tokens_are_one_list();
+    bytes_are_utf8_or_at_fault();
+    exactly_one_entry();
+}

@@ -1,0 +1,69 @@
+//! The tokens of a text one by one, each with its place.
+
+ghost use Rattle.std.specs.Prelude.{◌≡◌, ◌≤◌, ◌<◌, [], ◌∷◌, length, IfSome, MatchOption};
+ghost use Rattle.lg_lex.specs.declared.marks.Marks.TheVariants.{Dictionary};
+ghost use Rattle.lg_lex.specs.Found.{lexeme_of, following};
+ghost use Rattle.lg_lex.specs.Lexing.{tokens_from};
+ghost use Rattle.lg_lex.specs.Places.{place_of};
+ghost use Rattle.lg_dictread.specs.Spots.{IsSpot};
+
+use lg_lex::{Marks, Place, Token, next_token};
+
+/// A spot in a text: the number of bytes before it, with its line and column.
+#[derive(Clone, Copy, Debug, PartialEq, Eq)]
+pub(crate) struct Spot {
+    pub(crate) at: usize,
+    pub(crate) place: Place,
+}
+
+/// A token, with the spots where it starts and ends.
+#[derive(Clone, Copy, Debug, PartialEq, Eq)]
+pub(crate) struct Spotted<'a> {
+    pub(crate) token: Token<'a>,
+    pub(crate) start: Spot,
+    pub(crate) end: Spot,
+}
+
+impl Spot {
+    /// Before the first byte.
+    pub(crate) const START: Spot = Spot {
+        at: 0,
+        place: Place::START,
+    };
+
+    /// A later spot of the same text. The time is linear in the bytes between.
+    pub(crate) fn on_to(self, text: &[u8], at: usize) -> Spot
+        requires here { IsSpot text.now self }
+        requires later { self.at ≤ at }
+        requires within { at ≤ length text.now }
+        ensures spot { IsSpot text.now result }
+        ensures at { result.at ≡ at }
+    {
+        Spot {
+            at,
+            place: self.place.past(&text[self.at..at]),
+        }
+    }
+}
+
+/// The first token at or after a spot, or `None` where no token follows.
+///
+/// The time is linear in the bytes from the spot to the token's end, so it is linear in the text over all its tokens.
+pub(crate) fn next_spotted(text: &[u8], from: Spot) -> Option<Spotted<'_>>
+    requires { IsSpot text.now from }
+    ensures start { IfSome result (λ f. IsSpot text.now f.start) }
+    ensures end { IfSome result (λ f. IsSpot text.now f.end) }
+    ensures later { IfSome result (λ f. from.at < f.end.at) }
+    ensures next { MatchOption result
+        (tokens_from Dictionary text.now from.at ≡ [])
+        (λ f. tokens_from Dictionary text.now from.at
+        ≡ (lexeme_of f.token, f.start.at) ∷ following f.token (tokens_from Dictionary text.now f.end.at)) }
+{
+    let found = next_token(Marks::Dictionary, text, from.at)?;
+    let start = from.on_to(text, found.start);
+    Some(Spotted {
+        token: found.token,
+        start,
+        end: start.on_to(text, found.end),
+    })
+}
