@@ -6,3 +6,5 @@ pub mod Places
 pub mod Spots
 pub mod EntryTexts
 pub mod View
+pub mod Definitions
+pub mod Texts

@@ -4,6 +4,7 @@
 //! program takes now.
 #![tactic(auto)]
 
+mod dict_error;
 mod entry;
 mod entry_text;
 pub mod first_form;
@@ -13,6 +14,7 @@ mod limits;
 mod spot;
 mod stop;
 
+pub use dict_error::{DictError, WordFileError};
 pub use entry_text::{EntryError, read_entry};
 pub use first_form::{FirstFormError, read_first_form};
-pub use law::{exactly_one_entry, exactly_one_entry_text};
+pub use law::{exactly_one_dictionary, exactly_one_entry, exactly_one_entry_text};
