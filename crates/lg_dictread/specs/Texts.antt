@@ -1,10 +1,9 @@
 -- What the text of a dictionary stands for: its entries, or its first fault.
 --   text := entry*
-use Rattle.std.specs.Prelude.{◌≡◌, ◌≢◌, ℕ, ◌<◌, ◌≤◌, min, max, List, [], ◌∷◌, ◌++◌, Option, Some, None, Bool, false, true, map, if◌then◌else◌}
+use Rattle.std.specs.Prelude.{◌≡◌, ◌≢◌, ℕ, ◌<◌, ◌≤◌, min, max, List, [], ◌∷◌, ◌++◌, Some, None, false, true, map, if◌then◌else◌}
 use Rattle.std.specs.List.{list_any}
 use Rattle.std.specs.Str.{IsValidUpTo}
 use Rattle.lg_base.specs.Contents.{Contents}
-use Rattle.lg_gram.specs.declared.entry.Item.{Item}
 use Rattle.lg_gram.specs.Filled.{Formulas, filled, filled_level}
 use Rattle.lg_gram.specs.Limits.{FORMULA_NODES, FORMULA_CHOICES, SIDE, COUNTED, SIDE_COUNTED, LEVEL}
 use Rattle.lg_gram.specs.Measures.{node_count, choice_count, side_count}
