@@ -6,3 +6,8 @@ pub mod ItemAnswers
 pub mod Measured
 pub mod TextAnswers
 pub mod Dictionaries
+pub mod Lookups
+pub mod Adding
+pub mod ErrorMaps
+pub mod Unread
+pub mod ItemTold

@@ -1,4 +1,5 @@
-use lg_base::Text;
+use lg_base::{NoMemory, Text};
+use std::alloc::{AllocError, AllocFailed};
 use thiserror::Error;
 
 /// Why a word file gives no words.
@@ -53,4 +54,37 @@ pub enum DictError {
     /// The line of an item that names a word file, the file's name, and why it gives no words.
     #[error("line {0}: a word file is {2}")]
     WordFile(u32, Text, WordFileError),
+}
+
+impl From<NoMemory> for DictError {
+    ghost use Rattle.std.specs.Prelude.{◌≡◌};
+    ghost use Rattle.lg_dictread.specs.declared.dict_error.DictError.TheVariants as errors;
+
+    ghost from_gives = { λ _ error. error ≡ errors.NoMemory };
+
+    fn from(_error: NoMemory) -> DictError {
+        DictError::NoMemory
+    }
+}
+
+impl From<AllocError> for DictError {
+    ghost use Rattle.std.specs.Prelude.{◌≡◌};
+    ghost use Rattle.lg_dictread.specs.declared.dict_error.DictError.TheVariants as errors;
+
+    ghost from_gives = { λ _ error. error ≡ errors.NoMemory };
+
+    fn from(_error: AllocError) -> DictError {
+        DictError::NoMemory
+    }
+}
+
+impl<T: Drop> From<AllocFailed<T>> for DictError {
+    ghost use Rattle.std.specs.Prelude.{◌≡◌};
+    ghost use Rattle.lg_dictread.specs.declared.dict_error.DictError.TheVariants as errors;
+
+    ghost from_gives = { λ _ error. error ≡ errors.NoMemory };
+
+    fn from(_error: AllocFailed<T>) -> DictError {
+        DictError::NoMemory
+    }
 }

@@ -4,6 +4,7 @@
 //! program takes now.
 #![tactic(auto)]
 
+mod define;
 mod dict_error;
 mod entry;
 mod entry_text;
@@ -11,8 +12,11 @@ pub mod first_form;
 mod items;
 mod law;
 mod limits;
+mod measure;
 mod spot;
 mod stop;
+mod table;
+mod word_file;
 
 pub use dict_error::{DictError, WordFileError};
 pub use entry_text::{EntryError, read_entry};
