@@ -46,19 +46,21 @@ module _ (known : Option Contents) (asked now : List (List ℕ)) (old : Defined)
   macros_listed = record listed { macros = names }
 
   pub word_told : (result : Result (Unit {0}) DictError) → now ≡ asked → TellsNames old.words more listed.words names ((text, line) ∷ []) result → Told kinds.Word with_words words_listed result
-  word_told (Ok done) same h =
-      (record { words = (text, line) ∷ []; macros = [] },
-      record { words = h; macros = adds_none old.macros listed.macros },
-      if_some known _ (λ contents. ([], asks_none asked now same, (refl, λ items rest answer further. defines old (item kinds.Word).0 line items (text ∷ []) rest answer refl h.are_new further))))
+  word_told (Ok done) same h = (
+    record { words = (text, line) ∷ []; macros = [] },
+    record { words = h; macros = adds_none old.macros listed.macros },
+    if_some known _ (λ contents. ([], asks_none asked now same, (refl, λ items rest answer further. defines old (item kinds.Word).0 line items (text ∷ []) rest answer refl h.are_new further))),
+  )
   word_told (Err error) same h =
       memory_error (IsTwice old.words ((text, line) ∷ [])) (λ e. Answers known (ItemIs old (item kinds.Word)) asked now (refuse_items e)) (AsksWithin asked now []) ([], [], refl, asks_none asked now same)
       (λ e again. if_some known _ (λ contents. ([], asks_none asked now same, (refl, λ items. twice old (item kinds.Word).0 line items (text ∷ []) e refl again)))) error h
 
   pub macro_told : (result : Result (Unit {0}) DictError) → now ≡ asked → TellsNames old.macros more listed.macros names ((text, line) ∷ []) result → Told kinds.Macro with_macros macros_listed result
-  macro_told (Ok done) same h =
-      (record { words = []; macros = (text, line) ∷ [] },
-      record { words = adds_none old.words listed.words; macros = h },
-      if_some known _ (λ contents. ([], asks_none asked now same, (refl, λ items rest answer further. defines old (item kinds.Macro).0 line items (text ∷ []) rest answer refl h.are_new further))))
+  macro_told (Ok done) same h = (
+    record { words = []; macros = (text, line) ∷ [] },
+    record { words = adds_none old.words listed.words; macros = h },
+    if_some known _ (λ contents. ([], asks_none asked now same, (refl, λ items rest answer further. defines old (item kinds.Macro).0 line items (text ∷ []) rest answer refl h.are_new further))),
+  )
   macro_told (Err error) same h =
       memory_error (IsTwice old.macros ((text, line) ∷ [])) (λ e. Answers known (ItemIs old (item kinds.Macro)) asked now (refuse_items e)) (AsksWithin asked now []) ([], [], refl, asks_none asked now same)
       (λ e again. if_some known _ (λ contents. ([], asks_none asked now same, (refl, λ items. twice old (item kinds.Macro).0 line items (text ∷ []) e refl again)))) error h
@@ -73,10 +75,11 @@ module _ (known : Option Contents) (asked now : List (List ℕ)) (old : Defined)
 
   pub file_told : (bytes : List ℕ) (result : Result (Unit {0}) DictError) → now ≡ asked ++ text ∷ [] → IfSome known (IsRead bytes)
       → TellsNames old.words more listed.words names (on_line line (words_of bytes)) result → Told kinds.File with_words words_listed result
-  file_told bytes (Ok done) same read h =
-      (record { words = on_line line (words_of bytes); macros = [] },
-      record { words = h; macros = adds_none old.macros listed.macros },
-      if_some_map known (IsRead bytes) _ (λ contents given. (text ∷ [], same, (refl, λ items rest answer further. defines old (item kinds.File).0 line items (words_of bytes) rest answer given h.are_new further))) read)
+  file_told bytes (Ok done) same read h = (
+    record { words = on_line line (words_of bytes); macros = [] },
+    record { words = h; macros = adds_none old.macros listed.macros },
+    if_some_map known (IsRead bytes) _ (λ contents given. (text ∷ [], same, (refl, λ items rest answer further. defines old (item kinds.File).0 line items (words_of bytes) rest answer given h.are_new further))) read,
+  )
   file_told bytes (Err error) same read h =
       memory_error (IsTwice old.words (on_line line (words_of bytes))) (λ e. Answers known (ItemIs old (item kinds.File)) asked now (refuse_items e)) (AsksWithin asked now (text ∷ [])) (text ∷ [], [], refl, same)
       (λ e again. if_some_map known (IsRead bytes) _ (λ contents given. (text ∷ [], same, (refl, λ items. twice old (item kinds.File).0 line items (words_of bytes) e given again))) read) error h

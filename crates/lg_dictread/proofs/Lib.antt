@@ -11,3 +11,4 @@ pub mod Adding
 pub mod ErrorMaps
 pub mod Unread
 pub mod ItemTold
+pub mod ItemsTold

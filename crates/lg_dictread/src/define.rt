@@ -42,11 +42,7 @@ fn define(
     ensures { TellsNames (text_entries table.old) (text_entries table.new) names.old.items names.new.items ((name.now, line) ∷ []) result }
 {
     if let Some(first) = add(alloc, table, name, line)? {
-        return Err(DictError::DuplicateWord(
-            Text::of(alloc, name)?,
-            first,
-            line,
-        ));
+        return Err(DictError::DuplicateWord(Text::of(alloc, name)?, first, line));
     }
     names.push(Text::of(alloc, name)?)?;
     Ok(())

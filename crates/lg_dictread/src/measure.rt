@@ -15,11 +15,7 @@ use lg_gram::{Formula, Macros, RawExpr};
 use std::alloc::Global;
 
 /// Tests the measures of the expression of an entry on this line. Nothing is built.
-pub(crate) fn measure<M: Macros>(
-    macros: &M,
-    expr: &RawExpr,
-    line: u32,
-) -> Result<(), DictError>
+pub(crate) fn measure<M: Macros>(macros: &M, expr: &RawExpr, line: u32) -> Result<(), DictError>
     ensures { let t = filled (M.formulas macros.now) (raw_tree_of expr.now) in
         MatchResult result (λ _. IsSmall t) (IsLarge t line) }
 {

@@ -23,6 +23,6 @@ loop-run-preserved c =
     record {
       in_range = c.in-Some.ensures.in_range.2;
       remains = remains_less (text_entries c.args.table.now) (text_entries c.loop-run.table) (text_entries c.define.new.table) c.args.names.now.items c.loop-run.names.items c.define.new.names.items
-      (lines 0) (lines c.loop-run.at) (lines c.in-Some.run'.end) (c.in-Some.run'.bytes.now, c.args.line)
-      (ap (λ (rs : List (List ℕ × ℕ)). on_line c.args.line (map (λ (r : List ℕ × ℕ). r.0) rs)) c.in-Some.ensures.next) c.loop-run.invariant.remains c.in_ok-define.ensures;
+          (lines 0) (lines c.loop-run.at) (lines c.in-Some.run'.end) (c.in-Some.run'.bytes.now, c.args.line)
+          (ap (λ (rs : List (List ℕ × ℕ)). on_line c.args.line (map (λ (r : List ℕ × ℕ). r.0) rs)) c.in-Some.ensures.next) c.loop-run.invariant.remains c.in_ok-define.ensures;
     }

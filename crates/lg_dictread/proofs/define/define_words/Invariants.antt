@@ -11,7 +11,7 @@ abbrev pub invariant-loop-run : goal.invariant-loop-run
 invariant-loop-run l = record {
   in_range : l.at ≤ length l.text;
   remains : Remains (text_entries l.fn.table) (text_entries l.table) l.fn.names.items l.names.items
-  (on_line l.line (map (λ r. r.0) (runs_from WhiteSpace l.text 0))) (on_line l.line (map (λ r. r.0) (runs_from WhiteSpace l.text l.at)));
+      (on_line l.line (map (λ r. r.0) (runs_from WhiteSpace l.text 0))) (on_line l.line (map (λ r. r.0) (runs_from WhiteSpace l.text l.at)));
 }
 
 abbrev pub decreases-loop-run : goal.decreases-loop-run
