@@ -1,3 +1,14 @@
 pub mod Entries
 pub mod Kept
 pub mod EntryTexts
+pub mod NewNames
+pub mod ItemAnswers
+pub mod Measured
+pub mod TextAnswers
+pub mod Dictionaries
+pub mod Lookups
+pub mod Adding
+pub mod ErrorMaps
+pub mod Unread
+pub mod ItemTold
+pub mod ItemsTold

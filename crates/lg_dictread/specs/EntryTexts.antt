@@ -1,5 +1,5 @@
 -- What a text of exactly one entry stands for, or its first fault. Macros stay as they are named.
-use Rattle.std.specs.Prelude.{◌≡◌, ℕ, List, [], ◌∷◌, map, slice_index, Result, Ok, Err}
+use Rattle.std.specs.Prelude.{◌≡◌, ℕ, List, [], ◌∷◌, map, Result, Ok, Err}
 use Rattle.std.specs.Str.{IsUtf8, IsValidUpTo}
 use Rattle.lg_gram.specs.declared.entry.Item.{Item}
 use Rattle.lg_gram.specs.declared.entry.RawEntry.{RawEntry}
@@ -14,13 +14,13 @@ use Rattle.lg_expr.specs.declared.macros.Known.TheVariants.{Free}
 use Rattle.lg_expr.specs.Grammar.{Rules}
 use Rattle.lg_dictread.specs.declared.entry_text.EntryError.{EntryError}
 use Rattle.lg_dictread.specs.declared.entry_text.EntryError.TheVariants.{NoMemory, NotUtf8, Syntax, CostForm, TooDeep}
-use Rattle.lg_dictread.specs.Limits.{BRACKETS}
+use Rattle.lg_gram.specs.Limits.{LEVEL}
 use Rattle.lg_dictread.specs.Entries.{Token, Written, EntryStands, EntryFault}
-use Rattle.lg_dictread.specs.Places.{place_left, line_of}
+use Rattle.lg_dictread.specs.Places.{place_left, entry_line}
 
 -- each macro may be named, at any depth
 abbrev pub free_rules : Rules
-free_rules = record { known = λ name. Free; limit = BRACKETS }
+free_rules = record { known = λ name. Free; limit = LEVEL }
 
 -- the text is UTF-8, and has these tokens after a byte order mark, from which places count
 pub record IsText (bytes : List ℕ) (ts : List Token) : Type 0 where
@@ -44,7 +44,7 @@ written_view text e = record {
   items = map (λ i. i.0) e.items;
   expr = e.expr;
   level = e.level;
-  line = slice_index (map (line_of text) e.items) 0;
+  line = entry_line text e.items;
 }
 
 -- the error that tells a fault at this place; no macro is unknown

@@ -6,3 +6,8 @@ pub mod Places
 pub mod Spots
 pub mod EntryTexts
 pub mod View
+pub mod Definitions
+pub mod Tables
+pub mod Telling
+pub mod Defining
+pub mod Texts

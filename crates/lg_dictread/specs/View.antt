@@ -7,7 +7,7 @@ use Rattle.lg_lex.specs.declared.place.Place.{Place}
 use Rattle.lg_lex.specs.Lexing.{tokens_from}
 use Rattle.lg_expr.specs.declared.fault.Fault.{Fault}
 use Rattle.lg_expr.specs.declared.fault.Fault.TheVariants.{Syntax, CostForm, UnknownMacro, TooDeep}
-use Rattle.lg_expr.specs.Parts.{Part, names, wrong}
+use Rattle.lg_expr.specs.Parts.{Part, names}
 use Rattle.lg_expr.specs.Automaton.{Answer, read, stopped}
 use Rattle.lg_dictread.specs.declared.stop.Stop.{Stop}
 use Rattle.lg_dictread.specs.declared.stop.Stop.TheVariants as stops
@@ -17,9 +17,9 @@ use Rattle.lg_dictread.specs.declared.items.PlacedItems.{PlacedItems}
 use Rattle.lg_dictread.specs.declared.entry.Expression.{Expression}
 use Rattle.lg_dictread.specs.declared.entry.One.{One}
 use Rattle.lg_dictread.specs.Items.{Head, item, colon, other}
-use Rattle.lg_dictread.specs.Entries.{Token, part, Written, EntryAnswer, entry, fault}
+use Rattle.lg_dictread.specs.Entries.{Token, Written, EntryAnswer, entry, fault}
 use Rattle.lg_dictread.specs.Scanning.{Scanned, items_end, items_stop}
-use Rattle.lg_dictread.specs.Places.{place_left, line_of}
+use Rattle.lg_dictread.specs.Places.{place_left, part_left, line_of}
 use Rattle.lg_dictread.specs.Spots.{IsSpot}
 use Rattle.lg_dictread.specs.EntryTexts.{EntryView, entry_view, written_view, IsErrorAt}
 use Rattle.lg_dictread.specs.declared.entry_text.EntryError.{EntryError}
@@ -30,11 +30,6 @@ abbrev pub head_view : code_head.Head → Head
 head_view (heads.Item kind name) = item (record { kind = kind; text = name.now })
 head_view heads.Colon = colon
 head_view heads.Other = other
-
--- what the first of the tokens that are left is in an expression
-abbrev pub part_left : List Token → Part
-part_left [] = wrong
-part_left (t ∷ ts) = part t
 
 -- a fault is told with the place of the token at fault, which has this part
 abbrev pub TellsFault : Fault → Place → Part → Stop → Type 0

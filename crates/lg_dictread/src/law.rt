@@ -4,9 +4,11 @@ ghost use Rattle.lg_dictread.specs.Entries.{Token, EntryAnswer, EntryIs};
 ghost use Rattle.lg_dictread.specs.Scanning.{answer_of};
 ghost use Rattle.lg_dictread.specs.declared.entry_text.EntryError.{EntryError};
 ghost use Rattle.lg_dictread.specs.EntryTexts.{EntryView, EntryTextIs};
+ghost use Rattle.lg_base.specs.Contents.{Contents};
+ghost use Rattle.lg_dictread.specs.Texts.{TextAnswer, DictionaryIs};
 
 use lg_expr::exactly_one;
-use lg_lex::{bytes_are_utf8_or_at_fault, tokens_are_one_list};
+use lg_lex::{bytes_are_utf8_or_at_fault, runs_are_one_list, tokens_are_one_list};
 
 /// At the front of some tokens stands one entry, or they have one first fault.
 ///
@@ -25,6 +27,20 @@ pub fn exactly_one_entry_text()
     ensures some { (bytes : List ℕ) → (x : Result EntryView EntryError) × EntryTextIs bytes x }
     ensures one { (bytes : List ℕ) (x y : Result EntryView EntryError) → EntryTextIs bytes x → EntryTextIs bytes y → x ≡ y }
 {
+    tokens_are_one_list();
+    bytes_are_utf8_or_at_fault();
+    exactly_one_entry();
+}
+
+/// A dictionary file stands for one list of entries or has one first fault, and it asks for one list of word files.
+///
+/// The function does nothing: a caller whose proof needs the fact calls it.
+pub fn exactly_one_dictionary()
+    ensures some { (contents : Contents) (bytes : List ℕ) → (asked : List (List ℕ)) × (answer : TextAnswer) × DictionaryIs contents bytes asked answer }
+    ensures one { (contents : Contents) (bytes : List ℕ) (asked other : List (List ℕ)) (x y : TextAnswer) →
+        DictionaryIs contents bytes asked x → DictionaryIs contents bytes other y → (asked ≡ other) × (x ≡ y) }
+{
+    runs_are_one_list();
     tokens_are_one_list();
     bytes_are_utf8_or_at_fault();
     exactly_one_entry();

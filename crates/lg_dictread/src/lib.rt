@@ -4,15 +4,21 @@
 //! program takes now.
 #![tactic(auto)]
 
+mod define;
+mod dict_error;
 mod entry;
 mod entry_text;
 pub mod first_form;
 mod items;
 mod law;
 mod limits;
+mod measure;
 mod spot;
 mod stop;
+mod table;
+mod word_file;
 
+pub use dict_error::{DictError, WordFileError};
 pub use entry_text::{EntryError, read_entry};
 pub use first_form::{FirstFormError, read_first_form};
-pub use law::{exactly_one_entry, exactly_one_entry_text};
+pub use law::{exactly_one_dictionary, exactly_one_entry, exactly_one_entry_text};

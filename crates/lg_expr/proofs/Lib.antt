@@ -8,3 +8,6 @@ pub mod Tokens
 pub mod Costs
 pub mod Words
 pub mod Lexemes
+pub mod AllOf
+pub mod Depths
+pub mod Prices

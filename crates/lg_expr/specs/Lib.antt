@@ -5,3 +5,4 @@ pub mod Reading
 pub mod Automaton
 pub mod Classes
 pub mod View
+pub mod Fits

@@ -1,11 +1,15 @@
-ghost use Rattle.std.specs.Prelude.{◌≡◌, ℕ, List, ◌⊎◌};
+ghost use Rattle.std.specs.Prelude.{◌≡◌, ℕ, ◌≤◌, List, ◌⊎◌};
+ghost use Rattle.lg_gram.specs.Filled.{Formulas};
+ghost use Rattle.lg_gram.specs.Limits.{LEVEL};
+ghost use Rattle.lg_gram.specs.RawTrees.{RawTree};
 ghost use Rattle.lg_lex.specs.Tokens.{Lexeme};
 ghost use Rattle.lg_expr.specs.Parts.{Part, wrong};
 ghost use Rattle.lg_expr.specs.Words.{Writes};
 ghost use Rattle.lg_expr.specs.Classes.{part_of_lexeme};
 ghost use Rattle.lg_expr.specs.Grammar.{Rules};
 ghost use Rattle.lg_expr.specs.Automaton.{Answer, run, start};
-ghost use Rattle.lg_expr.specs.Reading.{AnswerIs};
+ghost use Rattle.lg_expr.specs.Reading.{AnswerIs, StandFor};
+ghost use Rattle.lg_expr.specs.Fits.{rules_of, AllFit, FilledFits};
 
 use lg_base::cost_number_laws;
 
@@ -27,4 +31,16 @@ pub fn parts_are_written()
     ensures only { (x : Lexeme) (p : Part) → Writes x p → part_of_lexeme x ≡ p }
 {
     cost_number_laws();
+}
+
+/// With macros put in whose formulas keep to their levels, an expression's formula keeps to its own: no leaf lies deeper
+/// than three steps for each level and two more, and its costs are within their bounds.
+///
+/// The function does nothing: a caller whose proof needs the fact calls it.
+pub fn expressions_fit()
+    ensures { (formulas : Formulas) (limit : ℕ) (ts : List (Lexeme × ℕ)) (e : RawTree) (written : ℕ) (rest : List (Lexeme × ℕ)) →
+        AllFit formulas → limit ≤ LEVEL → StandFor (Lexeme × ℕ) (λ t. part_of_lexeme t.0) (rules_of formulas limit) ts e written rest
+        → FilledFits formulas written e }
+{
+    parts_are_written();
 }

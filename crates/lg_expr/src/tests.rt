@@ -1,6 +1,6 @@
 use crate::{
-    Fault, Known, Macros, Part, Progress, Refusal, State, exactly_one, part_of, parts_are_written,
-    step,
+    Fault, Known, Macros, Part, Progress, Refusal, State, exactly_one, expressions_fit, part_of,
+    parts_are_written, step,
 };
 use lg_gram::RawExpr;
 use lg_lex::{Marks, Token, next_token};
@@ -134,6 +134,7 @@ fn macros_count_as_a_bracket(rt: HostRuntime) {
 fn words_are_connectors(rt: HostRuntime) {
     exactly_one();
     parts_are_written();
+    expressions_fit();
     let table = [
         (b"S+".as_slice(), Some((false, true, 0))),
         (b"@MVp-", Some((true, false, 1))),

@@ -5,3 +5,4 @@ pub mod Loops
 pub mod Columns
 pub mod RunLists
 pub mod ValidFronts
+pub mod TokenTexts

@@ -1,6 +1,7 @@
 -- What a text is made of: gaps and tokens in turn.
 use Rattle.std.specs.Prelude.{◌≡◌, ◌≢◌, ℕ, ◌+◌, List, [], ◌∷◌, ◌++◌, length, ◌⊎◌}
 use Rattle.std.specs.List.{flat_map, AllByRecursion}
+use Rattle.std.specs.Str.{IsUtf8}
 use Rattle.lg_lex.specs.declared.marks.Class.TheVariants.{Blank, LineEnd, Percent, Quote, Sign, Other}
 use Rattle.lg_lex.specs.declared.marks.Marks.{Marks}
 use Rattle.lg_lex.specs.Classes.{line_feed, percent_sign, quotation_mark, class_of}
@@ -93,3 +94,10 @@ AreTokens marks (t ∷ ts) before bytes = (gap : List Skip) × (text : List ℕ)
     × IsGap marks gap × Spells marks t.0 text rest
     × (bytes ≡ gap_text gap ++ (text ++ rest)) × (t.1 ≡ before + length (gap_text gap))
     × AfterToken t.0 (ts ≡ []) (AreTokens marks ts (t.1 + length text) rest)
+
+-- the bytes that the token quotes, or that it is, are UTF-8
+abbrev pub HasUtf8 : Lexeme → Type 0
+HasUtf8 (sign b) = Unit {0}
+HasUtf8 (quoted w) = IsUtf8 w
+HasUtf8 (plain w) = IsUtf8 w
+HasUtf8 broken = Unit {0}

@@ -2,13 +2,13 @@
 //! whose proof needs a fact calls its function.
 
 ghost use Rattle.std.specs.Prelude.{◌≡◌, ℕ, ◌+◌, ◌≤◌, false, List, ◌∷◌, ◌++◌, length, take, slice_range, ◌⊎◌};
-ghost use Rattle.std.specs.List.{list_any};
+ghost use Rattle.std.specs.List.{list_any, AllByRecursion};
 ghost use Rattle.std.specs.Str.{IsUtf8, IsValidUpTo};
 ghost use Rattle.lg_lex.specs.declared.marks.Marks.{Marks};
 ghost use Rattle.lg_lex.specs.declared.place.Place.{Place};
 ghost use Rattle.lg_lex.specs.declared.run.Separators.{Separators};
 ghost use Rattle.lg_lex.specs.Classes.{line_feed};
-ghost use Rattle.lg_lex.specs.Tokens.{Lexeme, AreTokens};
+ghost use Rattle.lg_lex.specs.Tokens.{Lexeme, AreTokens, HasUtf8};
 ghost use Rattle.lg_lex.specs.Lexing.{between, lex};
 ghost use Rattle.lg_lex.specs.Runs.{AreRuns, outside, runs_of};
 ghost use Rattle.lg_lex.specs.Places.{first_place, capped, is_line_feed, place_of, place_after};
@@ -20,6 +20,14 @@ pub fn tokens_are_one_list()
     ensures one { (marks : Marks) (tokens : List (Lexeme × ℕ)) (before : ℕ) (bytes : List ℕ)
         → AreTokens marks tokens before bytes
         → lex marks between before bytes ≡ tokens }
+{}
+
+/// The tokens of a text that is UTF-8 are UTF-8.
+pub fn tokens_are_utf8()
+    ensures { (marks : Marks) (tokens : List (Lexeme × ℕ)) (bytes : List ℕ)
+        → IsUtf8 bytes
+        → AreTokens marks tokens 0 bytes
+        → AllByRecursion (λ token. HasUtf8 token.0) tokens }
 {}
 
 /// A text has one list of runs between separators, and `runs_of` gives it.

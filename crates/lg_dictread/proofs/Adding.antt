@@ -1,0 +1,57 @@
+-- Names that are added one after another.
+use Rattle.std.proofs.Common.{◌≡◌, ℕ, Option, None, List, [], ◌∷◌, ◌++◌, map, refl, sym, ap, subst, ◌∙◌, append_assoc}
+use Rattle.std.proofs.lemmas.List.{append-nil}
+use Rattle.lg_dictread.specs.declared.dict_error.DictError.{DictError}
+use Rattle.lg_dictread.specs.Telling.{UnlessMemory}
+use Rattle.lg_dictread.proofs.ErrorMaps.{memory_map}
+use Rattle.lg_dictread.specs.Definitions.{Lines, line_in, AreNew, IsTwice}
+use Rattle.lg_dictread.specs.Defining.{names_in, AddsNames}
+use Rattle.lg_dictread.proofs.NewNames.{more_twice}
+
+-- what is still to be added leads to all that was to be added at first
+pub record Remains (first now : Lines) (names more : List (List ℕ)) (all rest : Lines) : Type 0 where
+  pub are_new : AreNew now rest → AreNew first all
+  pub table : now ++ rest ≡ first ++ all
+  pub listed : more ++ names_in rest ≡ names ++ names_in all
+  pub twice : (error : DictError) → IsTwice now rest error → IsTwice first all error
+
+pub remains_all : (first : Lines) (names : List (List ℕ)) (all : Lines) → Remains first first names names all all
+remains_all first names all = record { are_new = λ h. h; table = refl; listed = refl; twice = λ error h. h }
+
+pub remains_less : (first now next : Lines) (names more most : List (List ℕ)) (all left rest : Lines) (d : List ℕ × ℕ) → left ≡ d ∷ rest → Remains first now names more all left → AddsNames now next more most (d ∷ [])
+    → Remains first next names most all rest
+remains_less first now next names more most all left rest d is h adds =
+    let at_first : Remains first now names more all (d ∷ rest) = subst (λ (l : Lines). Remains first now names more all l) is h in
+    record {
+      are_new = λ further. at_first.are_new (adds.are_new.0, subst (λ (l : Lines). AreNew l rest) adds.table further);
+      table = ap (λ (l : Lines). l ++ rest) adds.table ∙ append_assoc now (d ∷ []) rest ∙ at_first.table;
+      listed = ap (λ (l : List (List ℕ)). l ++ names_in rest) adds.listed ∙ append_assoc more (d.0 ∷ []) (names_in rest) ∙ at_first.listed;
+      twice = λ error further. at_first.twice error (more_twice now rest d error adds.are_new.0 (subst (λ (l : Lines). IsTwice l rest error) adds.table further));
+    }
+
+pub remains_none : (first now : Lines) (names more : List (List ℕ)) (all left : Lines) → left ≡ [] → Remains first now names more all left → AddsNames first now names more all
+remains_none first now names more all left is h =
+    let at_end : Remains first now names more all [] = subst (λ (l : Lines). Remains first now names more all l) is h in
+    record {
+      are_new = at_end.are_new tt;
+      table = sym (append-nil now) ∙ at_end.table;
+      listed = sym (append-nil more) ∙ at_end.listed;
+    }
+
+twice_more : (earlier rest : Lines) (d : List ℕ × ℕ) (error : DictError) → IsTwice earlier (d ∷ []) error → IsTwice earlier (d ∷ rest) error
+twice_more earlier rest d error h = record {
+  front = h.front;
+  again = h.again;
+  rest = h.rest ++ rest;
+  first = h.first;
+  split = ap (λ (l : Lines). l ++ rest) h.split ∙ append_assoc h.front (h.again ∷ h.rest) rest;
+  distinct = h.distinct;
+  before = h.before;
+  told = h.told;
+}
+
+-- the error of one name is that of all of them
+pub remains_twice : (first now : Lines) (names more : List (List ℕ)) (all left rest : Lines) (d : List ℕ × ℕ) (error : DictError) → left ≡ d ∷ rest → Remains first now names more all left
+    → UnlessMemory (IsTwice now (d ∷ [])) error → UnlessMemory (IsTwice first all) error
+remains_twice first now names more all left rest d error is h tells =
+    memory_map (IsTwice now (d ∷ [])) (IsTwice first all) (λ e k. h.twice e (subst (λ (l : Lines). IsTwice now l e) (sym is) (twice_more now rest d e k))) error tells
