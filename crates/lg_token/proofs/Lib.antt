@@ -1,0 +1,3 @@
+pub mod Hyphens
+pub mod Specials
+pub mod WordLists

@@ -1,0 +1,5 @@
+//! The tokens of a sentence.
+#![tactic(auto)]
+
+mod special;
+mod words;
