@@ -1,3 +1,4 @@
 pub mod Hyphens
 pub mod Specials
 pub mod WordLists
+pub mod Cutting
