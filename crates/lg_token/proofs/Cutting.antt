@@ -1,14 +1,12 @@
 -- The steps by which a chunk is cut.
-use Rattle.std.proofs.Common.{◌≡◌, ◌<◌, ◌+◌, ℕ, List, [], ◌∷◌, ◌++◌, Bool, length, map, reverse, Option, Some, None, MatchOption, Bor, refl, sym, ap, subst, ◌∙◌, arith, append_assoc, length-append}
+use Rattle.std.proofs.Common.{◌≡◌, ◌<◌, ◌+◌, ℕ, List, [], ◌∷◌, ◌++◌, Bool, length, map, reverse, Option, Some, None, MatchOption, Bor, refl, sym, ap, subst, ◌∙◌, arith, length-append}
 use Rattle.std.proofs.lemmas.List.{append-nil, reverse-append, map_push}
 use Rattle.lg_dict.specs.Dictionary.{Dictionary}
 use Rattle.lg_token.specs.declared.cuts.Off.{Off}
 use Rattle.lg_token.specs.declared.cuts.Cut.{Cut}
-use Rattle.lg_token.specs.declared.cuts.Side.{Side}
-use Rattle.lg_token.specs.declared.cuts.Side.TheVariants.{Before, After}
 use Rattle.lg_token.specs.Words.{Has, IsKnown}
-use Rattle.lg_token.specs.Cuts.{possessive, HasNoClosing, HasNoOpening, HasNoPossessive, Pieces, whole, with_before, with_after, IsCut, known, closing, opening, owner, unknown}
-use Rattle.lg_token.specs.Steps.{AreCut, pieces_in, put_back, IsClosing, IsOpening, IsPossessive, IsStep}
+use Rattle.lg_token.specs.Cuts.{possessive, HasNoClosing, HasNoOpening, HasNoPossessive, Pieces, whole, with_before, with_after, AreCut, closing, opening, owner, unknown}
+use Rattle.lg_token.specs.Steps.{pieces_in, put_back, IsClosing, IsOpening, IsPossessive, IsStep}
 
 shorter_front : (chunk rest end : List ℕ) → chunk ≡ rest ++ end → 0 < length end → length rest < length chunk
 shorter_front chunk rest end is some = let long : length chunk ≡ length rest + length end = ap length is ∙ length-append rest end in omega arith
@@ -56,44 +54,10 @@ around before p after = record {
   after = p.after ++ reverse (map (λ piece. piece.now) after);
 }
 
-around_none : (p : Pieces) → around [] p [] ≡ p
-around_none p = ap (λ after. record p { after = after }) (append-nil p.after)
-
--- one piece more
-around_before : (before after : List (Bor (List ℕ))) (piece : Bor (List ℕ)) (p : Pieces) → around before (with_before piece.now p) after ≡ around (before ++ piece ∷ []) p after
-around_before before after piece p =
-    let texts = λ (pieces : List (Bor (List ℕ))). map (λ (x : Bor (List ℕ)). x.now) pieces in
-    ap (λ front. record { before = front; middle = p.middle; after = p.after ++ reverse (texts after) })
-    (sym (append_assoc (texts before) (piece.now ∷ []) p.before) ∙ ap (λ l. l ++ p.before) (sym (map_push (λ (x : Bor (List ℕ)). x.now) before piece)))
-
-around_after : (before after : List (Bor (List ℕ))) (piece : Bor (List ℕ)) (p : Pieces) → around before (with_after p piece.now) after ≡ around before p (after ++ piece ∷ [])
-around_after before after piece p =
-    let texts = λ (pieces : List (Bor (List ℕ))). map (λ (x : Bor (List ℕ)). x.now) pieces in
-    ap (λ back. record { before = texts before ++ p.before; middle = p.middle; after = back })
-    (append_assoc p.after (piece.now ∷ []) (reverse (texts after))
-    ∙ ap (λ l. p.after ++ l) (sym (reverse-append (texts after) (piece.now ∷ [])) ∙ ap reverse (sym (map_push (λ (x : Bor (List ℕ)). x.now) after piece))))
-
 module _ (dict : Dictionary) (initial : Bool) (chunk : List ℕ) where
   -- whatever cuts what is left, cuts the chunk, with what was cut off around it
   pub record Leads (before : List (Bor (List ℕ))) (rest : List ℕ) (after : List (Bor (List ℕ))) : Type 0 where
     pub cuts : (p : Pieces) → AreCut dict initial rest p → AreCut dict initial chunk (around before p after)
-
-  pub leads_none : Leads [] chunk []
-  leads_none = record { cuts = λ p h. subst (AreCut dict initial chunk) (sym (around_none p)) h }
-
-  pub leads_before : (before after : List (Bor (List ℕ))) (rest : List ℕ) (off : Off) → off.side ≡ Before → IsStep dict initial rest off → Leads before rest after → Leads (before ++ off.piece ∷ []) off.rest.now after
-  leads_before before after rest off side step so_far = record {
-    cuts = λ p h.
-        subst (AreCut dict initial chunk) (ap (λ s. around before (put_back s off.piece.now p) after) side ∙ around_before before after off.piece p)
-        (so_far.cuts (put_back off.side off.piece.now p) (step.cuts p h));
-  }
-
-  pub leads_after : (before after : List (Bor (List ℕ))) (rest : List ℕ) (off : Off) → off.side ≡ After → IsStep dict initial rest off → Leads before rest after → Leads before off.rest.now (after ++ off.piece ∷ [])
-  leads_after before after rest off side step so_far = record {
-    cuts = λ p h.
-        subst (AreCut dict initial chunk) (ap (λ s. around before (put_back s off.piece.now p) after) side ∙ around_after before after off.piece p)
-        (so_far.cuts (put_back off.side off.piece.now p) (step.cuts p h));
-  }
 
   -- what is left is the middle piece
   pub leads_whole : (cut : Cut) (after : List (Bor (List ℕ))) → cut.after.items ≡ reverse after → AreCut dict initial cut.middle.now (whole cut.middle.now) → Leads cut.before.items cut.middle.now after

@@ -1,6 +1,8 @@
 -- How a chunk of a sentence, which has no blanks, is cut into tokens.
 use Rattle.std.specs.Prelude.{◌≡◌, ◌≢◌, ℕ, List, [], ◌∷◌, ◌++◌, Bool, true, ◌==◌, codes}
 use Rattle.std.specs.List.{list_any}
+use Rattle.lg_dict.specs.Dictionary.{Dictionary}
+use Rattle.lg_token.specs.Words.{Has, IsKnown}
 
 abbrev pub is_closing : ℕ → Bool
 is_closing b = list_any (λ c. b == c) (codes ".,;:!?)]}\"'")
@@ -64,3 +66,7 @@ pub data IsCut (Known : List ℕ → Type 0) (HasPossessive : Type 0) : List ℕ
   unknown : (chunk : List ℕ)
       → (Known chunk → ⊥) → HasNoClosing chunk → HasNoOpening chunk → (HasPossessive → HasNoPossessive chunk)
       → IsCut Known HasPossessive chunk (whole chunk)
+
+-- a chunk of a sentence, which is its first one or is not, is cut so
+abbrev pub AreCut : Dictionary → Bool → List ℕ → Pieces → Type 0
+AreCut dict initial chunk p = IsCut (IsKnown dict initial) (Has dict possessive) chunk p

@@ -1,16 +1,13 @@
--- The cutting of a chunk step by step: what one step cuts off.
-use Rattle.std.specs.Prelude.{◌≡◌, ◌<◌, ℕ, List, [], ◌∷◌, length, map, Bool}
+-- The work step by step: what one step cuts off a chunk, and what one adds to the tokens.
+use Rattle.std.specs.Prelude.{◌≡◌, ◌<◌, ℕ, List, [], ◌∷◌, ◌++◌, length, map, Bool}
+use Rattle.std.specs.List.{sum_by}
+use Rattle.lg_gram.specs.declared.listing.Token.{Token}
 use Rattle.lg_dict.specs.Dictionary.{Dictionary}
 use Rattle.lg_token.specs.declared.cuts.Side.{Side}
 use Rattle.lg_token.specs.declared.cuts.Side.TheVariants.{Before, After}
 use Rattle.lg_token.specs.declared.cuts.Off.{Off}
 use Rattle.lg_token.specs.declared.cuts.Cut.{Cut}
-use Rattle.lg_token.specs.Words.{Has, IsKnown}
-use Rattle.lg_token.specs.Cuts.{possessive, EndsWithSign, BeginsWithSign, EndsWithPossessive, Pieces, with_before, with_after, IsCut}
-
--- a chunk of a sentence, which is its first one or is not, is cut so
-abbrev pub AreCut : Dictionary → Bool → List ℕ → Pieces → Type 0
-AreCut dict initial chunk p = IsCut (IsKnown dict initial) (Has dict possessive) chunk p
+use Rattle.lg_token.specs.Cuts.{possessive, EndsWithSign, BeginsWithSign, EndsWithPossessive, Pieces, with_before, with_after, AreCut}
 
 -- the pieces of a chunk, seen as texts
 abbrev pub pieces_in : Cut → Pieces
@@ -19,6 +16,10 @@ pieces_in cut = record {
   middle = cut.middle.now;
   after = map (λ piece. piece.now) cut.after.items;
 }
+
+-- the number of bytes of texts
+abbrev pub total : List (List ℕ) → ℕ
+total texts = sum_by length texts
 
 -- the pieces of the whole, by those of what is left
 abbrev pub put_back : Side → List ℕ → Pieces → Pieces
@@ -47,3 +48,9 @@ pub record IsPossessive (chunk : List ℕ) (off : Off) : Type 0 where
 pub record IsStep (dict : Dictionary) (initial : Bool) (chunk : List ℕ) (off : Off) : Type 0 where
   pub shorter : length off.rest.now < length chunk
   pub cuts : (p : Pieces) → AreCut dict initial off.rest.now p → AreCut dict initial chunk (put_back off.side off.piece.now p)
+
+-- tokens of this kind were added at the end
+pub record Adds (Are : List Token → Type 0) (old new : List Token) : Type 0 where
+  pub more : List Token
+  pub grown : new ≡ old ++ more
+  pub are : Are more

@@ -4,12 +4,15 @@ use Rattle.lg_gram.specs.declared.listing.Token.{Token}
 use Rattle.lg_lex.specs.Runs.{AreRuns}
 use Rattle.lg_lex.specs.declared.run.Separators.TheVariants.{Blanks}
 use Rattle.lg_dict.specs.Dictionary.{Dictionary, AreWordsOf}
-use Rattle.lg_token.specs.Words.{Has, IsKnown, AreTokenWords}
-use Rattle.lg_token.specs.Cuts.{Pieces, IsCut, possessive}
+use Rattle.lg_token.specs.Words.{Has, AreTokenWords}
+use Rattle.lg_token.specs.Cuts.{Pieces, AreCut}
 
--- the pieces of a chunk in their order, each with whether it is the initial token
+-- pieces that were cut off, and all pieces of a chunk in their order, each with whether it is the initial token
+abbrev pub cut_off : List (List ℕ) → List (Bool × List ℕ)
+cut_off texts = map (λ text. (false, text)) texts
+
 abbrev pub pieces_of : Bool → Pieces → List (Bool × List ℕ)
-pieces_of initial p = map (λ s. (false, s)) p.before ++ (initial, p.middle) ∷ map (λ s. (false, s)) p.after
+pieces_of initial p = cut_off p.before ++ (initial, p.middle) ∷ cut_off p.after
 
 -- the token of a piece that stands from this byte on
 pub record IsToken (dict : Dictionary) (from : ℕ) (piece : Bool × List ℕ) (t : Token) : Type 0 where
@@ -26,7 +29,7 @@ AreOfPieces dict from (p ∷ ps) (t ∷ ts) = IsToken dict from p t × AreOfPiec
 
 -- the tokens of a chunk, which the sentence's first one is or is not
 abbrev pub AreOfChunk : Dictionary → Bool → List ℕ × ℕ → List Token → Type 0
-AreOfChunk dict initial chunk ts = (p : Pieces) × IsCut (IsKnown dict initial) (Has dict possessive) chunk.0 p × AreOfPieces dict chunk.1 (pieces_of initial p) ts
+AreOfChunk dict initial chunk ts = (p : Pieces) × AreCut dict initial chunk.0 p × AreOfPieces dict chunk.1 (pieces_of initial p) ts
 
 -- the tokens of chunks, of which the first is or is not the sentence's first
 abbrev pub AreOfChunks : Dictionary → Bool → List (List ℕ × ℕ) → List Token → Type 0

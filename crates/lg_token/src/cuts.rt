@@ -1,8 +1,8 @@
 //! How a chunk of a sentence, which has no blanks, is cut into pieces.
-ghost use Rattle.std.specs.Prelude.{◌≡◌, IfOk, MatchOption};
+ghost use Rattle.std.specs.Prelude.{◌≡◌, ◌+◌, length, IfOk, MatchOption};
 ghost use Rattle.lg_token.specs.Words.{Has};
-ghost use Rattle.lg_token.specs.Cuts.{is_closing, is_opening, possessive, HasNoClosing, HasNoOpening, HasNoPossessive, whole};
-ghost use Rattle.lg_token.specs.Steps.{AreCut, pieces_in, IsClosing, IsOpening, IsPossessive, IsStep};
+ghost use Rattle.lg_token.specs.Cuts.{is_closing, is_opening, possessive, HasNoClosing, HasNoOpening, HasNoPossessive, whole, AreCut};
+ghost use Rattle.lg_token.specs.Steps.{pieces_in, total, IsClosing, IsOpening, IsPossessive, IsStep};
 
 use crate::words::is_known;
 use lg_base::NoMemory;
@@ -45,7 +45,8 @@ pub(crate) fn cut_chunk<'a>(
     initial: bool,
     chunk: &'a [u8],
 ) -> Result<Cut<'a>, NoMemory>
-    ensures { IfOk result (λ cut. AreCut view.now initial chunk.now (pieces_in cut)) }
+    ensures pieces { IfOk result (λ cut. AreCut view.now initial chunk.now (pieces_in cut)) }
+    ensures lengths { IfOk result (λ cut. let p = pieces_in cut in total p.before + (length p.middle + total p.after) ≡ length chunk.now) }
 {
     let mut before = Vec::new(alloc);
     let mut after = Vec::new(alloc);

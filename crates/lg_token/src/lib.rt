@@ -3,4 +3,8 @@
 
 mod cuts;
 mod special;
+mod tokenizing;
 mod words;
+
+pub use special::Special;
+pub use tokenizing::tokens;
