@@ -5,3 +5,4 @@ pub mod Cutting
 pub mod Lengths
 pub mod Adding
 pub mod Chunks
+pub mod Unique

@@ -2,9 +2,11 @@
 #![tactic(auto)]
 
 mod cuts;
+mod law;
 mod special;
 mod tokenizing;
 mod words;
 
+pub use law::tokens_are_one_list;
 pub use special::Special;
 pub use tokenizing::tokens;
