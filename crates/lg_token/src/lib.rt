@@ -4,6 +4,8 @@
 mod cuts;
 mod law;
 mod special;
+#[cfg(test)]
+mod tests;
 mod tokenizing;
 mod words;
 
