@@ -1,0 +1,6 @@
+use Rattle.std.proofs.Common.{map}
+use Rattle.lg_token.proofs.Adding.{AddsFirst}
+use Rattle.lg_token.proofs.tokenizing.add_pieces.Given as goal
+
+abbrev pub invariant-loop-piece : goal.invariant-loop-piece
+invariant-loop-piece l = AddsFirst l.view l.start (map (λ piece. piece.now) l.pieces) l.piece-index l.at l.initial.tokens.items l.tokens.items

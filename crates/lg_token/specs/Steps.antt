@@ -1,0 +1,56 @@
+-- The work step by step: what one step cuts off a chunk, and what one adds to the tokens.
+use Rattle.std.specs.Prelude.{◌≡◌, ◌<◌, ℕ, List, [], ◌∷◌, ◌++◌, length, map, Bool}
+use Rattle.std.specs.List.{sum_by}
+use Rattle.lg_gram.specs.declared.listing.Token.{Token}
+use Rattle.lg_dict.specs.Dictionary.{Dictionary}
+use Rattle.lg_token.specs.declared.cuts.Side.{Side}
+use Rattle.lg_token.specs.declared.cuts.Side.TheVariants.{Before, After}
+use Rattle.lg_token.specs.declared.cuts.Off.{Off}
+use Rattle.lg_token.specs.declared.cuts.Cut.{Cut}
+use Rattle.lg_token.specs.Cuts.{possessive, EndsWithSign, BeginsWithSign, EndsWithPossessive, Pieces, with_before, with_after, AreCut}
+
+-- the pieces of a chunk, seen as texts
+abbrev pub pieces_in : Cut → Pieces
+pieces_in cut = record {
+  before = map (λ piece. piece.now) cut.before.items;
+  middle = cut.middle.now;
+  after = map (λ piece. piece.now) cut.after.items;
+}
+
+-- the number of bytes of texts
+abbrev pub total : List (List ℕ) → ℕ
+total texts = sum_by length texts
+
+-- the pieces of the whole, by those of what is left
+abbrev pub put_back : Side → List ℕ → Pieces → Pieces
+put_back Before piece p = with_before piece p
+put_back After piece p = with_after p piece
+
+-- a closing sign, an opening sign and `'s`, as they are cut off
+pub record IsClosing (chunk : List ℕ) (off : Off) : Type 0 where
+  pub side : off.side ≡ After
+  pub sign : ℕ
+  pub piece : off.piece.now ≡ sign ∷ []
+  pub ends : EndsWithSign chunk off.rest.now sign
+
+pub record IsOpening (chunk : List ℕ) (off : Off) : Type 0 where
+  pub side : off.side ≡ Before
+  pub sign : ℕ
+  pub piece : off.piece.now ≡ sign ∷ []
+  pub begins : BeginsWithSign chunk sign off.rest.now
+
+pub record IsPossessive (chunk : List ℕ) (off : Off) : Type 0 where
+  pub side : off.side ≡ After
+  pub piece : off.piece.now ≡ possessive
+  pub ends : EndsWithPossessive chunk off.rest.now
+
+-- whatever cuts what is left, cuts the chunk, with what was cut off
+pub record IsStep (dict : Dictionary) (initial : Bool) (chunk : List ℕ) (off : Off) : Type 0 where
+  pub shorter : length off.rest.now < length chunk
+  pub cuts : (p : Pieces) → AreCut dict initial off.rest.now p → AreCut dict initial chunk (put_back off.side off.piece.now p)
+
+-- tokens of this kind were added at the end
+pub record Adds (Are : List Token → Type 0) (old new : List Token) : Type 0 where
+  pub more : List Token
+  pub grown : new ≡ old ++ more
+  pub are : Are more
