@@ -1,0 +1,77 @@
+//! Whole knowledge texts.
+
+ghost use Rattle.std.specs.Prelude.{◌≡◌, ◌≤◌, length, IfOk};
+ghost use Rattle.lg_lex.specs.declared.marks.Marks.TheVariants as marks;
+ghost use Rattle.lg_lex.specs.Lexing.{tokens_from};
+ghost use Rattle.lg_knowread.specs.Reading.{error_at, TellsKnowledge};
+ghost use Rattle.lg_knowread.specs.Automaton.{answer_of};
+ghost use Rattle.lg_knowread.specs.View.{TellsAnswer, TellsRefusal};
+
+use crate::fault::{Fault, KnowError, Refusal};
+use crate::knowledge::Knowledge;
+use crate::reading::{Reading, State};
+use lg_lex::{Marks, Place, next_token, tokens_are_one_list, utf8_fault, without_mark};
+use std::alloc::Global;
+
+/// The knowledge of a text: its statements one after another, each a section's name, a colon, what it says and a
+/// semicolon.
+///
+/// The text is first tested for UTF-8. A byte order mark at its start is passed over. The time is linear in the text.
+pub fn read_knowledge(alloc: Global, bytes: &[u8]) -> Result<Knowledge, KnowError>
+    ensures told { TellsKnowledge bytes.now result }
+    ensures few { IfOk result (λ k. length k.rules ≤ length bytes.now) }
+{
+    tokens_are_one_list();
+    match utf8_fault(bytes) {
+        Some(byte) => Err(KnowError::NotUtf8(byte)),
+        None => read_text(alloc, without_mark(bytes)),
+    }
+}
+
+/// The knowledge of a text that is UTF-8 and has no byte order mark.
+fn read_text(alloc: Global, text: &[u8]) -> Result<Knowledge, KnowError>
+    ensures told { TellsAnswer text.now (answer_of (tokens_from marks.Knowledge text.now 0)) result }
+    ensures few { IfOk result (λ k. length k.rules ≤ length text.now) }
+{
+    let mut reading = Reading {
+        knowledge: Knowledge::new(alloc),
+        state: State::Name,
+    };
+    let mut at = 0;
+    let mut place = Place::START;
+    while let Some(found) = next_token(Marks::Knowledge, text, at) {
+        let start = place.past(&text[at..found.start]);
+        match reading.advance(alloc, &found.token) {
+            Ok(next) => reading = next,
+            Err(refusal) => return Err(error_of(refusal, start)),
+        }
+        place = start.past(&text[found.start..found.end]);
+        at = found.end;
+    }
+    match reading.state {
+        State::Name => Ok(reading.knowledge),
+        _ => Err(error_at(Fault::Syntax, place.past(&text[at..]))),
+    }
+}
+
+/// The error of a token that was not taken, which starts at this place.
+fn error_of(refusal: Refusal, place: Place) -> KnowError
+    ensures { TellsRefusal refusal place result }
+{
+    match refusal {
+        Refusal::NoMemory => KnowError::NoMemory,
+        Refusal::Fault(fault) => error_at(fault, place),
+    }
+}
+
+/// The error of a fault at this place.
+fn error_at(fault: Fault, place: Place) -> KnowError
+    ensures { result ≡ error_at fault place }
+{
+    match fault {
+        Fault::UnknownSection => KnowError::UnknownSection(place.line),
+        Fault::BadPattern => KnowError::BadPattern(place.line),
+        Fault::BadType => KnowError::BadType(place.line),
+        Fault::Syntax => KnowError::Syntax(place.line, place.column),
+    }
+}

@@ -1,0 +1,12 @@
+pub mod Zipped
+pub mod Rising
+pub mod Leasts
+pub mod Kept
+pub mod Good
+pub mod Reaching
+pub mod Bridging
+pub mod Firsts
+pub mod Starting
+pub mod Grouping
+pub mod Failing
+pub mod Breaking

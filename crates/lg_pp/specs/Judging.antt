@@ -1,0 +1,85 @@
+-- How the first broken rule is found: facts of a linkage's links, by their numbers.
+use Rattle.std.specs.Prelude.{◌≡◌, ◌≢◌, ◌↔◌, ◌⊎◌, ℕ, ◌<◌, ◌≤◌, Bool, false, List, [], length, Option, Some, slice_get, slice_index, slice_index_or, IsTrue, MatchOption, MatchBool, if◌then◌else◌}
+use Rattle.std.specs.List.{Any}
+use Rattle.lg_gram.specs.Linkages.{Linkage}
+use Rattle.lg_gram.specs.Names.{Name}
+use Rattle.lg_gram.specs.Rules.{HasLink}
+use Rattle.lg_gram.specs.Walks.{Walk, LinkFrom}
+use Rattle.lg_gram.specs.declared.linkage.Link.{Link}
+use Rattle.lg_knowread.specs.declared.knowledge.Knowledge.{Knowledge}
+use Rattle.lg_knowread.specs.declared.knowledge.Pattern.{Pattern}
+use Rattle.lg_knowread.specs.declared.knowledge.Rule.{Rule}
+use Rattle.lg_knowread.specs.declared.knowledge.Rule.TheVariants.{Forbid, Demand, Bounded, Cycle}
+use Rattle.lg_pp.specs.Breaks.{FailsAt}
+use Rattle.lg_pp.specs.Domains.{IsNumber}
+use Rattle.lg_pp.specs.Labels.{AreLabels, FitsOne}
+use Rattle.lg_pp.specs.Reach.{AreFlags, AreRows}
+use Rattle.lg_pp.specs.Steps.{AreAlike, AreLeasts}
+use Rattle.lg_pp.specs.declared.rules.facts.Facts.{Facts}
+
+-- the first number below count of which P holds, or none
+abbrev pub IsFirst : (ℕ → Type 0) → ℕ → Option ℕ → Type 0
+IsFirst P count first = MatchOption first ((n : ℕ) → n < count → P n → ⊥) (λ n. (n < count) × P n × ((k : ℕ) → k < n → P k → ⊥))
+
+-- the rule fails at the link of this number
+abbrev pub FailsAtNumber : Knowledge → Linkage → Rule → ℕ → Type 0
+FailsAtNumber know g rule n = (l : Link) × IsNumber g n l × FailsAt know g rule l
+
+-- P holds of the label of this number
+abbrev pub IsLabelled : (Name → Type 0) → List Name → ℕ → Type 0
+IsLabelled P labels n = (label : Name) × (slice_get labels n ≡ Some label) × P label
+
+-- the two ends of the link are joined by no walk over the other links
+abbrev pub IsBridge : Linkage → Link → Type 0
+IsBridge g l = Walk (LinkFrom (λ m. HasLink g m × (m ≢ l))) l.left l.right → ⊥
+
+abbrev pub IsGrouped : Rule → Type 0
+IsGrouped (Forbid grouped trigger others) = IsTrue grouped
+IsGrouped (Demand grouped trigger others) = IsTrue grouped
+IsGrouped (Bounded kind) = ⊥
+IsGrouped (Cycle pattern) = ⊥
+
+abbrev pub IsCycle : Rule → Type 0
+IsCycle (Forbid grouped trigger others) = ⊥
+IsCycle (Demand grouped trigger others) = ⊥
+IsCycle (Bounded kind) = ⊥
+IsCycle (Cycle pattern) = Unit {0}
+
+-- each number below count is given one that is not above it
+pub record AreWithin (count : ℕ) (groups : List ℕ) : Type 0 where
+  pub enough : length groups ≡ count
+  pub below : (n : ℕ) → n < count → slice_index groups n ≤ n
+
+-- The labels and the rows of domains; the least link of each link's group, where some rule is grouped; and which links are bridges, where some rule asks it.
+pub record AreFacts (know : Knowledge) (g : Linkage) (facts : Facts) : Type 0 where
+  pub labels : AreLabels g facts.labels.items
+  pub rows : AreRows know g facts.rows.items
+  pub within : AreWithin (length g.links) facts.groups.items
+  pub groups : Any IsGrouped know.rules → AreLeasts (AreAlike facts.rows.items) (length g.links) facts.groups.items
+  pub bridges : AreFlags (λ l. Any IsCycle know.rules × IsBridge g l) g.links facts.bridges
+
+-- where links of one class are looked at together: the least link of the group, or one class for all
+abbrev pub class_of : Bool → List ℕ → ℕ → ℕ
+class_of grouped groups n = if grouped then slice_index groups n else 0
+
+-- one of the patterns matches the label of a link of class c
+abbrev pub HasOther : Bool → List ℕ → List Pattern → List Name → ℕ → Type 0
+HasOther grouped groups patterns labels c = (m : ℕ) × (class_of grouped groups m ≡ c) × IsLabelled (FitsOne patterns) labels m
+
+-- a flag for each class, which says so
+abbrev pub AreHits : Bool → List ℕ → List Pattern → List Name → List Bool → Type 0
+AreHits grouped groups patterns labels hits = (c : ℕ) → IsTrue (slice_index_or hits c false) ↔ HasOther grouped groups patterns labels c
+
+-- the class of link number n has such a link, or has none, as it is asked
+abbrev pub MeetsOther : Bool → List ℕ → List Pattern → List Name → Bool → ℕ → Type 0
+MeetsOther grouped groups patterns labels asked n =
+    let others = HasOther grouped groups patterns labels (class_of grouped groups n) in MatchBool asked others (others → ⊥)
+
+-- one of the links whose flag is set has an end before the root
+abbrev pub HasEndBefore : List Link → List Bool → ℕ → Type 0
+HasEndBefore links row root =
+    (m : ℕ) × (l : Link) × (slice_get links m ≡ Some l) × IsTrue (slice_index_or row m false) × ((l.left < root) ⊎ (l.right < root))
+
+-- so it is in the row of link number n, with the left word of that link as the root
+abbrev pub Overruns : List Link → List (List Bool) → ℕ → Type 0
+Overruns links rows n = (l : Link) × (slice_get links n ≡ Some l) × HasEndBefore links (slice_index_or rows n []) l.left

@@ -1,0 +1,6 @@
+pub mod Labels
+pub mod Domains
+pub mod Reach
+pub mod Steps
+pub mod Breaks
+pub mod Judging

@@ -1,0 +1,98 @@
+//! The first rule of a knowledge that a linkage breaks.
+ghost use Rattle.std.specs.Prelude.{◌≡◌, ◌<◌, ◌^◌, length, IfOk};
+ghost use Rattle.std.specs.List.{Contains};
+ghost use Rattle.lg_pp.specs.Breaks.{Judges};
+ghost use Rattle.lg_pp.specs.Judging.{AreFacts, FailsAtNumber, IsFirst};
+ghost use Rattle.lg_pp.specs.Labels.{IsGood};
+
+mod bounded;
+mod cycle;
+mod facts;
+mod trigger;
+
+use bounded::first_overrun;
+use cycle::first_bridge;
+use facts::Facts;
+use lg_base::NoMemory;
+use lg_gram::{Linkage, Violation};
+use lg_knowread::{Knowledge, Rule};
+use std::alloc::Global;
+use trigger::first_trigger;
+
+/// The first rule that the linkage breaks, by its number from 1, with the least link, by left and then right, at which
+/// it fails; None where it breaks none.
+///
+/// Domains are found once, groups and walks for cycles once and where some rule asks for them; then a rule takes links
+/// times patterns.
+pub fn judge(alloc: Global, know: &Knowledge, g: &Linkage) -> Result<Option<Violation>, NoMemory>
+    requires few { length know.now.rules < 2 ^ 32 }
+    requires good { IsGood g.now }
+    ensures { IfOk result (Judges know.now g.now) }
+{
+    let facts = Facts::of(alloc, know, g)?;
+    for (n, rule) in know.rules.items().iter().enumerate() {
+        let first = first_failure(alloc, know, g, &facts, rule)?;
+        if let Some(k) = first {
+            let link = g.links()[k];
+            return Ok(Some(Violation {
+                rule: n as u32 + 1,
+                left: link.left,
+                right: link.right,
+            }));
+        }
+    }
+    Ok(None)
+}
+
+// The number of the first link at which the rule fails.
+fn first_failure(
+    alloc: Global,
+    know: &Knowledge,
+    g: &Linkage,
+    facts: &Facts,
+    rule: &Rule,
+) -> Result<Option<usize>, NoMemory>
+    requires good { IsGood g.now }
+    requires facts { AreFacts know.now g.now facts.now }
+    requires known { Contains know.now.rules rule.now }
+    ensures { IfOk result (IsFirst (FailsAtNumber know.now g.now rule.now) (length g.now.links)) }
+{
+    let labels = &facts.labels;
+    let groups = &facts.groups;
+    match rule {
+        Rule::Forbid {
+            grouped,
+            trigger,
+            others,
+        } => first_trigger(
+            alloc,
+            labels,
+            groups,
+            *grouped,
+            trigger,
+            others.items(),
+            true,
+        ),
+        Rule::Demand {
+            grouped,
+            trigger,
+            others,
+        } => first_trigger(
+            alloc,
+            labels,
+            groups,
+            *grouped,
+            trigger,
+            others.items(),
+            false,
+        ),
+        Rule::Bounded { kind } => Ok(first_overrun(
+            know.starts.items(),
+            *kind,
+            g.links(),
+            labels,
+            &facts.rows,
+        )),
+        Rule::Cycle { pattern } => Ok(first_bridge(pattern, labels, facts.bridges.items())),
+    }
+}
