@@ -1,3 +1,4 @@
+pub mod Walking
 pub mod Zipped
 pub mod Rising
 pub mod Leasts
