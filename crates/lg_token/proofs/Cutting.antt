@@ -8,7 +8,7 @@ use Rattle.lg_token.specs.Words.{Has, IsKnown}
 use Rattle.lg_token.specs.Cuts.{possessive, HasNoClosing, HasNoOpening, HasNoPossessive, Pieces, whole, with_before, with_after, AreCut, closing, opening, owner, unknown}
 use Rattle.lg_token.specs.Steps.{pieces_in, put_back, IsClosing, IsOpening, IsPossessive, IsStep}
 
-shorter_front : (chunk rest end : List ℕ) → chunk ≡ rest ++ end → 0 < length end → length rest < length chunk
+pub shorter_front : (chunk rest end : List ℕ) → chunk ≡ rest ++ end → 0 < length end → length rest < length chunk
 shorter_front chunk rest end is some = let long : length chunk ≡ length rest + length end = ap length is ∙ length-append rest end in omega arith
 
 module _ (dict : Dictionary) (initial : Bool) (chunk : List ℕ) (not_known : IsKnown dict initial chunk → ⊥) where

@@ -1,3 +1,4 @@
+pub mod Members
 pub mod Hyphens
 pub mod Specials
 pub mod WordLists
@@ -6,3 +7,6 @@ pub mod Lengths
 pub mod Adding
 pub mod Chunks
 pub mod Unique
+pub mod SomeWords
+pub mod SomeSpecials
+pub mod SomeList

@@ -1,5 +1,5 @@
 -- A sentence has at most one list of tokens.
-use Rattle.std.proofs.Common.{◌≡◌, ◌⊎◌, inl, inr, ◌↔◌, ◌+◌, ◌<◌, ℕ, zero, suc, List, [], ◌∷◌, ◌++◌, Bool, true, false, length, All, Contains, refl, sym, ap, subst, ◌∙◌, arith}
+use Rattle.std.proofs.Common.{◌≡◌, ◌⊎◌, inl, inr, ◌↔◌, ◌+◌, ℕ, List, [], ◌∷◌, ◌++◌, Bool, true, false, length, All, Contains, refl, sym, ap, subst, ◌∙◌}
 use Rattle.std.specs.declared.cmp.Ordering.{Ordering}
 use Rattle.std.specs.declared.cmp.Ordering.TheVariants.{Less, Greater}
 use Rattle.std.specs.Ordering.{nat_cmp, ordering_reverse}
@@ -11,26 +11,13 @@ use Rattle.std.proofs.lemmas.List.Elements.{All-from_recursion, All-contains}
 use Rattle.lg_gram.specs.declared.listing.Token.{Token}
 use Rattle.lg_lex.specs.declared.run.Separators.TheVariants.{Blanks}
 use Rattle.lg_lex.proofs.RunLists.{AreRuns-runs_of}
-use Rattle.lg_dict.specs.Dictionary.{Dictionary, IsWordOf, AreWordsOf}
+use Rattle.lg_dict.specs.Dictionary.{Dictionary, IsWordOf}
+use Rattle.lg_token.proofs.Members.{here, there, here_or_there, nowhere}
 use Rattle.lg_token.specs.Words.{AreWords}
 use Rattle.lg_token.specs.Cuts.{possessive, EndsWithSign, BeginsWithSign, EndsWithPossessive, HasNoClosing, HasNoOpening, Pieces, whole, with_before, with_after, IsCut, known, closing, opening, owner, unknown}
 use Rattle.lg_token.specs.Tokens.{pieces_of, IsToken, AreOfPieces, AreOfChunk, AreOfChunks, IsWall, stands, absent, AreTokens}
 
 -- words that rise are told by what is among them
-
-module _ {X : Type 0} where
-  here : (x : X) (xs : List X) → Contains (x ∷ xs) x
-  here x xs = (zero, omega arith, refl)
-
-  there : (x w : X) (xs : List X) → Contains xs w → Contains (x ∷ xs) w
-  there x w xs (k, within, is) = (suc k, omega arith, is)
-
-  here_or_there : (x w : X) (xs : List X) → Contains (x ∷ xs) w → (w ≡ x) ⊎ Contains xs w
-  here_or_there x w xs (zero, within, is) = inl (sym is)
-  here_or_there x w xs (suc k, within, is) = inr (k, omega arith, is)
-
-  nowhere : (w : X) → Contains [] w → ⊥
-  nowhere w (k, within, is) = omega arith
 
 module _ {K : Type 0} (R : K → K → Ordering) (total : IsTotalOrder R) where
   not_both : (x y : K) → R x y ≡ Less → R y x ≡ Less → ⊥

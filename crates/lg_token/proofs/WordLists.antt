@@ -16,11 +16,12 @@ use Rattle.std.proofs.lemmas.Option.{same_Some}
 use Rattle.lg_dict.specs.Dictionary.{Dictionary, IsWordOf, AreWordsOf}
 use Rattle.lg_dict.specs.Subscripts.{IsStem, Cut, Whole}
 use Rattle.lg_dict.proofs.Points.{one_stem}
+use Rattle.lg_token.proofs.Members.{nowhere}
 use Rattle.lg_token.specs.declared.special.Special.{Special}
-use Rattle.lg_token.specs.Words.{is_capitalized, lowered, special_word, specials, MayStand, IsFirstSpecial, IsKnown, IsNamed, IsSpecialWord, IsTokenWord, named, special, AreWords, AreTokenWords}
+use Rattle.lg_token.specs.Words.{Has, is_capitalized, lowered, special_word, specials, MayStand, IsFirstSpecial, IsKnown, IsNamed, IsSpecialWord, IsTokenWord, named, special, AreWords, AreTokenWords}
 
 -- the same words, told by another property
-AreWords-same : (P Q : List ℕ → Type 0) (words : List (List ℕ)) → ((word : List ℕ) → P word ↔ Q word) → AreWords P words → AreWords Q words
+pub AreWords-same : (P Q : List ℕ → Type 0) (words : List (List ℕ)) → ((word : List ℕ) → P word ↔ Q word) → AreWords P words → AreWords Q words
 AreWords-same P Q words same are = record {
   rise = are.rise;
   exactly = λ word. (λ h. (same word).0 ((are.exactly word).0 h), λ h. (are.exactly word).1 ((same word).1 h));
@@ -48,9 +49,6 @@ special_listed dict text s name (Ok words) first is are = record {
 }
 special_listed dict text s name (Err e) first is are = tt
 
-not_in_none : {X : Type 0} (x : X) → Contains [] x → ⊥
-not_in_none x (k, within, is) = absurd (omega arith)
-
 has_none : {X : Type 0} (xs : List X) (x : X) → true ≡ (length xs == 0) → Contains xs x → ⊥
 has_none xs x none (k, within, is) = let empty : length xs ≡ 0 = eqb-true (length xs) 0 (sym none) in omega arith
 
@@ -59,7 +57,7 @@ unfolding IsStrictlySortedBy
 none_rise = tt
 
 no_words : (P : List ℕ → Type 0) (words : List (List ℕ)) → words ≡ [] → ((word : List ℕ) → P word → ⊥) → AreWords P words
-no_words P words is none = subst (AreWords P) (sym is) (record { rise = none_rise; exactly = λ word. (λ h. absurd (not_in_none word h), λ h. absurd (none word h)) })
+no_words P words is none = subst (AreWords P) (sym is) (record { rise = none_rise; exactly = λ word. (λ h. absurd (nowhere word h), λ h. absurd (none word h)) })
 
 pub no_special : (dict : Dictionary) (text : List ℕ) (words : List (List ℕ)) → words ≡ [] → ((s : Special) → MayStand dict text s → ⊥) → AreWords (IsSpecialWord dict text) words
 no_special dict text words is none = no_words (IsSpecialWord dict text) words is (λ word h. none h.0 h.1.stands)
@@ -160,3 +158,11 @@ module _ (dict : Dictionary) where
         | inr here ↦ Contains-append_right xs ys word ((ay.exactly word).1 here.2)
       ] in
       subst (AreWords (IsNamed dict initial text)) (sym is) (record { rise = joined_rise text xs ys capital ax ay; exactly = λ word. (named_by word, listed word) })
+
+-- whether a text is known, where the lowered text was looked up
+pub known_lowered : (dict : Dictionary) (initial : Bool) (text small : List ℕ) (found : Bool) → (Has dict text → ⊥) → initial ≡ true → is_capitalized text ≡ true → small ≡ lowered text
+    → (found ≡ true) ↔ Has dict small → (found ≡ true) ↔ IsKnown dict initial text
+known_lowered dict initial text small found without first capital is has = (
+  λ h. let w = has.0 h in (w.0, inr (first, capital, subst (λ t. IsWordOf dict t w.0) is w.1)),
+  λ k. elim k.1 [ inl word ↦ absurd (without (k.0, word)) | inr lower ↦ has.1 (k.0, subst (λ t. IsWordOf dict t k.0) (sym is) lower.2) ],
+)

@@ -1,5 +1,9 @@
 use Rattle.lg_token.proofs.Unique.{one_list}
+use Rattle.lg_token.proofs.SomeList.{some_list}
 use Rattle.lg_token.proofs.law.tokens_are_one_list.Goals as goal
 
-pub returns : goal.returns
-returns c = one_list
+pub returns-clause-some : goal.returns-clause-some
+returns-clause-some c = some_list
+
+pub returns-clause-one : goal.returns-clause-one
+returns-clause-one c = one_list

@@ -1,0 +1,5 @@
+pub mod Found
+pub mod Whole
+pub mod Ordered
+pub mod Paging
+pub mod Printable

@@ -1,0 +1,11 @@
+//! One listing of a sentence: its tokens, its problem, and its linkages page by page.
+#![tactic(auto)]
+
+mod bound;
+mod listing;
+mod page;
+mod problem;
+mod refusal;
+
+pub use listing::Listing;
+pub use refusal::AnswerRefusal;
