@@ -1,13 +1,13 @@
 -- What contracts see of a dictionary: two finite maps.
-use Rattle.std.specs.Prelude.{◌≡◌, ◌≢◌, ◌⊎◌, ◌↔◌, ℕ, List, map, All, AllPairs, Contains, IsSome}
+use Rattle.std.specs.Prelude.{◌≡◌, ◌⊎◌, ◌↔◌, ℕ, List, map, Contains, IsSome}
 use Rattle.std.specs.List.{flat_map}
 use Rattle.std.specs.List.Sorted.{IsStrictlySortedBy}
 use Rattle.std.specs.Ordering.{nat_cmp}
 use Rattle.std.specs.Cmp.Lexicographic.{slice_cmp}
 use Rattle.std.specs.FinMap.{FinMap, get, from_entries}
 use Rattle.lg_gram.specs.Trees.{Tree, tree_of}
-use Rattle.lg_gram.specs.Formulas.{LevelFits}
 use Rattle.lg_gram.specs.declared.entry.Entry.{Entry}
+pub use Rattle.lg_gram.specs.Entries.{words_in, macros_in, AreEntries}
 use Rattle.lg_dict.specs.Subscripts.{stem_of}
 
 -- a finite map from texts, in the order of their bytes
@@ -18,20 +18,6 @@ TextMap V = FinMap (slice_cmp nat_cmp) V
 pub record Dictionary : Type 0 where
   pub words : TextMap Tree
   pub macros : TextMap (Tree × ℕ)
-
--- all words of the entries, in their order
-abbrev pub words_in : List Entry → List (List ℕ)
-words_in entries = flat_map (λ e. e.words) entries
-
--- all macros of the entries, in their order
-abbrev pub macros_in : List Entry → List (List ℕ)
-macros_in entries = flat_map (λ e. e.macros) entries
-
--- no word and no macro stands twice, and each entry's level fits its formula
-pub record AreEntries (entries : List Entry) : Type 0 where
-  pub words : AllPairs (λ a b. a ≢ b) (words_in entries)
-  pub macros : AllPairs (λ a b. a ≢ b) (macros_in entries)
-  pub levels : All (λ e. LevelFits e.level (tree_of e.formula)) entries
 
 -- each word of the entries with its formula
 abbrev pub words_with_formulas : List Entry → List (List ℕ × Tree)

@@ -1,10 +1,10 @@
 -- Names that are added one after another.
-use Rattle.std.proofs.Common.{◌≡◌, ℕ, Option, None, List, [], ◌∷◌, ◌++◌, map, refl, sym, ap, subst, ◌∙◌, append_assoc}
+use Rattle.std.proofs.Common.{◌≡◌, ℕ, List, [], ◌∷◌, ◌++◌, refl, sym, ap, subst, ◌∙◌, append_assoc}
 use Rattle.std.proofs.lemmas.List.{append-nil}
 use Rattle.lg_dictread.specs.declared.dict_error.DictError.{DictError}
 use Rattle.lg_dictread.specs.Telling.{UnlessMemory}
 use Rattle.lg_dictread.proofs.ErrorMaps.{memory_map}
-use Rattle.lg_dictread.specs.Definitions.{Lines, line_in, AreNew, IsTwice}
+use Rattle.lg_dictread.specs.Definitions.{Lines, AreNew, IsTwice}
 use Rattle.lg_dictread.specs.Defining.{names_in, AddsNames}
 use Rattle.lg_dictread.proofs.NewNames.{more_twice}
 

@@ -49,81 +49,63 @@ module _ (Told More : DictError → Type 0) where
   memory_map leads (DuplicateWord w n m) h = leads (DuplicateWord w n m) h
   memory_map leads (WordFile line name cause) h = leads (WordFile line name cause) h
 
-  pub error_out : (Ended : Type 0) → (Ended → More NoMemory) → ((line : ℕ) (name : List ℕ) → Ended → More (WordFile line name causes.Failed)) → ((error : DictError) → Told error → More error)
-      → (error : DictError) → OnError Ended Told error → More error
-  error_out Ended none failed leads NoMemory h = none h
-  error_out Ended none failed leads (NotUtf8 n) h = leads (NotUtf8 n) h
-  error_out Ended none failed leads (Syntax line column) h = leads (Syntax line column) h
-  error_out Ended none failed leads (UnknownMacro line m) h = leads (UnknownMacro line m) h
-  error_out Ended none failed leads (CostForm line) h = leads (CostForm line) h
-  error_out Ended none failed leads (TooDeep line) h = leads (TooDeep line) h
-  error_out Ended none failed leads (TooManyNodes line n) h = leads (TooManyNodes line n) h
-  error_out Ended none failed leads (TooManyChoices line n) h = leads (TooManyChoices line n) h
-  error_out Ended none failed leads (SideTooLong line n) h = leads (SideTooLong line n) h
-  error_out Ended none failed leads (DuplicateWord w n m) h = leads (DuplicateWord w n m) h
-  error_out Ended none failed leads (WordFile line name causes.TooLong) h = leads (WordFile line name causes.TooLong) h
-  error_out Ended none failed leads (WordFile line name (causes.NotUtf8 n)) h = leads (WordFile line name (causes.NotUtf8 n)) h
-  error_out Ended none failed leads (WordFile line name causes.Failed) h = failed line name h
-
-  pub error_map : (Ended Stopped : Type 0) → (Ended → Stopped) → ((error : DictError) → Told error → More error) → (error : DictError) → OnError Ended Told error → OnError Stopped More error
-  error_map Ended Stopped ends leads NoMemory h = ends h
-  error_map Ended Stopped ends leads (NotUtf8 n) h = leads (NotUtf8 n) h
-  error_map Ended Stopped ends leads (Syntax line column) h = leads (Syntax line column) h
-  error_map Ended Stopped ends leads (UnknownMacro line m) h = leads (UnknownMacro line m) h
-  error_map Ended Stopped ends leads (CostForm line) h = leads (CostForm line) h
-  error_map Ended Stopped ends leads (TooDeep line) h = leads (TooDeep line) h
-  error_map Ended Stopped ends leads (TooManyNodes line n) h = leads (TooManyNodes line n) h
-  error_map Ended Stopped ends leads (TooManyChoices line n) h = leads (TooManyChoices line n) h
-  error_map Ended Stopped ends leads (SideTooLong line n) h = leads (SideTooLong line n) h
-  error_map Ended Stopped ends leads (DuplicateWord w n m) h = leads (DuplicateWord w n m) h
-  error_map Ended Stopped ends leads (WordFile line name causes.TooLong) h = leads (WordFile line name causes.TooLong) h
-  error_map Ended Stopped ends leads (WordFile line name (causes.NotUtf8 n)) h = leads (WordFile line name (causes.NotUtf8 n)) h
-  error_map Ended Stopped ends leads (WordFile line name causes.Failed) h = ends h
+  pub error_map : (Missing : List ℕ → Type 0) (Ended Stopped : Type 0) → (Ended → Stopped) → ((error : DictError) → Told error → More error) → (error : DictError) → OnError Missing Ended Told error → OnError Missing Stopped More error
+  error_map Missing Ended Stopped ends leads NoMemory h = ends h
+  error_map Missing Ended Stopped ends leads (NotUtf8 n) h = leads (NotUtf8 n) h
+  error_map Missing Ended Stopped ends leads (Syntax line column) h = leads (Syntax line column) h
+  error_map Missing Ended Stopped ends leads (UnknownMacro line m) h = leads (UnknownMacro line m) h
+  error_map Missing Ended Stopped ends leads (CostForm line) h = leads (CostForm line) h
+  error_map Missing Ended Stopped ends leads (TooDeep line) h = leads (TooDeep line) h
+  error_map Missing Ended Stopped ends leads (TooManyNodes line n) h = leads (TooManyNodes line n) h
+  error_map Missing Ended Stopped ends leads (TooManyChoices line n) h = leads (TooManyChoices line n) h
+  error_map Missing Ended Stopped ends leads (SideTooLong line n) h = leads (SideTooLong line n) h
+  error_map Missing Ended Stopped ends leads (DuplicateWord w n m) h = leads (DuplicateWord w n m) h
+  error_map Missing Ended Stopped ends leads (WordFile line name causes.TooLong) h = leads (WordFile line name causes.TooLong) h
+  error_map Missing Ended Stopped ends leads (WordFile line name (causes.NotUtf8 n)) h = leads (WordFile line name (causes.NotUtf8 n)) h
+  error_map Missing Ended Stopped ends leads (WordFile line name causes.Failed) h = (ends h.0, λ missing. leads (WordFile line name causes.Failed) (h.1 missing))
 
   -- where nothing but memory may end the call
-  pub memory_error : (Stopped : Type 0) → Stopped → ((error : DictError) → Told error → More error) → (error : DictError) → UnlessMemory Told error → OnError Stopped More error
-  memory_error Stopped stops leads NoMemory h = stops
-  memory_error Stopped stops leads (NotUtf8 n) h = leads (NotUtf8 n) h
-  memory_error Stopped stops leads (Syntax line column) h = leads (Syntax line column) h
-  memory_error Stopped stops leads (UnknownMacro line m) h = leads (UnknownMacro line m) h
-  memory_error Stopped stops leads (CostForm line) h = leads (CostForm line) h
-  memory_error Stopped stops leads (TooDeep line) h = leads (TooDeep line) h
-  memory_error Stopped stops leads (TooManyNodes line n) h = leads (TooManyNodes line n) h
-  memory_error Stopped stops leads (TooManyChoices line n) h = leads (TooManyChoices line n) h
-  memory_error Stopped stops leads (SideTooLong line n) h = leads (SideTooLong line n) h
-  memory_error Stopped stops leads (DuplicateWord w n m) h = leads (DuplicateWord w n m) h
-  memory_error Stopped stops leads (WordFile line name causes.TooLong) h = leads (WordFile line name causes.TooLong) h
-  memory_error Stopped stops leads (WordFile line name (causes.NotUtf8 n)) h = leads (WordFile line name (causes.NotUtf8 n)) h
-  memory_error Stopped stops leads (WordFile line name causes.Failed) h = stops
+  pub memory_error : (Missing : List ℕ → Type 0) (Stopped : Type 0) → Stopped → ((error : DictError) → Told error → More error) → (error : DictError) → UnlessMemory Told error → OnError Missing Stopped More error
+  memory_error Missing Stopped stops leads NoMemory h = stops
+  memory_error Missing Stopped stops leads (NotUtf8 n) h = leads (NotUtf8 n) h
+  memory_error Missing Stopped stops leads (Syntax line column) h = leads (Syntax line column) h
+  memory_error Missing Stopped stops leads (UnknownMacro line m) h = leads (UnknownMacro line m) h
+  memory_error Missing Stopped stops leads (CostForm line) h = leads (CostForm line) h
+  memory_error Missing Stopped stops leads (TooDeep line) h = leads (TooDeep line) h
+  memory_error Missing Stopped stops leads (TooManyNodes line n) h = leads (TooManyNodes line n) h
+  memory_error Missing Stopped stops leads (TooManyChoices line n) h = leads (TooManyChoices line n) h
+  memory_error Missing Stopped stops leads (SideTooLong line n) h = leads (SideTooLong line n) h
+  memory_error Missing Stopped stops leads (DuplicateWord w n m) h = leads (DuplicateWord w n m) h
+  memory_error Missing Stopped stops leads (WordFile line name causes.TooLong) h = leads (WordFile line name causes.TooLong) h
+  memory_error Missing Stopped stops leads (WordFile line name (causes.NotUtf8 n)) h = leads (WordFile line name (causes.NotUtf8 n)) h
+  memory_error Missing Stopped stops leads (WordFile line name causes.Failed) h = (stops, λ missing. leads (WordFile line name causes.Failed) h)
 
   -- what holds unless memory ran out, and what is told
-  pub error_both : (Stopped : Type 0) (Same : Type 0) → Stopped → ((error : DictError) → Same → Told error → More error) → (error : DictError) → UnlessMemory (λ e. Same) error → OnError (Unit {0}) Told error → OnError Stopped More error
-  error_both Stopped Same stops leads NoMemory h k = stops
-  error_both Stopped Same stops leads (NotUtf8 n) h k = leads (NotUtf8 n) h k
-  error_both Stopped Same stops leads (Syntax line column) h k = leads (Syntax line column) h k
-  error_both Stopped Same stops leads (UnknownMacro line m) h k = leads (UnknownMacro line m) h k
-  error_both Stopped Same stops leads (CostForm line) h k = leads (CostForm line) h k
-  error_both Stopped Same stops leads (TooDeep line) h k = leads (TooDeep line) h k
-  error_both Stopped Same stops leads (TooManyNodes line n) h k = leads (TooManyNodes line n) h k
-  error_both Stopped Same stops leads (TooManyChoices line n) h k = leads (TooManyChoices line n) h k
-  error_both Stopped Same stops leads (SideTooLong line n) h k = leads (SideTooLong line n) h k
-  error_both Stopped Same stops leads (DuplicateWord w n m) h k = leads (DuplicateWord w n m) h k
-  error_both Stopped Same stops leads (WordFile line name causes.TooLong) h k = leads (WordFile line name causes.TooLong) h k
-  error_both Stopped Same stops leads (WordFile line name (causes.NotUtf8 n)) h k = leads (WordFile line name (causes.NotUtf8 n)) h k
-  error_both Stopped Same stops leads (WordFile line name causes.Failed) h k = stops
+  pub memory_both : (Same : Type 0) → More NoMemory → ((error : DictError) → Same → Told error → More error) → (error : DictError) → UnlessMemory (λ e. Same) error → UnlessMemory Told error → More error
+  memory_both Same none leads NoMemory h k = none
+  memory_both Same none leads (NotUtf8 n) h k = leads (NotUtf8 n) h k
+  memory_both Same none leads (Syntax line column) h k = leads (Syntax line column) h k
+  memory_both Same none leads (UnknownMacro line m) h k = leads (UnknownMacro line m) h k
+  memory_both Same none leads (CostForm line) h k = leads (CostForm line) h k
+  memory_both Same none leads (TooDeep line) h k = leads (TooDeep line) h k
+  memory_both Same none leads (TooManyNodes line n) h k = leads (TooManyNodes line n) h k
+  memory_both Same none leads (TooManyChoices line n) h k = leads (TooManyChoices line n) h k
+  memory_both Same none leads (SideTooLong line n) h k = leads (SideTooLong line n) h k
+  memory_both Same none leads (DuplicateWord w n m) h k = leads (DuplicateWord w n m) h k
+  memory_both Same none leads (WordFile line name cause) h k = leads (WordFile line name cause) h k
 
 -- where nothing is known, nothing is told
-pub error_untold : (Stopped : Type 0) → Stopped → (error : DictError) → OnError Stopped (λ e. Unit {0}) error
-error_untold Stopped stops NoMemory = stops
-error_untold Stopped stops (NotUtf8 n) = tt
-error_untold Stopped stops (Syntax line column) = tt
-error_untold Stopped stops (UnknownMacro line m) = tt
-error_untold Stopped stops (CostForm line) = tt
-error_untold Stopped stops (TooDeep line) = tt
-error_untold Stopped stops (TooManyNodes line n) = tt
-error_untold Stopped stops (TooManyChoices line n) = tt
-error_untold Stopped stops (SideTooLong line n) = tt
-error_untold Stopped stops (DuplicateWord w n m) = tt
-error_untold Stopped stops (WordFile line name causes.TooLong) = tt
-error_untold Stopped stops (WordFile line name (causes.NotUtf8 n)) = tt
-error_untold Stopped stops (WordFile line name causes.Failed) = stops
+pub error_untold : (Missing : List ℕ → Type 0) (Stopped : Type 0) → Stopped → (error : DictError) → OnError Missing Stopped (λ e. Unit {0}) error
+error_untold Missing Stopped stops NoMemory = stops
+error_untold Missing Stopped stops (NotUtf8 n) = tt
+error_untold Missing Stopped stops (Syntax line column) = tt
+error_untold Missing Stopped stops (UnknownMacro line m) = tt
+error_untold Missing Stopped stops (CostForm line) = tt
+error_untold Missing Stopped stops (TooDeep line) = tt
+error_untold Missing Stopped stops (TooManyNodes line n) = tt
+error_untold Missing Stopped stops (TooManyChoices line n) = tt
+error_untold Missing Stopped stops (SideTooLong line n) = tt
+error_untold Missing Stopped stops (DuplicateWord w n m) = tt
+error_untold Missing Stopped stops (WordFile line name causes.TooLong) = tt
+error_untold Missing Stopped stops (WordFile line name (causes.NotUtf8 n)) = tt
+error_untold Missing Stopped stops (WordFile line name causes.Failed) = (stops, λ missing. tt)

@@ -1,7 +1,6 @@
 -- What one item is told to define.
-use Rattle.std.proofs.Common.{◌≡◌, ℕ, ◌≤◌, Option, None, Some, IfSome, List, [], ◌∷◌, ◌++◌, length, map, Result, Ok, Err, Vec, refl, sym, ap, subst, ◌∙◌, append_assoc}
+use Rattle.std.proofs.Common.{◌≡◌, ℕ, Option, None, Some, IfSome, List, [], ◌∷◌, ◌++◌, map, Result, Ok, Err, Vec, refl, sym, ap, subst, ◌∙◌}
 use Rattle.std.proofs.lemmas.List.{append-nil}
-use Rattle.std.specs.Str.{IsUtf8}
 use Rattle.lg_base.specs.Contents.{Contents, file}
 use Rattle.lg_gram.specs.declared.entry.Item.{Item}
 use Rattle.lg_gram.specs.declared.entry.ItemKind.{ItemKind}
@@ -12,10 +11,11 @@ use Rattle.lg_lex.specs.Runs.{AreRuns, runs_from}
 use Rattle.lg_dictread.specs.declared.dict_error.DictError.{DictError}
 use Rattle.lg_dictread.specs.declared.dict_error.DictError.TheVariants.{WordFile}
 use Rattle.lg_dictread.specs.declared.dict_error.WordFileError.{WordFileError}
-use Rattle.lg_dictread.specs.Definitions.{Lines, AreNew, IsTwice, Defined, gives, fails, FileGives, runs, asked_by, on_line, define, refuse_items, ItemsGive, defines, twice, unread}
-use Rattle.lg_dictread.specs.Telling.{AsksWithin, Answers, UnlessMemory, OnError}
-use Rattle.lg_dictread.specs.Defining.{names_in, AddsNames, TellsNames, Listed, AddsDefined, ItemIs, TellsDefined, TellsFile, AsksFile}
-use Rattle.lg_dictread.proofs.ErrorMaps.{if_some, if_some_map, memory_error, error_both, error_untold}
+use Rattle.lg_dictread.specs.declared.dict_error.WordFileError.TheVariants.{Failed, TooLong, NotUtf8}
+use Rattle.lg_dictread.specs.Definitions.{Lines, IsTwice, Defined, gives, fails, FileGives, runs, asked_by, on_line, refuse_items, ItemsGive, defines, twice, unread}
+use Rattle.lg_dictread.specs.Telling.{AsksWithin, Answers, IsMissing, OnError}
+use Rattle.lg_dictread.specs.Defining.{AddsNames, TellsNames, Listed, AddsDefined, ItemIs, TellsDefined, IsUnread, TellsFile, AsksFile}
+use Rattle.lg_dictread.proofs.ErrorMaps.{if_some, if_some_map, memory_error, memory_both, error_untold}
 
 -- nothing is added
 pub adds_none : (lines : Lines) (names : List (List ℕ)) → AddsNames lines lines names names []
@@ -52,7 +52,7 @@ module _ (known : Option Contents) (asked now : List (List ℕ)) (old : Defined)
     if_some known _ (λ contents. ([], asks_none asked now same, (refl, λ items rest answer further. defines old (item kinds.Word).0 line items (text ∷ []) rest answer refl h.are_new further))),
   )
   word_told (Err error) same h =
-      memory_error (IsTwice old.words ((text, line) ∷ [])) (λ e. Answers known (ItemIs old (item kinds.Word)) asked now (refuse_items e)) (AsksWithin asked now []) ([], [], refl, asks_none asked now same)
+      memory_error (IsTwice old.words ((text, line) ∷ [])) (λ e. Answers known (ItemIs old (item kinds.Word)) asked now (refuse_items e)) (IsMissing known) (AsksWithin asked now []) ([], [], refl, asks_none asked now same)
       (λ e again. if_some known _ (λ contents. ([], asks_none asked now same, (refl, λ items. twice old (item kinds.Word).0 line items (text ∷ []) e refl again)))) error h
 
   pub macro_told : (result : Result (Unit {0}) DictError) → now ≡ asked → TellsNames old.macros more listed.macros names ((text, line) ∷ []) result → Told kinds.Macro with_macros macros_listed result
@@ -62,7 +62,7 @@ module _ (known : Option Contents) (asked now : List (List ℕ)) (old : Defined)
     if_some known _ (λ contents. ([], asks_none asked now same, (refl, λ items rest answer further. defines old (item kinds.Macro).0 line items (text ∷ []) rest answer refl h.are_new further))),
   )
   macro_told (Err error) same h =
-      memory_error (IsTwice old.macros ((text, line) ∷ [])) (λ e. Answers known (ItemIs old (item kinds.Macro)) asked now (refuse_items e)) (AsksWithin asked now []) ([], [], refl, asks_none asked now same)
+      memory_error (IsTwice old.macros ((text, line) ∷ [])) (λ e. Answers known (ItemIs old (item kinds.Macro)) asked now (refuse_items e)) (IsMissing known) (AsksWithin asked now []) ([], [], refl, asks_none asked now same)
       (λ e again. if_some known _ (λ contents. ([], asks_none asked now same, (refl, λ items. twice old (item kinds.Macro).0 line items (text ∷ []) e refl again)))) error h
 
   -- the words of a file
@@ -81,22 +81,33 @@ module _ (known : Option Contents) (asked now : List (List ℕ)) (old : Defined)
     if_some_map known (IsRead bytes) _ (λ contents given. (text ∷ [], same, (refl, λ items rest answer further. defines old (item kinds.File).0 line items (words_of bytes) rest answer given h.are_new further))) read,
   )
   file_told bytes (Err error) same read h =
-      memory_error (IsTwice old.words (on_line line (words_of bytes))) (λ e. Answers known (ItemIs old (item kinds.File)) asked now (refuse_items e)) (AsksWithin asked now (text ∷ [])) (text ∷ [], [], refl, same)
+      memory_error (IsTwice old.words (on_line line (words_of bytes))) (λ e. Answers known (ItemIs old (item kinds.File)) asked now (refuse_items e)) (IsMissing known) (AsksWithin asked now (text ∷ [])) (text ∷ [], [], refl, same)
       (λ e again. if_some_map known (IsRead bytes) _ (λ contents given. (text ∷ [], same, (refl, λ items. twice old (item kinds.File).0 line items (words_of bytes) e given again))) read) error h
 
   -- a file that was not
+  abbrev UnreadTold : Contents → DictError → Type 0
+  UnreadTold contents error = OnError (IsMissing (Some contents)) (AsksWithin asked now (text ∷ [])) (λ e. Answers (Some contents) (ItemIs old (item kinds.File)) asked now (refuse_items e)) error
+
+  unread_answers : (contents : Contents) (cause : WordFileError) → now ≡ asked ++ text ∷ [] → FileGives (file contents text) (fails cause) → Answers (Some contents) (ItemIs old (item kinds.File)) asked now (refuse_items (WordFile line text cause))
+  unread_answers contents cause same given = (text ∷ [], same, (refl, λ items. unread old (item kinds.File).0 line items cause given))
+
+  by_cause : (contents : Contents) (cause : WordFileError) → now ≡ asked ++ text ∷ [] → AsksWithin asked now (text ∷ []) → ((cause ≡ Failed → file contents text ≡ None) → FileGives (file contents text) (fails cause))
+      → UnreadTold contents (WordFile line text cause)
+  by_cause contents TooLong same within leads = unread_answers contents TooLong same (leads (λ q. cc))
+  by_cause contents (NotUtf8 n) same within leads = unread_answers contents (NotUtf8 n) same (leads (λ q. cc))
+  by_cause contents Failed same within leads = (within, λ missing. unread_answers contents Failed same (leads (λ q. missing)))
+
   unread_known : (A : Type 0) (error : DictError) (o : Option Contents) → AsksFile {T = Vec ℕ A} asked now text (Err error) → IfSome o (λ contents. TellsFile {A = A} (file contents text) line text (Err error))
-      → OnError (AsksWithin asked now (text ∷ [])) (λ e. Answers o (ItemIs old (item kinds.File)) asked now (refuse_items e)) error
-  unread_known A error None asks read = error_untold (AsksWithin asked now (text ∷ [])) asks.0 error
+      → OnError (IsMissing o) (AsksWithin asked now (text ∷ [])) (λ e. Answers o (ItemIs old (item kinds.File)) asked now (refuse_items e)) error
+  unread_known A error None asks read = error_untold (IsMissing None) (AsksWithin asked now (text ∷ [])) asks.0 error
   unread_known A error (Some contents) asks read =
-      error_both (λ e. (cause : WordFileError) × FileGives (file contents text) (fails cause) × (e ≡ WordFile line text cause)) (λ e. Answers (Some contents) (ItemIs old (item kinds.File)) asked now (refuse_items e))
-      (AsksWithin asked now (text ∷ [])) (now ≡ asked ++ text ∷ []) asks.0
-      (λ e same (cause, given, is). (text ∷ [], same, (refl, λ items. subst (λ (x : DictError). ItemsGive contents old (item kinds.File ∷ items) (text ∷ []) (refuse_items x)) (sym is) (unread old (item kinds.File).0 line items cause given)))) error asks.1 read
+      memory_both (IsUnread (file contents text) line text) (UnreadTold contents)
+      (now ≡ asked ++ text ∷ []) asks.0 (λ e same (cause, is, leads). subst (UnreadTold contents) (sym is) (by_cause contents cause same asks.0 leads)) error asks.1 read
 
   pub unread_told : (A : Type 0) (error : DictError) (kind : ItemKind) (name : List ℕ) → kind ≡ kinds.File → name ≡ text → AsksFile {T = Vec ℕ A} asked now name (Err error) → IfSome known (λ contents. TellsFile {A = A} (file contents name) line name (Err error))
-      → OnError (AsksWithin asked now (asked_by kind text)) (λ e. Answers known (ItemIs old (item kind)) asked now (refuse_items e)) error
+      → OnError (IsMissing known) (AsksWithin asked now (asked_by kind text)) (λ e. Answers known (ItemIs old (item kind)) asked now (refuse_items e)) error
   unread_told A error kind name is same asks read =
-      subst (λ (k : ItemKind). OnError (AsksWithin asked now (asked_by k text)) (λ e. Answers known (ItemIs old (item k)) asked now (refuse_items e)) error) (sym is)
+      subst (λ (k : ItemKind). OnError (IsMissing known) (AsksWithin asked now (asked_by k text)) (λ e. Answers known (ItemIs old (item k)) asked now (refuse_items e)) error) (sym is)
       (unread_known A error known (subst (λ (t : List ℕ). AsksFile {T = Vec ℕ A} asked now t (Err error)) same asks)
       (subst (λ (t : List ℕ). IfSome known (λ contents. TellsFile {A = A} (file contents t) line t (Err error))) same read))
 

@@ -1,5 +1,5 @@
 -- What the items of an entry are told to define, one after another.
-use Rattle.std.proofs.Common.{◌≡◌, ℕ, Option, None, Some, IfSome, List, [], ◌∷◌, ◌++◌, Result, Ok, Err, refl, sym, ap, subst, ◌∙◌, append_assoc}
+use Rattle.std.proofs.Common.{◌≡◌, ℕ, Option, None, Some, IfSome, List, [], ◌∷◌, ◌++◌, refl, sym, ap, subst, ◌∙◌, append_assoc}
 use Rattle.std.proofs.Common.{◌⊎◌, inl, inr, Bor, Iter}
 use Rattle.std.proofs.lemmas.List.{append-nil}
 use Rattle.std.proofs.lemmas.Slice.Zip.{Zip-more, either_empty_from_Zip}
@@ -11,19 +11,19 @@ use Rattle.lg_base.specs.Contents.{Contents}
 use Rattle.lg_gram.specs.declared.entry.Item.{Item}
 use Rattle.lg_dictread.specs.declared.dict_error.DictError.{DictError}
 use Rattle.lg_dictread.specs.Definitions.{Lines, AreNew, Defined, none_defined, both, asked_by, ItemsAnswer, define, refuse_items, with_defined, ItemsGive, no_item, defines, twice, unread}
-use Rattle.lg_dictread.specs.Telling.{AsksWithin, Answers, AsksFront, OnError}
-use Rattle.lg_dictread.specs.Defining.{names_in, AddsNames, Listed, none_listed, AddsDefined, ItemIs, ItemsAre, TellsDefined}
+use Rattle.lg_dictread.specs.Telling.{AsksWithin, Answers, AsksFront, IsMissing, OnError}
+use Rattle.lg_dictread.specs.Defining.{names_in, AddsNames, Listed, none_listed, AddsDefined, ItemIs, ItemsAre}
 use Rattle.lg_dictread.proofs.ErrorMaps.{if_some, if_some_map, if_some_both, error_map}
 use Rattle.lg_dictread.proofs.ItemAnswers.{Laws, answer_of, items_give, is_items_answer}
 use Rattle.lg_dictread.proofs.ItemTold.{adds_none}
 
 -- ---- additions one after another
 
-new_then : (old a b : Lines) → AreNew old a → AreNew (old ++ a) b → AreNew old (a ++ b)
+pub new_then : (old a b : Lines) → AreNew old a → AreNew (old ++ a) b → AreNew old (a ++ b)
 new_then old [] b h k = subst (λ (l : Lines). AreNew l b) (append-nil old) k
 new_then old (d ∷ a) b h k = (h.0, new_then (old ++ d ∷ []) a b h.1 (subst (λ (l : Lines). AreNew l b) (sym (append_assoc old (d ∷ []) a)) k))
 
-names_then : (a b : Lines) → names_in (a ++ b) ≡ names_in a ++ names_in b
+pub names_then : (a b : Lines) → names_in (a ++ b) ≡ names_in a ++ names_in b
 names_then [] b = refl
 names_then (d ∷ a) b = ap (λ (l : List (List ℕ)). d.0 ∷ l) (names_then a b)
 
@@ -40,7 +40,7 @@ defined_then old mid now listed more most a b h k = record {
   macros = adds_then old.macros mid.macros now.macros listed.macros more.macros most.macros a.macros b.macros h.macros k.macros;
 }
 
-now_is : (old now : Defined) (listed more : Listed) (d : Defined) → AddsDefined old now listed more d → now ≡ both old d
+pub now_is : (old now : Defined) (listed more : Listed) (d : Defined) → AddsDefined old now listed more d → now ≡ both old d
 now_is old now listed more d h = λ i. record { words = h.words.table i; macros = h.macros.table i }
 
 with_both : (a b : Defined) (answer : ItemsAnswer) → with_defined a (with_defined b answer) ≡ with_defined (both a b) answer
@@ -136,11 +136,11 @@ module _ (known : Option Contents) (asked now : List (List ℕ)) (old at : Defin
 
   -- the error of an item is that of all
   pub so_far_error : (laws : Laws) (next : List (List ℕ)) (left : List (Item × ℕ)) (i : Item × ℕ) (error : DictError) → rest ≡ i ∷ left
-      → OnError (AsksWithin now next (asked_by i.0.kind i.0.text)) (λ e. Answers known (ItemIs at i) now next (refuse_items e)) error
-      → OnError (AsksFront known (ItemsAre old all) asked next) (λ e. Answers known (ItemsAre old all) asked next (refuse_items e)) error
+      → OnError (IsMissing known) (AsksWithin now next (asked_by i.0.kind i.0.text)) (λ e. Answers known (ItemIs at i) now next (refuse_items e)) error
+      → OnError (IsMissing known) (AsksFront known (ItemsAre old all) asked next) (λ e. Answers known (ItemsAre old all) asked next (refuse_items e)) error
   so_far_error laws next left i error split tells =
       error_map (λ e. Answers known (ItemIs at i) now next (refuse_items e)) (λ e. Answers known (ItemsAre old all) asked next (refuse_items e))
-      (AsksWithin now next (asked_by i.0.kind i.0.text)) (AsksFront known (ItemsAre old all) asked next) (front_here laws next left i split) (fault_here next left i split) error tells
+      (IsMissing known) (AsksWithin now next (asked_by i.0.kind i.0.text)) (AsksFront known (ItemsAre old all) asked next) (front_here laws next left i split) (fault_here next left i split) error tells
 
 -- ---- a loop over items and their lines
 

@@ -12,3 +12,7 @@ pub mod ErrorMaps
 pub mod Unread
 pub mod ItemTold
 pub mod ItemsTold
+pub mod Formulas
+pub mod NextEntry
+pub mod TextsTold
+pub mod Listing

@@ -1,5 +1,5 @@
 -- Look-ups by bytes in tables whose keys are bytes.
-use Rattle.std.proofs.Common.{◌≡◌, ℕ, Bool, true, false, cond, if◌then◌else◌, List, [], ◌∷◌, ◌++◌, map, nat_eq, Option, Some, None, IfNone, refl, sym, ap, subst, ◌∙◌}
+use Rattle.std.proofs.Common.{◌≡◌, ℕ, Bool, cond, if◌then◌else◌, List, [], ◌∷◌, ◌++◌, map, nat_eq, Option, Some, None, IfNone, refl, sym, ap, ◌∙◌}
 use Rattle.std.proofs.lemmas.Bool.{cases_Bool, cond-true, cond-false}
 use Rattle.std.proofs.lemmas.List.{map_push}
 use mathlib.Core.Logic.{⊎_elim}
@@ -16,7 +16,7 @@ use Rattle.lg_dictread.specs.Tables.{text_entries}
 abbrev pub key_eq : {A : Type 0} → Vec ℕ A → Vec ℕ A → Bool
 key_eq a b = pointwise nat_eq a.items b.items
 
-seen_lookup : {A V : Type 0} (text : List ℕ) (es : List (Vec ℕ A × V)) → lookup (same_text text) (map (λ (e : Vec ℕ A × V). (e.0.items, e.1)) es) ≡ lookup (λ k. pointwise nat_eq text k.items) es
+pub seen_lookup : {A V : Type 0} (text : List ℕ) (es : List (Vec ℕ A × V)) → lookup (same_text text) (map (λ (e : Vec ℕ A × V). (e.0.items, e.1)) es) ≡ lookup (λ k. pointwise nat_eq text k.items) es
 seen_lookup text [] = refl
 seen_lookup text (e ∷ es) = ap (cond (pointwise nat_eq text e.0.items) (Some e.1)) (seen_lookup text es)
 

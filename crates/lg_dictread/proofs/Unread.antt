@@ -7,14 +7,14 @@ use Rattle.lg_dictread.specs.declared.dict_error.WordFileError.{WordFileError}
 use Rattle.lg_dictread.specs.declared.dict_error.WordFileError.TheVariants.{Failed, TooLong}
 use Rattle.lg_dictread.specs.Definitions.{FileGives, fails, long}
 use Rattle.lg_dictread.specs.Limits.{FILE}
-use Rattle.lg_dictread.specs.Telling.{UnlessMemory, OnError, IsCause}
-use Rattle.lg_dictread.proofs.ErrorMaps.{memory_out, memory_error}
+use Rattle.lg_dictread.specs.Defining.{IsUnread}
+use Rattle.lg_dictread.specs.Telling.{UnlessMemory, IsCause}
+use Rattle.lg_dictread.proofs.ErrorMaps.{memory_out, memory_map}
 
 -- the error tells what the file gives
-pub unread_told : (found : Option (List ℕ)) (line : ℕ) (name : List ℕ) (cause : WordFileError) (error : DictError) → FileGives found (fails cause) → UnlessMemory (λ e. e ≡ WordFile line name cause) error
-    → OnError (Unit {0}) (λ e. (c : WordFileError) × FileGives found (fails c) × (e ≡ WordFile line name c)) error
-unread_told found line name cause error gives h =
-    memory_error (λ e. e ≡ WordFile line name cause) (λ e. (c : WordFileError) × FileGives found (fails c) × (e ≡ WordFile line name c)) (Unit {0}) tt (λ e is. (cause, gives, is)) error h
+pub unread_told : (found : Option (List ℕ)) (line : ℕ) (name : List ℕ) (cause : WordFileError) (error : DictError) → ((cause ≡ Failed → found ≡ None) → FileGives found (fails cause)) → UnlessMemory (λ e. e ≡ WordFile line name cause) error
+    → UnlessMemory (IsUnread found line name) error
+unread_told found line name cause error gives h = memory_map (λ e. e ≡ WordFile line name cause) (IsUnread found line name) (λ e is. (cause, is, gives)) error h
 
 -- and has its cause
 pub unread_cause : (before now line : ℕ) (old asked : List (List ℕ)) (name : List ℕ) (cause : WordFileError) (error : DictError) → asked ≡ old ++ name ∷ [] → (cause ≡ Failed → Rose before now)

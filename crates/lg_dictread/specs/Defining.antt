@@ -1,20 +1,20 @@
 -- What the tables of a reader hold, and what an item adds to them.
-use Rattle.std.specs.Prelude.{◌≡◌, ℕ, ◌≤◌, List, [], ◌∷◌, ◌++◌, length, map, Option, Some, Result, Ok, Err}
+use Rattle.std.specs.Prelude.{◌≡◌, ℕ, ◌≤◌, List, [], ◌∷◌, ◌++◌, length, map, Option, None, Some, Result, Ok, Err}
 use Rattle.std.specs.Str.{IsUtf8}
-use Rattle.lg_base.specs.Contents.{Contents, file}
+use Rattle.lg_base.specs.Contents.{Contents}
 use Rattle.lg_gram.specs.declared.entry.Item.{Item}
-use Rattle.lg_gram.specs.declared.entry.ItemKind.{ItemKind}
 use Rattle.lg_gram.specs.declared.entry.ItemKind.TheVariants as kinds
 use Rattle.lg_dictread.specs.declared.dict_error.DictError.{DictError}
 use Rattle.lg_dictread.specs.declared.dict_error.DictError.TheVariants.{WordFile}
 use Rattle.lg_dictread.specs.declared.dict_error.WordFileError.{WordFileError}
+use Rattle.lg_dictread.specs.declared.dict_error.WordFileError.TheVariants.{Failed}
 use Rattle.std.specs.declared.vec.Vec.{Vec}
 use Rattle.lg_dictread.specs.Limits.{FILE}
 use Rattle.lg_dictread.specs.declared.define.Tables.{Tables}
 use Rattle.lg_dictread.specs.declared.define.Names.{Names}
-use Rattle.lg_dictread.specs.Definitions.{Lines, AreNew, IsTwice, Defined, both, Given, gives, fails, FileGives, asked_by, on_line, defined_as, of_kind, ItemsAnswer, define, refuse_items, with_defined, ItemsGive}
+use Rattle.lg_dictread.specs.Definitions.{Lines, AreNew, IsTwice, Defined, both, fails, FileGives, asked_by, ItemsAnswer, define, refuse_items, with_defined, ItemsGive}
 use Rattle.lg_dictread.specs.Tables.{text_entries}
-use Rattle.lg_dictread.specs.Telling.{Determined, AsksWithin, Answers, AsksFront, UnlessMemory, OnError}
+use Rattle.lg_dictread.specs.Telling.{Determined, AsksWithin, Answers, IsMissing, UnlessMemory, OnError}
 
 abbrev pub defined_in : Tables → Defined
 defined_in t = record { words = text_entries t.words; macros = text_entries t.macros }
@@ -66,12 +66,16 @@ ItemsAre old items contents asked answer = ItemsGive contents old items asked an
 -- the definitions that are added are the answer, or the error is; where the call ends before, this holds
 abbrev pub TellsDefined : {T : Type 0} → Type 0 → Option Contents → Determined ItemsAnswer → List (List ℕ) → List (List ℕ) → (T → Defined → Type 0) → Result T DictError → Type 0
 TellsDefined Ended known is old new Adds (Ok x) = (d : Defined) × Adds x d × Answers known is old new (define d)
-TellsDefined Ended known is old new Adds (Err error) = OnError Ended (λ e. Answers known is old new (refuse_items e)) error
+TellsDefined Ended known is old new Adds (Err error) = OnError (IsMissing known) Ended (λ e. Answers known is old new (refuse_items e)) error
+
+-- the error of a word file that is found so; where it may be there, reading it may fail
+abbrev pub IsUnread : Option (List ℕ) → ℕ → List ℕ → DictError → Type 0
+IsUnread found line name error = (cause : WordFileError) × (error ≡ WordFile line name cause) × ((cause ≡ Failed → found ≡ None) → FileGives found (fails cause))
 
 -- the bytes of a word file that is found so, or why it gives no words
 abbrev pub TellsFile : {A : Type 0} → Option (List ℕ) → ℕ → List ℕ → Result (Vec ℕ A) DictError → Type 0
 TellsFile found line name (Ok bytes) = (found ≡ Some bytes.items) × (length bytes.items ≤ FILE) × IsUtf8 bytes.items
-TellsFile found line name (Err error) = OnError (Unit {0}) (λ e. (cause : WordFileError) × FileGives found (fails cause) × (e ≡ WordFile line name cause)) error
+TellsFile found line name (Err error) = UnlessMemory (IsUnread found line name) error
 
 -- the file is asked for once; memory may run out before
 abbrev pub AsksFile : {T : Type 0} → List (List ℕ) → List (List ℕ) → List ℕ → Result T DictError → Type 0

@@ -11,3 +11,5 @@ pub mod Tables
 pub mod Telling
 pub mod Defining
 pub mod Texts
+pub mod DictTexts
+pub mod Reading

@@ -1,11 +1,10 @@
 -- How a call tells its answer, where files tell what they hold, and what else holds of it.
-use Rattle.std.specs.Prelude.{◌≡◌, ℕ, ◌≤◌, List, [], ◌∷◌, ◌++◌, Option, IfSome, Result, IfErr}
-use Rattle.lg_base.specs.Contents.{Contents}
+use Rattle.std.specs.Prelude.{◌≡◌, ℕ, ◌≤◌, List, [], ◌∷◌, ◌++◌, Option, None, IfSome, Result, IfErr}
+use Rattle.lg_base.specs.Contents.{Contents, file}
 use Rattle.lg_base.specs.Faults.{Rose}
 use Rattle.lg_dictread.specs.declared.dict_error.DictError.{DictError}
 use Rattle.lg_dictread.specs.declared.dict_error.DictError.TheVariants as errors
-use Rattle.lg_dictread.specs.declared.dict_error.WordFileError.{WordFileError}
-use Rattle.lg_dictread.specs.declared.dict_error.WordFileError.TheVariants.{Failed, TooLong, NotUtf8}
+use Rattle.lg_dictread.specs.declared.dict_error.WordFileError.TheVariants.{Failed}
 
 -- what contents determine: the names of files that are asked for, in order, and an answer
 abbrev pub Determined : Type 0 → Type 1
@@ -29,11 +28,15 @@ abbrev pub UnlessMemory : (DictError → Type 0) → DictError → Type 0
 UnlessMemory Told errors.NoMemory = Unit {0}
 UnlessMemory Told error = Told error
 
--- Where memory runs out or a file is not read, this holds; any other error is told, and then that.
-abbrev pub OnError : Type 0 → (DictError → Type 0) → DictError → Type 0
-OnError Ended Told errors.NoMemory = Ended
-OnError Ended Told (errors.WordFile line name Failed) = Ended
-OnError Ended Told error = Told error
+-- the file is not there
+abbrev pub IsMissing : Option Contents → List ℕ → Type 0
+IsMissing known name = IfSome known (λ contents. file contents name ≡ None)
+
+-- Where memory runs out, or a file that may be there is not read, this holds; any other error is told.
+abbrev pub OnError : (List ℕ → Type 0) → Type 0 → (DictError → Type 0) → DictError → Type 0
+OnError Missing Ended Told errors.NoMemory = Ended
+OnError Missing Ended Told (errors.WordFile line name Failed) = Ended × (Missing name → Told (errors.WordFile line name Failed))
+OnError Missing Ended Told error = Told error
 
 -- why a call failed: a word file that was not read is the last that was asked, and the count of faults rose
 abbrev pub IsCause : ℕ → ℕ → List (List ℕ) → DictError → Type 0

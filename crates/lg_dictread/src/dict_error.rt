@@ -9,10 +9,10 @@ pub enum WordFileError {
     #[error("cannot be read")]
     Failed,
     /// The file has more than 67,108,864 bytes.
-    #[error("longer than 67108864 bytes")]
+    #[error("is longer than 67108864 bytes")]
     TooLong,
     /// The number, from 0, of the file's first byte that belongs to no whole valid character.
-    #[error("byte {0} is not UTF-8")]
+    #[error("is not UTF-8 at byte {0}")]
     NotUtf8(u64),
 }
 
@@ -52,7 +52,7 @@ pub enum DictError {
     #[error("a word is defined on lines {1} and {2}")]
     DuplicateWord(Text, u32, u32),
     /// The line of an item that names a word file, the file's name, and why it gives no words.
-    #[error("line {0}: a word file is {2}")]
+    #[error("line {0}: a word file {2}")]
     WordFile(u32, Text, WordFileError),
 }
 

@@ -6,6 +6,8 @@
 
 mod define;
 mod dict_error;
+mod dict_text;
+mod earlier;
 mod entry;
 mod entry_text;
 pub mod first_form;
@@ -16,9 +18,12 @@ mod measure;
 mod spot;
 mod stop;
 mod table;
+#[cfg(test)]
+mod tests;
 mod word_file;
 
 pub use dict_error::{DictError, WordFileError};
+pub use dict_text::read_dict;
 pub use entry_text::{EntryError, read_entry};
 pub use first_form::{FirstFormError, read_first_form};
 pub use law::{exactly_one_dictionary, exactly_one_entry, exactly_one_entry_text};

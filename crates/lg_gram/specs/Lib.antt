@@ -15,3 +15,4 @@ pub mod RawTrees
 pub mod Pairs
 pub mod Ground
 pub mod Filled
+pub mod Entries

@@ -6,3 +6,4 @@ pub mod Columns
 pub mod RunLists
 pub mod ValidFronts
 pub mod TokenTexts
+pub mod AfterMark

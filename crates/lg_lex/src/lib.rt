@@ -13,7 +13,10 @@ mod tests;
 mod token;
 mod utf8;
 
-pub use laws::{bytes_are_utf8_or_at_fault, places_add_up, runs_are_one_list, tokens_are_one_list};
+pub use laws::{
+    bytes_are_utf8_or_at_fault, places_add_up, runs_are_one_list, tokens_are_one_list,
+    tokens_are_utf8,
+};
 pub use marks::{Class, Marks, class_of};
 pub use place::{Place, place_at};
 pub use run::{Run, Separators, next_run};

@@ -1,8 +1,7 @@
-use crate::laws::tokens_are_utf8;
 use crate::{
     Class, Marks, Place, Separators, Token, bytes_are_utf8_or_at_fault, class_of, next_run,
-    next_token, place_at, places_add_up, runs_are_one_list, tokens_are_one_list, utf8_fault,
-    without_mark,
+    next_token, place_at, places_add_up, runs_are_one_list, tokens_are_one_list, tokens_are_utf8,
+    utf8_fault, without_mark,
 };
 use std::test::Fail;
 

@@ -1,4 +1,4 @@
-use Rattle.std.proofs.Common.{◌≡◌, ◌∷◌, ◌∙◌, ℕ, List, ap, map}
+use Rattle.std.proofs.Common.{ℕ, List, ap, map}
 use Rattle.std.proofs.lemmas.Result.{err_from_is_err_and}
 use Rattle.lg_lex.specs.declared.run.Separators.TheVariants.{WhiteSpace}
 use Rattle.lg_lex.specs.Runs.{runs_from}

@@ -1,0 +1,265 @@
+-- What the entry at the front of the tokens is told to give.
+use Rattle.std.proofs.Common.{◌≡◌, ℕ, suc, ◌&&◌, ◌==◌, nat_lt, eqb-true, Bool, true, false, cond, if◌then◌else◌, List, [], ◌∷◌, ◌++◌, length, map, drop, slice_index, Option, Some, Ok, refl, sym, ap, subst, ◌∙◌, arith}
+use Rattle.std.proofs.lemmas.List.{append-nil}
+use Rattle.std.proofs.lemmas.Str.{IsCharBoundary-after_ascii, IsUtf8-drop}
+use Rattle.std.proofs.lemmas.List.Concat.{flat_map-append}
+use Rattle.std.proofs.lemmas.List.Folds.{flat_map-map}
+use Rattle.std.specs.List.{AllByRecursion, zip, flat_map, list_any}
+use Rattle.std.specs.Str.{IsUtf8}
+use Rattle.lg_base.specs.Contents.{Contents}
+use Rattle.lg_gram.specs.Filled.{Formulas, filled, filled_level}
+use Rattle.lg_gram.specs.RawTrees.{RawTree, raw_tree_of}
+use Rattle.lg_gram.specs.Trees.{Tree}
+use Rattle.lg_gram.specs.declared.entry.Entry.{Entry}
+use Rattle.lg_lex.specs.declared.marks.Marks.TheVariants.{Dictionary}
+use Rattle.lg_lex.specs.Lexing.{tokens_from}
+use Rattle.lg_dictread.specs.declared.define.Names.{Names}
+use Rattle.lg_dictread.specs.declared.define.Tables.{Tables}
+use Rattle.lg_dictread.specs.declared.earlier.Earlier as code_earlier
+use Rattle.lg_dictread.specs.declared.entry.One.{One}
+use Rattle.lg_gram.specs.declared.entry.Item.{Item}
+use Rattle.lg_gram.specs.declared.entry.ItemKind.TheVariants as kinds
+use Rattle.lg_lex.specs.declared.place.Place.{Place}
+use Rattle.lg_lex.specs.Tokens.{Lexeme, sign, quoted, plain, broken, HasUtf8}
+use Rattle.lg_expr.specs.declared.fault.Fault as expr_fault
+use Rattle.lg_expr.specs.Grammar.{Rules}
+use Rattle.lg_expr.specs.Classes.{is_macro_name}
+use Rattle.lg_dictread.specs.declared.dict_error.DictError.{DictError}
+use Rattle.lg_dictread.specs.declared.dict_error.DictError.TheVariants as errors
+use Rattle.lg_dictread.specs.declared.stop.Stop.{Stop}
+use Rattle.lg_dictread.specs.declared.stop.Stop.TheVariants as stops
+use Rattle.lg_dictread.specs.Items.{item, colon, other, is_file_name, plain_item, head_of}
+use Rattle.lg_dictread.specs.Entries.{Token, Written, AreItems, EntryStands, EntryAnswer, fault, EntryIs}
+use Rattle.lg_dictread.specs.Places.{line_of, entry_line, place_left, part_left}
+use Rattle.lg_dictread.specs.View.{TellsFault, TellsStop, KeepsItems, Keeps, TellsEntry}
+use Rattle.lg_dictread.specs.Telling.{AsksWithin, Answers, AsksFront, IsMissing, UnlessMemory, OnError}
+use Rattle.lg_dictread.specs.Definitions.{same_text, both, Lines, AreNew, Defined, ItemsAnswer, define, refuse_items, ItemsGive}
+use Rattle.lg_dictread.specs.Defining.{names_in, defined_in, Listed, listed_in, none_listed, AddsDefined, HasUtf8Name, ItemsAre}
+use Rattle.lg_dictread.specs.Texts.{Earlier, rules_after, Meaning, meaning_of, IsSmall, IsLarge, nodes, choices, side, IsErrorOf, EntryOutcome, means, fails, EntryGives, whole, at_fault, large, at_items}
+use Rattle.lg_dictread.specs.DictTexts.{entry_meaning}
+use Rattle.lg_dictread.specs.Reading.{formulas_of, written_meaning, AddsEntry, AreListed, ListsAll, TellsStopBy, AreUtf8, NextIs}
+use Rattle.lg_dictread.proofs.ErrorMaps.{if_some, if_some_map, memory_map, memory_error, error_map}
+use Rattle.lg_dictread.proofs.ItemsTold.{new_then, names_then, now_is}
+use Rattle.lg_dictread.proofs.ItemAnswers as item_answers
+use Rattle.lg_dictread.proofs.ItemAnswers.{Laws, items_give}
+use Rattle.lg_dictread.proofs.TextAnswers.{EntryLaws, one_outcome}
+
+-- ---- items with their lines
+
+zipped : (text : List ℕ) (is : List (Item × ℕ)) → zip (map (λ i. i.0) is) (map (line_of text) is) ≡ map (λ i. (i.0, line_of text i)) is
+zipped text [] = refl
+zipped text (i ∷ is) = ap (λ (l : List (Item × ℕ)). (i.0, line_of text i) ∷ l) (zipped text is)
+
+pub items_zip : (text : List ℕ) (is : List (Item × ℕ)) (items : List Item) (lines : List ℕ) → KeepsItems text is items lines → zip items lines ≡ map (λ i. (i.0, line_of text i)) is
+items_zip text is items lines keeps = (λ k. zip (keeps.items_are k) (keeps.lines_are k)) ∙ zipped text is
+
+-- ---- tokens that are UTF-8
+
+both_true : (a b : Bool) → (a && b) ≡ true → (a ≡ true) × (b ≡ true)
+both_true true true e = (refl, refl)
+both_true true false e = absurd cc
+both_true false b e = absurd cc
+
+file_rest : (w : List ℕ) → IsUtf8 w → is_file_name w ≡ true → IsUtf8 (drop 1 w)
+file_rest [] utf8 is = absurd cc
+file_rest (b ∷ w) utf8 is =
+    let slash : b ≡ 47 = eqb-true b 47 (both_true (nat_lt 1 (suc (length w))) (b == 47) is).1 in
+    IsUtf8-drop (b ∷ w) 1 utf8 (IsCharBoundary-after_ascii (b ∷ w) 0 utf8 (omega arith) (omega (arith, slash)))
+
+name_utf8 : (w : List ℕ) (is_macro is_file : Bool) → is_file_name w ≡ is_file → IsUtf8 w
+    → HasUtf8Name (cond is_macro (record { kind = kinds.Macro; text = w }) (cond is_file (record { kind = kinds.File; text = drop 1 w }) (record { kind = kinds.Word; text = w })))
+name_utf8 w true is_file e utf8 = λ q. utf8
+name_utf8 w false true e utf8 = λ q. file_rest w utf8 e
+name_utf8 w false false e utf8 = λ q. utf8
+
+no_sign : (b : Bool) (i : Item) → cond b colon other ≡ item i → ⊥
+no_sign true i e = cc
+no_sign false i e = cc
+
+item_utf8 : (x : Lexeme) (i : Item) → HasUtf8 x → head_of x ≡ item i → HasUtf8Name i
+item_utf8 (sign b) i utf8 is = absurd (no_sign (b == 58) i is)
+item_utf8 (quoted w) i utf8 is = let same : record { kind = kinds.Word; text = w } ≡ i = cc in subst HasUtf8Name same (λ q. utf8)
+item_utf8 (plain w) i utf8 is = let same : plain_item w ≡ i = cc in subst HasUtf8Name same (name_utf8 w (is_macro_name w) (is_file_name w) refl utf8)
+item_utf8 broken i utf8 is = absurd cc
+
+items_utf8 : (is : List (Item × ℕ)) (ts rest : List Token) → AreItems is ts rest → AreUtf8 ts → AllByRecursion HasUtf8Name (map (λ i. i.0) is) × AreUtf8 rest
+items_utf8 [] ts rest are utf8 = (tt, subst AreUtf8 are utf8)
+items_utf8 (i ∷ is) [] rest are utf8 = absurd are
+items_utf8 (i ∷ is) (t ∷ ts) rest are utf8 = let further = items_utf8 is ts rest are.2 utf8.1 in ((item_utf8 t.0 i.0 utf8.0 are.0, further.0), further.1)
+
+rest_utf8 : (front rest : List Token) → AreUtf8 (front ++ rest) → AreUtf8 rest
+rest_utf8 [] rest h = h
+rest_utf8 (t ∷ front) rest h = rest_utf8 front rest h.1
+
+-- the names of word files, and the tokens after the entry
+pub stands_utf8 : (r : Rules) (ts : List Token) (e : Written) (rest : List Token) → EntryStands r ts e rest → AreUtf8 ts → AllByRecursion HasUtf8Name (map (λ i. i.0) e.items) × AreUtf8 rest
+stands_utf8 r ts e rest h utf8 =
+    let items = items_utf8 e.items ts (h.mark ∷ h.body) h.are_items utf8 in
+    (items.0, rest_utf8 h.stands.front rest (subst AreUtf8 h.stands.split items.1.1))
+
+-- ---- the error of a stop
+
+module _ (text : List ℕ) (Is : expr_fault.Fault → List Token → Type 0) (Told : DictError → Type 0)
+    (leads : (f : expr_fault.Fault) (left : List Token) (error : DictError) → Is f left → IsErrorOf (place_left text left) (part_left left) f error → Told error) where
+  abbrev AtFault : Stop → Type 0
+  AtFault stop = (f : expr_fault.Fault) × (left : List Token) × Is f left × TellsFault f (place_left text left) (part_left left) stop
+
+  at_place : (stop : Stop) (e : DictError) → AtFault stop → ((f : expr_fault.Fault) (left : List Token) → TellsFault f (place_left text left) (part_left left) stop → IsErrorOf (place_left text left) (part_left left) f e) → Told e
+  at_place stop e (f, left, is, tells) error = leads f left e is (error f left tells)
+
+  pub stop_told : (stop : Stop) (error : DictError) → TellsStop text Is stop → TellsStopBy stop error → UnlessMemory Told error
+  stop_told stops.NoMemory error h k = subst (UnlessMemory Told) (sym k) tt
+  stop_told (stops.Syntax place) error h k =
+      subst (UnlessMemory Told) (sym k) (at_place (stops.Syntax place) (errors.Syntax place.line place.column) h
+      (λ f left tells. subst (λ (x : expr_fault.Fault). IsErrorOf (place_left text left) (part_left left) x (errors.Syntax place.line place.column)) (sym tells.0) (ap (λ (p : Place). errors.Syntax p.line p.column) tells.1)))
+  stop_told (stops.CostForm line) error h k =
+      subst (UnlessMemory Told) (sym k) (at_place (stops.CostForm line) (errors.CostForm line) h
+      (λ f left tells. subst (λ (x : expr_fault.Fault). IsErrorOf (place_left text left) (part_left left) x (errors.CostForm line)) (sym tells.0) (ap errors.CostForm tells.1)))
+  stop_told (stops.UnknownMacro line name) error h k =
+      memory_map (λ e. e ≡ errors.UnknownMacro line name.now) Told
+      (λ e is. subst Told (sym is) (at_place (stops.UnknownMacro line name) (errors.UnknownMacro line name.now) h
+      (λ f left tells. subst (λ (x : expr_fault.Fault). IsErrorOf (place_left text left) (part_left left) x (errors.UnknownMacro line name.now)) (sym tells.0) (name.now, tells.2, ap (λ (n : ℕ). errors.UnknownMacro n name.now) tells.1))))
+      error k
+  stop_told (stops.TooDeep line) error h k =
+      subst (UnlessMemory Told) (sym k) (at_place (stops.TooDeep line) (errors.TooDeep line) h
+      (λ f left tells. subst (λ (x : expr_fault.Fault). IsErrorOf (place_left text left) (part_left left) x (errors.TooDeep line)) (sym tells.0) (ap errors.TooDeep tells.1)))
+
+-- ---- what the entry gives
+
+module _ (known : Option Contents) (asked : List (List ℕ)) (text : List ℕ) (earlier : Earlier) (ts : List Token) where
+  abbrev Is : Contents → List (List ℕ) → EntryOutcome → Type 0
+  Is contents names o = EntryGives contents text earlier ts names o
+
+  -- nothing was asked
+  pub asks_nothing : AsksFront known (NextIs text earlier ts) asked asked
+  asks_nothing = if_some known _ (λ contents names o h. ([], names, refl, sym (append-nil asked)))
+
+  unasked : (o : EntryOutcome) → ((contents : Contents) → Is contents [] o) → Answers known (NextIs text earlier ts) asked asked o
+  unasked o h = if_some known _ (λ contents. ([], sym (append-nil asked), h contents))
+
+  -- a fault of the tokens
+  pub fault_gives : (a : EntryAnswer) (stop : Stop) (error : DictError) → EntryIs (rules_after earlier) ts a → TellsStop text (λ f left. a ≡ fault f left) stop → TellsStopBy stop error
+      → OnError (IsMissing known) (AsksFront known (NextIs text earlier ts) asked asked) (λ e. Answers known (NextIs text earlier ts) asked asked (fails e)) error
+  fault_gives a stop error is tells by =
+      let Told : DictError → Type 0 = λ e. Answers known (NextIs text earlier ts) asked asked (fails e) in
+      memory_error Told Told (IsMissing known) (AsksFront known (NextIs text earlier ts) asked asked) asks_nothing (λ e h. h) error
+      (stop_told text (λ f left. a ≡ fault f left) Told
+      (λ f left e same at. unasked (fails e) (λ contents. at_fault f left e (subst (EntryIs (rules_after earlier) ts) same is) at)) stop error tells by)
+
+  module _ (e : Written) (rest : List Token) (stands : EntryStands (rules_after earlier) ts e rest) where
+    -- a formula past a measure
+    pub large_gives : (error : DictError) → IsLarge (filled earlier.formulas e.expr) (entry_line text e.items) error → Answers known (NextIs text earlier ts) asked asked (fails error)
+    large_gives error h = unasked (fails error) (λ contents. large e rest error stands h)
+
+    module _ (small : IsSmall (filled earlier.formulas e.expr)) (lined : List (Item × ℕ)) (are : lined ≡ map (λ i. (i.0, line_of text i)) e.items) (now : List (List ℕ)) where
+      at_lines : (contents : Contents) (names : List (List ℕ)) (answer : ItemsAnswer) → ItemsGive contents earlier.defined lined names answer → ItemsGive contents earlier.defined (map (λ i. (i.0, line_of text i)) e.items) names answer
+      at_lines contents names answer h = subst (λ (l : List (Item × ℕ)). ItemsGive contents earlier.defined l names answer) are h
+
+      -- the items define so much
+      pub whole_gives : (d : Defined) → Answers known (ItemsAre earlier.defined lined) asked now (define d) → Answers known (NextIs text earlier ts) asked now (means (meaning_of text earlier e d) d rest)
+      whole_gives d h = if_some_map known _ _ (λ contents (names, is, give). (names, is, whole e rest names d stands small (at_lines contents names (define d) give))) h
+
+      items_give_error : (error : DictError) → Answers known (ItemsAre earlier.defined lined) asked now (refuse_items error) → Answers known (NextIs text earlier ts) asked now (fails error)
+      items_give_error error h = if_some_map known _ _ (λ contents (names, is, give). (names, is, at_items e rest names error stands small (at_lines contents names (refuse_items error) give))) h
+
+      module _ (laws : Laws) (entry_laws : EntryLaws) where
+        abbrev Front : List (List ℕ) → Type 0
+        Front names = AsksWithin asked now names
+
+        -- what the items ask is what the entry asks
+        same_asked : (contents : Contents) (names asks : List (List ℕ)) (o : EntryOutcome) (answer : ItemsAnswer) → Is contents names o → ItemsGive contents earlier.defined lined asks answer → asks ≡ names
+        same_asked contents names asks o (define d) h give =
+            (one_outcome laws entry_laws contents text earlier ts asks names (means (meaning_of text earlier e d) d rest) o (whole e rest asks d stands small (at_lines contents asks (define d) give)) h).0
+        same_asked contents names asks o (refuse_items error) h give =
+            (one_outcome laws entry_laws contents text earlier ts asks names (fails error) o (at_items e rest asks error stands small (at_lines contents asks (refuse_items error) give)) h).0
+
+        front_gives : AsksFront known (ItemsAre earlier.defined lined) asked now → AsksFront known (NextIs text earlier ts) asked now
+        front_gives h =
+            if_some_map known _ _
+            (λ contents front names o is.
+            let given = items_give laws contents lined earlier.defined in
+            let a = item_answers.answer_of laws contents earlier.defined lined in
+            subst Front (same_asked contents names a.0 o a.1 is given) (front a.0 a.1 given)) h
+
+        -- an item is at fault, or the call ends before
+        pub items_error : (error : DictError) → OnError (IsMissing known) (AsksFront known (ItemsAre earlier.defined lined) asked now) (λ x. Answers known (ItemsAre earlier.defined lined) asked now (refuse_items x)) error
+            → OnError (IsMissing known) (AsksFront known (NextIs text earlier ts) asked now) (λ x. Answers known (NextIs text earlier ts) asked now (fails x)) error
+        items_error error h =
+            error_map (λ x. Answers known (ItemsAre earlier.defined lined) asked now (refuse_items x)) (λ x. Answers known (NextIs text earlier ts) asked now (fails x))
+            (IsMissing known) (AsksFront known (ItemsAre earlier.defined lined) asked now) (AsksFront known (NextIs text earlier ts) asked now) front_gives items_give_error error h
+
+        -- all is asked, and memory runs out
+        pub all_asked : (o : EntryOutcome) → Answers known (NextIs text earlier ts) asked now o → AsksFront known (NextIs text earlier ts) asked now
+        all_asked o h =
+            if_some_map known _ _
+            (λ contents (asks, now_is, given) names p is. (asks, [], (one_outcome laws entry_laws contents text earlier ts names asks p o is given).0 ∙ sym (append-nil asks), now_is)) h
+
+-- ---- what is read of the entry
+
+pub record IsRead (text : List ℕ) (r : Rules) (ts : List Token) (o : One) : Type 0 where
+  pub written : Written
+  pub stands : EntryStands r ts written (tokens_from Dictionary text o.end.at)
+  pub keeps : Keeps text written o
+
+pub is_read : (text : List ℕ) (r : Rules) (ts : List Token) (a : EntryAnswer) (o : One) → EntryIs r ts a → TellsEntry text a (Ok o) → IsRead text r ts o
+is_read text r ts a o is (e, same, keeps, here) = record { written = e; stands = subst (EntryIs r ts) same is; keeps = keeps }
+
+-- the entry's line
+line_same : (text : List ℕ) (e : Written) (o : One) → Keeps text e o → o.entry.line ≡ entry_line text e.items
+line_same text e o keeps = keeps.line ∙ ap (λ (l : List ℕ). slice_index l 0) keeps.items.lines_are
+
+pub large_read : (formulas : Formulas) (text : List ℕ) (e : Written) (o : One) (error : DictError) → Keeps text e o → IsLarge (filled formulas (raw_tree_of o.entry.expr)) o.entry.line error
+    → IsLarge (filled formulas e.expr) (entry_line text e.items) error
+large_read formulas text e o error keeps h = subst (λ (n : ℕ). IsLarge (filled formulas e.expr) n error) (line_same text e o keeps) (subst (λ (t : RawTree). IsLarge (filled formulas t) o.entry.line error) keeps.expr h)
+
+-- it is no want of memory
+pub large_told : (t : Tree) (line : ℕ) (error : DictError) (Missing : List ℕ → Type 0) (Stopped : Type 0) (Told : DictError → Type 0) → IsLarge t line error → Told error → OnError Missing Stopped Told error
+large_told t line error Missing Stopped Told (nodes n) told = told
+large_told t line error Missing Stopped Told (choices n k) told = told
+large_told t line error Missing Stopped Told (side n k l) told = told
+
+pub meaning_told : (text : List ℕ) (earlier : Earlier) (e : Written) (o : One) (names : Names) (old now d : Defined) → Keeps text e o → AddsDefined old now none_listed (listed_in names) d
+    → written_meaning earlier.formulas o.entry names ≡ meaning_of text earlier e d
+meaning_told text earlier e o names old now d keeps adds = λ i. record {
+  words = adds.words.listed i;
+  macros = adds.macros.listed i;
+  formula = filled earlier.formulas (keeps.expr i);
+  level = filled_level earlier.formulas (keeps.level i) (keeps.expr i);
+  line = line_same text e o keeps i;
+}
+
+-- what is read so far has the entry more
+pub adds_entry : (old now : code_earlier.Earlier) (tables : Tables) (m told : Meaning) (listed : Listed) (d : Defined) → told ≡ m → now.tables ≡ tables → AddsDefined (defined_in old.tables) (defined_in tables) none_listed listed d
+    → map entry_meaning now.entries.items ≡ map entry_meaning old.entries.items ++ told ∷ []
+    → formulas_of now ≡ (λ name. if list_any (same_text name) told.macros then Some (told.formula, told.level) else formulas_of old name) → AddsEntry old now m d
+adds_entry old now tables m told listed d same kept adds entries formulas =
+    let defined : defined_in now.tables ≡ both (defined_in old.tables) d = ap defined_in kept ∙ now_is (defined_in old.tables) (defined_in tables) none_listed listed d adds in
+    let after : Meaning → Formulas = λ x name. if list_any (same_text name) x.macros then Some (x.formula, x.level) else formulas_of old name in
+    record {
+      earlier = λ i. record { defined = defined i; formulas = (formulas ∙ ap after same) i };
+      entries = entries ∙ ap (λ (x : Meaning). map entry_meaning old.entries.items ++ x ∷ []) same;
+    }
+
+-- ---- what is listed
+
+lists_more : (old now : List Entry) (m : Meaning) (f : Meaning → List (List ℕ)) → map entry_meaning now ≡ map entry_meaning old ++ m ∷ [] → flat_map (λ x. f (entry_meaning x)) now ≡ flat_map (λ x. f (entry_meaning x)) old ++ f m
+lists_more old now m f is =
+    sym (flat_map-map f entry_meaning now)
+    ∙ ap (flat_map f) is
+    ∙ flat_map-append f (map entry_meaning old) (m ∷ [])
+    ∙ (λ i. flat_map-map f entry_meaning old i ++ append-nil (f m) i)
+
+listed_more : (old now new : Lines) (names all more : List (List ℕ)) → AreListed old names → AreNew old new → now ≡ old ++ new → all ≡ names ++ more → more ≡ names_in new → AreListed now all
+listed_more old now new names all more h are_new is all_is more_is = record {
+  are_new = subst (AreNew []) (sym is) (new_then [] old new h.are_new are_new);
+  listed = all_is ∙ (λ i. h.listed i ++ more_is i) ∙ sym (names_then old new) ∙ ap names_in (sym is);
+}
+
+pub lists_all : (old now : code_earlier.Earlier) (m : Meaning) (listed : Listed) (d : Defined) → ListsAll old → AddsDefined (defined_in old.tables) (defined_in now.tables) none_listed listed d → m.words ≡ listed.words → m.macros ≡ listed.macros
+    → map entry_meaning now.entries.items ≡ map entry_meaning old.entries.items ++ m ∷ [] → ListsAll now
+lists_all old now m listed d h adds words macros is = record {
+  words = listed_more (defined_in old.tables).words (defined_in now.tables).words d.words (flat_map (λ x. x.words) old.entries.items) (flat_map (λ x. x.words) now.entries.items) m.words
+      h.words adds.words.are_new adds.words.table (lists_more old.entries.items now.entries.items m (λ y. y.words) is) (words ∙ adds.words.listed);
+  macros = listed_more (defined_in old.tables).macros (defined_in now.tables).macros d.macros (flat_map (λ x. x.macros) old.entries.items) (flat_map (λ x. x.macros) now.entries.items) m.macros
+      h.macros adds.macros.are_new adds.macros.table (lists_more old.entries.items now.entries.items m (λ y. y.macros) is) (macros ∙ adds.macros.listed);
+}

@@ -1,0 +1,19 @@
+-- What the reader of dictionary texts answers.
+use Rattle.std.specs.Prelude.{ℕ, List}
+use Rattle.lg_gram.specs.declared.entry.Entry.{Entry}
+use Rattle.lg_gram.specs.Trees.{tree_of}
+use Rattle.lg_dictread.specs.Entries.{Token}
+use Rattle.lg_dictread.specs.Texts.{Earlier, Meaning, TextAnswer, TextIs, DictionaryIs}
+use Rattle.lg_dictread.specs.Telling.{Determined}
+
+-- what contracts see of an entry that is read
+abbrev pub entry_meaning : Entry → Meaning
+entry_meaning e = record { words = e.words; macros = e.macros; formula = tree_of e.formula; level = e.level; line = e.line }
+
+-- the text of these tokens, after what was read before
+abbrev pub TextOf : List ℕ → Earlier → List Token → Determined TextAnswer
+TextOf text earlier ts contents asked answer = TextIs contents text earlier ts asked answer
+
+-- the dictionary file of these bytes
+abbrev pub DictionaryOf : List ℕ → Determined TextAnswer
+DictionaryOf bytes contents asked answer = DictionaryIs contents bytes asked answer
