@@ -27,13 +27,14 @@ nothing = record { starts = []; ignored = []; rules = [] }
 abbrev pub with_statement : Knowledge → Statement → Knowledge
 with_statement k s = record { starts = k.starts ++ starts_of s; ignored = k.ignored ++ ignored_of s; rules = k.rules ++ rules_of s }
 
--- the rule of such a section, and the statement of a rule
+-- the rule of this name, with its trigger and the others
 abbrev pub rule_of : test.Test → Pattern → List Pattern → Rule
 rule_of NoneOf p ps = rules.Forbid false p ps
 rule_of OneOf p ps = rules.Demand false p ps
 rule_of NoneInGroup p ps = rules.Forbid true p ps
 rule_of OneInGroup p ps = rules.Demand true p ps
 
+-- the statement that writes a rule
 abbrev pub ruled : Rule → Statement
 ruled (rules.Forbid grouped p ps) = forbids grouped p ps
 ruled (rules.Demand grouped p ps) = demands grouped p ps
@@ -62,11 +63,11 @@ with_word (First s) w = first_word s w
 with_word (Further h ps) w = leads (λ (p : Pattern). Further h (ps ++ p ∷ [])) (pattern_of w)
 with_word _ w = Err Syntax
 
--- where the sign is this one
+-- where the sign is this one; 58 is the colon, 59 the semicolon, 123 and 125 are the braces
 abbrev pub at_sign : ℕ → ℕ → Reading → Result Reading Fault
 at_sign wanted b r = if b == wanted then Ok r else Err Syntax
 
--- the end of a list of one pattern or more: the semicolon, or the brace (125)
+-- a sign after one pattern or more
 abbrev pub with_list : Knowledge → Head → List Pattern → ℕ → Result Reading Fault
 with_list k (Starts kind) ps b = at_sign 59 b (at (with_statement k (starts kind ps)) Name)
 with_list k Ignored ps b = at_sign 59 b (at (with_statement k (ignores ps)) Name)

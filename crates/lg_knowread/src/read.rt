@@ -16,7 +16,9 @@ use std::alloc::Global;
 /// The knowledge of a text: its statements one after another, each a section's name, a colon, what it says and a
 /// semicolon.
 ///
-/// The text is first tested for UTF-8. A byte order mark at its start is passed over. The time is linear in the text.
+/// The format is after link-parser's knowledge of post-processing. The text is first tested for UTF-8. A byte order mark
+/// at its start is passed over. The error is the first fault. There are no more rules than the text has bytes. The time
+/// is linear in the text.
 pub fn read_knowledge(alloc: Global, bytes: &[u8]) -> Result<Knowledge, KnowError>
     ensures told { TellsKnowledge bytes.now result }
     ensures few { IfOk result (λ k. length k.rules ≤ length bytes.now) }

@@ -12,7 +12,7 @@ use lg_base::Text;
 use lg_gram::Label;
 use std::alloc::Global;
 
-/// The rules that look for other links where one matches the trigger, by their names.
+/// A rule that looks for other links where one matches its trigger.
 #[derive(Clone, Copy, Debug, PartialEq, Eq)]
 pub(crate) enum Test {
     NoneOf,
@@ -21,7 +21,7 @@ pub(crate) enum Test {
     OneInGroup,
 }
 
-/// A section of a knowledge text, which a statement begins with the name of.
+/// What a statement is, by the name that it begins with.
 #[derive(Clone, Copy, Debug, PartialEq, Eq)]
 pub(crate) enum Section {
     Start,

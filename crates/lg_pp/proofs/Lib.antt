@@ -1,4 +1,3 @@
-pub mod Walking
 pub mod Zipped
 pub mod Rising
 pub mod Leasts

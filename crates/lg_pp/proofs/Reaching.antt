@@ -8,7 +8,7 @@ use Rattle.lg_gram.specs.Rules.{HasLink}
 use Rattle.lg_gram.specs.Walks.{LinkFrom}
 use Rattle.lg_gram.specs.declared.linkage.Link.{Link}
 use Rattle.lg_walks.specs.Islands.{IsWithin, AreIslands}
-use Rattle.lg_pp.proofs.Walking.{walk_along}
+use Rattle.lg_walks.proofs.Labels.{walk_along}
 use Rattle.lg_knowread.specs.declared.knowledge.Knowledge.{Knowledge}
 use Rattle.lg_pp.specs.Domains.{InDomain, IsOffRoot, Reaches}
 use Rattle.lg_pp.specs.Labels.{IsGood, FitsOne, MatchesOne, label_at}

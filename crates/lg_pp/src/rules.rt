@@ -57,42 +57,22 @@ fn first_failure(
     requires known { Contains know.now.rules rule.now }
     ensures { IfOk result (IsFirst (FailsAtNumber know.now g.now rule.now) (length g.now.links)) }
 {
+    let starts = know.starts.items();
+    let links = g.links();
     let labels = &facts.labels;
-    let groups = &facts.groups;
+    let rows = &facts.rows;
     match rule {
         Rule::Forbid {
             grouped,
             trigger,
             others,
-        } => first_trigger(
-            alloc,
-            labels,
-            groups,
-            *grouped,
-            trigger,
-            others.items(),
-            true,
-        ),
+        } => first_trigger(alloc, facts, *grouped, trigger, others.items(), true),
         Rule::Demand {
             grouped,
             trigger,
             others,
-        } => first_trigger(
-            alloc,
-            labels,
-            groups,
-            *grouped,
-            trigger,
-            others.items(),
-            false,
-        ),
-        Rule::Bounded { kind } => Ok(first_overrun(
-            know.starts.items(),
-            *kind,
-            g.links(),
-            labels,
-            &facts.rows,
-        )),
-        Rule::Cycle { pattern } => Ok(first_bridge(pattern, labels, facts.bridges.items())),
+        } => first_trigger(alloc, facts, *grouped, trigger, others.items(), false),
+        Rule::Bounded { kind } => Ok(first_overrun(starts, *kind, links, labels, rows)),
+        Rule::Cycle { pattern } => Ok(first_bridge(pattern, facts)),
     }
 }

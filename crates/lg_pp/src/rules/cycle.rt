@@ -11,18 +11,22 @@ ghost use Rattle.lg_pp.specs.Reach.{AreFlags};
 
 use crate::flags::Flags;
 use crate::label::fits;
+use crate::rules::facts::Facts;
 use lg_base::NoMemory;
 use lg_gram::linkage::LINKAGE_POSITIONS;
-use lg_gram::{Label, Link, Linkage};
+use lg_gram::{Link, Linkage};
 use lg_knowread::Pattern;
 use lg_walks::label_islands;
 use std::alloc::Global;
 
 /// The number of the first link that matches and is a bridge.
-pub(super) fn first_bridge(pattern: &Pattern, labels: &[Label], bridges: &[bool]) -> Option<usize>
-    requires { length labels.now ≤ length bridges.now }
-    ensures { IsFirst (λ n. IsLabelled (Matches pattern.now) labels.now n × IsTrue (slice_index_or bridges.now n false)) (length labels.now) result }
+pub(super) fn first_bridge(pattern: &Pattern, facts: &Facts) -> Option<usize>
+    requires { length facts.now.labels.items ≤ length facts.now.bridges }
+    ensures { let labels = facts.now.labels.items in
+        IsFirst (λ n. IsLabelled (Matches pattern.now) labels n × IsTrue (slice_index_or facts.now.bridges n false)) (length labels) result }
 {
+    let labels = facts.labels.as_slice();
+    let bridges = facts.bridges.items();
     for (n, label) in labels.iter().enumerate() {
         if bridges[n] && fits(pattern, label) {
             return Some(n);

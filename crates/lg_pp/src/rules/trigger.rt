@@ -4,6 +4,7 @@ ghost use Rattle.lg_pp.specs.Judging.{AreHits, AreWithin, IsFirst, IsLabelled, M
 ghost use Rattle.lg_pp.specs.Labels.{Matches};
 
 use crate::label::{fits, fits_one};
+use crate::rules::facts::Facts;
 use lg_base::NoMemory;
 use lg_gram::Label;
 use lg_knowread::Pattern;
@@ -13,17 +14,18 @@ use std::alloc::Global;
 /// matches one of the others, or have none, as it is asked.
 pub(super) fn first_trigger(
     alloc: Global,
-    labels: &[Label],
-    groups: &[usize],
+    facts: &Facts,
     grouped: bool,
     trigger: &Pattern,
     others: &[Pattern],
     asked: bool,
 ) -> Result<Option<usize>, NoMemory>
-    requires groups { AreWithin (length labels.now) groups.now }
-    ensures { IfOk result (IsFirst (λ n. IsLabelled (Matches trigger.now) labels.now n
-        × MeetsOther grouped groups.now others.now labels.now asked n) (length labels.now)) }
+    requires groups { AreWithin (length facts.now.labels.items) facts.now.groups.items }
+    ensures { let labels = facts.now.labels.items in IfOk result (IsFirst (λ n. IsLabelled (Matches trigger.now) labels n
+        × MeetsOther grouped facts.now.groups.items others.now labels asked n) (length labels)) }
 {
+    let labels = facts.labels.as_slice();
+    let groups = facts.groups.as_slice();
     let hits = hits(alloc, labels, groups, grouped, others)?;
     Ok(first_of_class(labels, groups, grouped, trigger, &hits, asked))
 }

@@ -13,33 +13,33 @@ use Rattle.lg_pp.proofs.rules.first_failure.Goals as goal
 pub first_trigger-requires : goal.first_trigger-requires
 first_trigger-requires c =
     let count = labels_count c.args.know.now c.args.g.now c.args.facts.now c.requires.facts in
-    record { groups = rw (c.deref.ensures.value, c.deref-in-Forbid.ensures.value, count) c.requires.facts.within }
+    record { groups = rw count c.requires.facts.within }
 
 pub first_trigger-requires-in-Demand : goal.first_trigger-requires-in-Demand
 first_trigger-requires-in-Demand c =
     let count = labels_count c.args.know.now c.args.g.now c.args.facts.now c.requires.facts in
-    record { groups = rw (c.deref-in-Demand.ensures.value, c.deref-in-Demand-2.ensures.value, count) c.requires.facts.within }
+    record { groups = rw count c.requires.facts.within }
 
 pub first_overrun-requires-clause-links : goal.first_overrun-requires-clause-links
 first_overrun-requires-clause-links c =
     let count = labels_count c.args.know.now c.args.g.now c.args.facts.now c.requires.facts in
-    rw (c.deref-in-Bounded.ensures.value, c.links.ensures.value) (omega arith)
+    rw (c.deref.ensures.value, c.links-links.ensures.value) (omega arith)
 
 pub first_overrun-requires-clause-rows : goal.first_overrun-requires-clause-rows
 first_overrun-requires-clause-rows c =
     let count = labels_count c.args.know.now c.args.g.now c.args.facts.now c.requires.facts in
     let rows = rows_count c.args.know.now c.args.g.now c.args.facts.now.rows.items c.requires.facts.rows in
-    rw (c.deref-in-Bounded.ensures.value, c.deref-in-Bounded-2.ensures.value) (omega arith)
+    rw (c.deref.ensures.value, c.deref-in-Bounded.ensures.value) (omega arith)
 
 pub first_overrun-requires-clause-flags : goal.first_overrun-requires-clause-flags
 first_overrun-requires-clause-flags c =
-    rw c.deref-in-Bounded-2.ensures.value (rows_long c.args.know.now c.args.g.now c.args.facts.now.rows.items c.requires.facts.rows c.links.result.now c.links.ensures.value)
+    rw c.deref-in-Bounded.ensures.value (rows_long c.args.know.now c.args.g.now c.args.facts.now.rows.items c.requires.facts.rows c.links-links.result.now c.links-links.ensures.value)
 
 pub first_bridge-requires : goal.first_bridge-requires
 first_bridge-requires c =
     let count = labels_count c.args.know.now c.args.g.now c.args.facts.now c.requires.facts in
     let bridges = bridges_count c.args.know.now c.args.g.now c.args.facts.now c.requires.facts in
-    rw (c.deref-in-Cycle.ensures.value, c.items-in-Cycle.ensures) (omega arith)
+    omega arith
 
 pub returns-in-Forbid : goal.returns-in-Forbid
 returns-in-Forbid c =
@@ -57,7 +57,7 @@ returns-in-Forbid c =
     rw c.in-Forbid.is
     (IfOk-weaker c.first_trigger.result (IsFirst P (length labels)) (IsFirst Q (length g.links))
     (λ first. first_moved P Q (length labels) (length g.links) first (labels_count know g facts c.requires.facts) (fails_forbid know g facts c.requires.facts grouped trigger others known))
-    (rw (c.deref.ensures.value, c.deref-in-Forbid.ensures.value, c.items.ensures) at c.first_trigger.ensures))
+    (rw c.items.ensures at c.first_trigger.ensures))
 
 pub returns-in-Demand : goal.returns-in-Demand
 returns-in-Demand c =
@@ -75,7 +75,7 @@ returns-in-Demand c =
     rw c.in-Demand.is
     (IfOk-weaker c.first_trigger-in-Demand.result (IsFirst P (length labels)) (IsFirst Q (length g.links))
     (λ first. first_moved P Q (length labels) (length g.links) first (labels_count know g facts c.requires.facts) (fails_demand know g facts c.requires.facts grouped trigger others known))
-    (rw (c.deref-in-Demand.ensures.value, c.deref-in-Demand-2.ensures.value, c.items-in-Demand.ensures) at c.first_trigger-in-Demand.ensures))
+    (rw c.items-in-Demand.ensures at c.first_trigger-in-Demand.ensures))
 
 pub returns-in-Bounded : goal.returns-in-Bounded
 returns-in-Bounded c =
@@ -88,7 +88,7 @@ returns-in-Bounded c =
     let Q : ℕ → Type 0 = FailsAtNumber know g (Bounded kind) in
     rw c.in-Bounded.is
     (first_moved P Q (length labels) (length g.links) c.first_overrun.result (labels_count know g facts c.requires.facts) (fails_bounded know g facts c.requires.facts kind)
-    (rw (c.deref-in-Bounded.ensures.value, c.deref-in-Bounded-2.ensures.value, c.items-in-Bounded.ensures, c.links.ensures.value) at c.first_overrun.ensures))
+    (rw (c.deref.ensures.value, c.deref-in-Bounded.ensures.value, c.items-starts.ensures, c.links-links.ensures.value) at c.first_overrun.ensures))
 
 pub returns-in-Cycle : goal.returns-in-Cycle
 returns-in-Cycle c =
@@ -102,4 +102,4 @@ returns-in-Cycle c =
     let known = rw c.in-Cycle.is at c.requires.known in
     rw c.in-Cycle.is
     (first_moved P Q (length labels) (length g.links) c.first_bridge.result (labels_count know g facts c.requires.facts) (fails_cycle know g facts c.requires.facts pattern known)
-    (rw (c.deref-in-Cycle.ensures.value, c.items-in-Cycle.ensures) at c.first_bridge.ensures))
+    c.first_bridge.ensures)
