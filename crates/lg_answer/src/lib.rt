@@ -6,6 +6,8 @@ mod listing;
 mod page;
 mod problem;
 mod refusal;
+#[cfg(test)]
+mod tests;
 
 pub use listing::Listing;
 pub use refusal::AnswerRefusal;

@@ -16,7 +16,8 @@ use lg_token::tokens;
 use std::alloc::Global;
 use std::marker::Model;
 
-/// A listing of a sentence: its tokens, its problem, all candidates in order, and how many of them were passed.
+/// A listing of a sentence: its tokens, its problem, all candidates in order, and how many of them stand before the next
+/// page.
 ///
 /// Contracts see `{ tokens, problem, candidates, position }`.
 #[derive(Debug, Drop)]
@@ -41,7 +42,8 @@ impl Listing {
     /// The listing of a sentence at its start, before its first candidate.
     ///
     /// The text has fewer than 2^32 bytes. A sentence is `Beyond` a bound where it has more than 8 tokens, and else where
-    /// their words have more than 4,000,000 choices together, whose counting stops at 2^60.
+    /// their words have more than 4,000,000 choices together, whose counting stops at 2^60. All candidates are found here;
+    /// a page takes time in proportion to the candidates that it looks at.
     pub fn start(alloc: Global, view: &View, text: &str) -> Result<Listing, AnswerRefusal>
         requires { length text.now < 2 ^ 32 }
         ensures listing { IfOk result (IsListing view.now text.now) }
