@@ -1,1 +1,5 @@
-pub mod Linkages
+pub mod Answered
+pub mod Commands
+pub mod Readings
+pub mod Dictionaries
+pub mod Ends

@@ -1,42 +1,123 @@
 -- What each status says of a run.
-use Rattle.std.specs.Prelude.{◌≡◌, ℕ, List, [], ⊤, ◌⊎◌}
+use Rattle.std.specs.Prelude.{◌≡◌, ℕ, ◌≤◌, List, [], length, ⊤, ◌⊎◌, IfSome}
 use Rattle.std.specs.declared.option.Option.{Option}
 use Rattle.std.specs.Io.KnownBytes.{Appends, Keeps}
+use Rattle.lg_base.specs.Contents.{Contents}
 use Rattle.lg_base.specs.Faults.{Rose}
-use Rattle.lg_run.specs.Reads.{EndsWith}
-use Rattle.lg_run.specs.Lines.{usage_line, memory_line, output_line, unreadable_line, too_long_line, not_first_form_line}
+use Rattle.lg_base.specs.Sinks.{AppendsFront}
+use Rattle.lg_dictread.specs.declared.dict_error.DictError.{DictError}
+use Rattle.lg_run.specs.Words.{Task, SENTENCE}
+use Rattle.lg_run.specs.Inputs.{Reading, accepted, refused, Given, OneGiven, InputsAre}
+use Rattle.lg_run.specs.Reads.{Comes, EndsWith}
+use Rattle.lg_run.specs.Documents.{DocumentIs}
+use Rattle.lg_run.specs.Lines.{usage_line, memory_line, output_line, unreadable_line, too_long_line, dict_line}
 use Rattle.lg_run.specs.declared.status.Status.{Status}
 use Rattle.lg_run.specs.declared.status.Status.TheVariants.{Done, BadInput, Usage, ReadFault, WriteFault, NoMemory}
 
--- nothing is written where the words are not in form, a text is refused, or a file cannot be read
+-- where the files tell what they hold and the words are in form, this holds of the inputs
+abbrev pub WhereTold : Option Contents → Option Task → (Reading Given → Type 0) → Type 0
+WhereTold contents task Holds = IfSome contents (λ known. IfSome task (λ t. Holds (InputsAre known t)))
+
+-- nothing is written where the words are not in form, a text is refused, a file cannot be read, or memory ran out
 abbrev pub Unwritten : Status → Option (List ℕ) → Option (List ℕ) → Type 0
 Unwritten Done old new = ⊤
+Unwritten WriteFault old new = ⊤
 Unwritten BadInput old new = Keeps old new
 Unwritten Usage old new = Keeps old new
 Unwritten ReadFault old new = Keeps old new
-Unwritten WriteFault old new = ⊤
-Unwritten NoMemory old new = ⊤
+Unwritten NoMemory old new = Keeps old new
 
 -- ReadFault comes only where the count of the files' faults rose, WriteFault only where that of the output did
 abbrev pub Caused : Status → ℕ → ℕ → ℕ → ℕ → Type 0
+Caused ReadFault files_before files_now out_before out_now = Rose files_before files_now
+Caused WriteFault files_before files_now out_before out_now = Rose out_before out_now
 Caused Done files_before files_now out_before out_now = ⊤
 Caused BadInput files_before files_now out_before out_now = ⊤
 Caused Usage files_before files_now out_before out_now = ⊤
-Caused ReadFault files_before files_now out_before out_now = Rose files_before files_now
-Caused WriteFault files_before files_now out_before out_now = Rose out_before out_now
 Caused NoMemory files_before files_now out_before out_now = ⊤
 
--- the line of a status, by the names asked
-abbrev pub HasLine : Status → List (List ℕ) → List ℕ → Type 0
-HasLine Done asked line = line ≡ []
-HasLine BadInput asked line = (name : List ℕ) × EndsWith asked name × ((line ≡ too_long_line name) ⊎ (line ≡ not_first_form_line name))
-HasLine Usage asked line = line ≡ usage_line
-HasLine ReadFault asked line = (name : List ℕ) × EndsWith asked name × (line ≡ unreadable_line name)
-HasLine WriteFault asked line = line ≡ output_line
-HasLine NoMemory asked line = line ≡ memory_line
+-- the document of a command
+abbrev pub IsDocument : Given → List ℕ → Type 0
+IsDocument (OneGiven dict sentence) document = DocumentIs dict sentence document
+
+-- all inputs were accepted, and their document was written
+pub record WritesDocument (inputs : Reading Given) (asked_old asked_new : List (List ℕ)) (old new : Option (List ℕ)) : Type 0 where
+  pub given : Given
+  pub read : Comes inputs asked_old asked_new (accepted given)
+  pub document : List ℕ
+  pub is : IsDocument given document
+  pub grown : Appends old new document
+
+-- all inputs were accepted, and a front part of their document was written
+pub record WritesFront (inputs : Reading Given) (asked_old asked_new : List (List ℕ)) (old new : Option (List ℕ)) : Type 0 where
+  pub given : Given
+  pub read : Comes inputs asked_old asked_new (accepted given)
+  pub document : List ℕ
+  pub is : IsDocument given document
+  pub grown : AppendsFront old new document
+
+-- what a status says of the inputs and of the output
+abbrev pub Told : Reading Given → List (List ℕ) → List (List ℕ) → Option (List ℕ) → Option (List ℕ) → Status → Type 0
+Told inputs asked_old asked_new old new Done = WritesDocument inputs asked_old asked_new old new
+Told inputs asked_old asked_new old new WriteFault = WritesFront inputs asked_old asked_new old new
+Told inputs asked_old asked_new old new BadInput = (line : List ℕ) × Comes inputs asked_old asked_new (refused line)
+Told inputs asked_old asked_new old new Usage = ⊥
+Told inputs asked_old asked_new old new ReadFault = ⊤
+Told inputs asked_old asked_new old new NoMemory = ⊤
+
+-- a text that is refused is told, but where a file cannot be read or memory runs out
+abbrev pub AnswersRefused : Reading Given → Type 0 → Status → Type 0
+AnswersRefused inputs all_read status = (names : List (List ℕ)) (line : List ℕ) → inputs names (refused line) → all_read → (status ≡ BadInput) ⊎ (status ≡ NoMemory)
+
+-- inputs that are accepted are answered, but where a file cannot be read, the output cannot be written, or memory runs out
+abbrev pub AnswersAccepted : Reading Given → Type 0 → Type 0 → Status → Type 0
+AnswersAccepted inputs all_read all_written status =
+    (names : List (List ℕ)) (given : Given) → inputs names (accepted given) → all_read → all_written → (status ≡ Done) ⊎ (status ≡ NoMemory)
+
+-- what is said of a text that is refused
+abbrev pub IsRefusal : List ℕ → Type 0
+IsRefusal line = (name : List ℕ) × ((line ≡ too_long_line name) ⊎ ((error : DictError) × (line ≡ dict_line name error)))
+
+-- The line of a status, by the names asked. Where the files tell what they hold, the line of BadInput is that of the first
+-- text that is refused.
+abbrev pub HasLine : Option Contents → Option Task → List (List ℕ) → List (List ℕ) → Status → List ℕ → Type 0
+HasLine contents task old new Done line = line ≡ []
+HasLine contents task old new BadInput line = IsRefusal line × WhereTold contents task (λ inputs. Comes inputs old new (refused line))
+HasLine contents task old new Usage line = line ≡ usage_line
+HasLine contents task old new ReadFault line = (name : List ℕ) × EndsWith new name × (line ≡ unreadable_line name)
+HasLine contents task old new WriteFault line = line ≡ output_line
+HasLine contents task old new NoMemory line = line ≡ memory_line
 
 -- the line of the status was written, and nothing else
-pub record WritesLine (status : Status) (asked : List (List ℕ)) (old new : Option (List ℕ)) : Type 0 where
+pub record WritesLine (contents : Option Contents) (task : Option Task) (asked_old asked_new : List (List ℕ)) (status : Status) (old new : Option (List ℕ)) : Type 0 where
   pub line : List ℕ
-  pub fits : HasLine status asked line
+  pub fits : HasLine contents task asked_old asked_new status line
   pub grown : Appends old new line
+
+-- how a command ends that has its inputs in hand
+abbrev pub Finishes : Given → Status → Option (List ℕ) → Option (List ℕ) → Type 0
+Finishes given Done old new = (document : List ℕ) × IsDocument given document × Appends old new document
+Finishes given WriteFault old new = (document : List ℕ) × IsDocument given document × AppendsFront old new document
+Finishes given NoMemory old new = Keeps old new
+Finishes given BadInput old new = ⊥
+Finishes given Usage old new = ⊥
+Finishes given ReadFault old new = ⊥
+
+-- and its line
+abbrev pub last_line : Status → List ℕ
+last_line WriteFault = output_line
+last_line NoMemory = memory_line
+last_line _ = []
+
+-- how a command may end whose inputs are not had
+abbrev pub IsStopped : Status → Type 0
+IsStopped BadInput = ⊤
+IsStopped ReadFault = ⊤
+IsStopped NoMemory = ⊤
+IsStopped Done = ⊥
+IsStopped Usage = ⊥
+IsStopped WriteFault = ⊥
+
+-- its sentence is no longer than a sentence may be
+abbrev pub IsShortGiven : Given → Type 0
+IsShortGiven (OneGiven dict sentence) = length sentence ≤ SENTENCE

@@ -2,6 +2,9 @@ pub mod Statuses
 pub mod Words
 pub mod Commands
 pub mod Lines
-pub mod Reads
+pub mod Inputs
 pub mod Stops
+pub mod Reads
+pub mod Pieces
+pub mod Documents
 pub mod Answers

@@ -1,5 +1,14 @@
 -- The lines that are written to the stream of errors.
-use Rattle.std.specs.Prelude.{ℕ, List, ◌++◌, codes}
+use Rattle.std.specs.Prelude.{ℕ, List, [], ◌∷◌, ◌++◌, codes}
+use Rattle.std.specs.List.{flat_map}
+use Rattle.std.specs.Fmt.{decimal}
+use Rattle.lg_dictread.specs.declared.dict_error.DictError.{DictError}
+use Rattle.lg_dictread.specs.declared.dict_error.DictError.TheVariants as errors
+use Rattle.lg_dictread.specs.declared.dict_error.WordFileError.TheVariants as causes
+
+-- pieces one after another
+abbrev pub joined : List (List ℕ) → List ℕ
+joined pieces = flat_map (λ piece. piece) pieces
 
 abbrev pub line_about : List ℕ → List ℕ → List ℕ → List ℕ
 line_about front name back = front ++ (name ++ back)
@@ -19,5 +28,29 @@ unreadable_line name = line_about (codes "lgparse: cannot read ") name (codes "\
 abbrev pub too_long_line : List ℕ → List ℕ
 too_long_line name = line_about (codes "lgparse: ") name (codes " is longer than 67108864 bytes\n")
 
-abbrev pub not_first_form_line : List ℕ → List ℕ
-not_first_form_line name = line_about (codes "lgparse: ") name (codes ": not in the first form\n")
+-- a file that is refused, and why
+abbrev pub refusal_line : List ℕ → List (List ℕ) → List ℕ
+refusal_line name why = codes "lgparse: " ++ (name ++ (codes ": " ++ (joined why ++ codes "\n")))
+
+-- the pieces of a cause that has a line of the file
+abbrev pub on_line : ℕ → List (List ℕ) → List (List ℕ)
+on_line line why = codes "line " ∷ decimal line ∷ codes ": " ∷ why
+
+abbrev pub not_utf8 : ℕ → List (List ℕ)
+not_utf8 byte = codes "byte " ∷ decimal byte ∷ codes " is not UTF-8" ∷ []
+
+-- The line of each error of a dictionary of this name. A word file's own faults have the word file's name.
+abbrev pub dict_line : List ℕ → DictError → List ℕ
+dict_line name errors.NoMemory = memory_line
+dict_line name (errors.NotUtf8 byte) = refusal_line name (not_utf8 byte)
+dict_line name (errors.Syntax line column) = refusal_line name (codes "line " ∷ decimal line ∷ codes " column " ∷ decimal column ∷ codes ": syntax" ∷ [])
+dict_line name (errors.UnknownMacro line macro) = refusal_line name (on_line line (codes "unknown macro " ∷ macro ∷ []))
+dict_line name (errors.CostForm line) = refusal_line name (on_line line (codes "cost form" ∷ []))
+dict_line name (errors.TooDeep line) = refusal_line name (on_line line (codes "too deep" ∷ []))
+dict_line name (errors.TooManyNodes line count) = refusal_line name (on_line line (codes "too many nodes " ∷ decimal count ∷ []))
+dict_line name (errors.TooManyChoices line count) = refusal_line name (on_line line (codes "too many choices " ∷ decimal count ∷ []))
+dict_line name (errors.SideTooLong line count) = refusal_line name (on_line line (codes "too many connectors on a side " ∷ decimal count ∷ []))
+dict_line name (errors.DuplicateWord word first again) = refusal_line name (word ∷ codes " is defined on lines " ∷ decimal first ∷ codes " and " ∷ decimal again ∷ [])
+dict_line name (errors.WordFile line file causes.Failed) = unreadable_line file
+dict_line name (errors.WordFile line file causes.TooLong) = too_long_line file
+dict_line name (errors.WordFile line file (causes.NotUtf8 byte)) = refusal_line file (not_utf8 byte)

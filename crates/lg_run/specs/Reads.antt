@@ -1,39 +1,56 @@
--- What reading the inputs of a command promises.
-use Rattle.std.specs.Prelude.{◌≡◌, ℕ, List, [], ◌∷◌, ◌++◌, ⊤}
-use Rattle.std.specs.declared.option.Option.{Option}
-use Rattle.std.specs.declared.option.Option.TheVariants.{None, Some}
+-- What calls that read the inputs promise.
+use Rattle.std.specs.Prelude.{◌≡◌, ℕ, ◌≤◌, List, [], ◌∷◌, ◌++◌, ⊤}
 use Rattle.std.specs.declared.result.Result.{Result}
 use Rattle.std.specs.declared.result.Result.TheVariants.{Ok, Err}
 use Rattle.lg_base.specs.Faults.{Rose}
-use Rattle.lg_run.specs.Words.{Task, One}
+use Rattle.lg_dictread.specs.Telling.{AsksWithin}
+use Rattle.lg_run.specs.Inputs.{Found, Reading, accepted, refused, Given, OneGiven}
+use Rattle.lg_run.specs.Lines.{unreadable_line}
+use Rattle.lg_run.specs.Stops.{stop_status, stop_line}
+use Rattle.lg_run.specs.declared.inputs.Inputs.{Inputs}
+use Rattle.lg_run.specs.declared.inputs.Inputs.TheVariants as inputs
+use Rattle.lg_run.specs.declared.status.Status.{Status}
+use Rattle.lg_run.specs.declared.status.Status.TheVariants.{BadInput, ReadFault}
 use Rattle.lg_run.specs.declared.stop.Stop.{Stop}
-use Rattle.lg_run.specs.declared.stop.Stop.TheVariants.{Memory, Unreadable, TooLong, NotFirstForm}
 
--- the names of the files that a task reads, in order
-abbrev pub read_by : Task → List (List ℕ)
-read_by (One dictionary sentence) = dictionary ∷ []
+-- whatever comes of the reading, no more was asked than is read for it, and in that order
+abbrev pub AsksInOrder : {A : Type 0} → Reading A → List (List ℕ) → List (List ℕ) → Type 0
+AsksInOrder {A} reading old new = (names : List (List ℕ)) (found : Found A) → reading names found → AsksWithin old new names
 
--- none where the words are not in form
-abbrev pub reading_list : Option Task → List (List ℕ)
-reading_list None = []
-reading_list (Some task) = read_by task
+-- all that is read was asked, and this comes of it
+pub record Comes {A : Type 0} (reading : Reading A) (old new : List (List ℕ)) (found : Found A) : Type 0 where
+  pub names : List (List ℕ)
+  pub read : reading names found
+  pub grown : new ≡ old ++ names
 
--- a front part of the names was asked
-pub record AsksFront (old new names : List (List ℕ)) : Type 0 where
-  pub front : List (List ℕ)
-  pub rest : List (List ℕ)
-  pub grown : new ≡ old ++ front
-  pub parts : front ++ rest ≡ names
+-- a stop that is a fault of the input says the line of the first text that is refused
+abbrev pub TellsStop : {A : Type 0} → Reading A → List (List ℕ) → List (List ℕ) → Status → List ℕ → Type 0
+TellsStop reading old new BadInput line = Comes reading old new (refused line)
+TellsStop reading old new _ line = ⊤
 
--- the last name asked
-pub record EndsWith (asked : List (List ℕ)) (name : List ℕ) : Type 0 where
-  pub front : List (List ℕ)
-  pub last : asked ≡ front ++ name ∷ []
+-- a call answers what the texts stand for, or why they are not had
+abbrev pub Tells : {A T : Type 0} → (T → A) → Reading A → List (List ℕ) → List (List ℕ) → Result T Stop → Type 0
+Tells view reading old new (Ok value) = Comes reading old new (accepted (view value))
+Tells view reading old new (Err stop) = TellsStop reading old new (stop_status stop) (stop_line stop)
 
--- a file is unreadable only where the count of faults rose, and what is refused or unreadable was asked last
-abbrev pub HasCause : {T : Type 0} → Result T Stop → List (List ℕ) → ℕ → ℕ → Type 0
-HasCause (Ok value) asked before now = ⊤
-HasCause (Err Memory) asked before now = ⊤
-HasCause (Err (Unreadable name)) asked before now = Rose before now × EndsWith asked name.now
-HasCause (Err (TooLong name)) asked before now = EndsWith asked name.now
-HasCause (Err (NotFirstForm name)) asked before now = EndsWith asked name.now
+-- this name was asked last
+abbrev pub EndsWith : List (List ℕ) → List ℕ → Type 0
+EndsWith asked name = (earlier : List (List ℕ)) × (asked ≡ earlier ++ name ∷ [])
+
+-- why a stop is a read fault: the count of faults rose, and its line has the name asked last
+abbrev pub IsFaultOf : List (List ℕ) → ℕ → ℕ → Status → List ℕ → Type 0
+IsFaultOf asked before now ReadFault line = Rose before now × ((name : List ℕ) × EndsWith asked name × (line ≡ unreadable_line name))
+IsFaultOf asked before now _ line = ⊤
+
+abbrev pub FaultsOnlyBy : {T : Type 0} → List (List ℕ) → ℕ → ℕ → Result T Stop → Type 0
+FaultsOnlyBy asked before now (Ok value) = ⊤
+FaultsOnlyBy asked before now (Err stop) = IsFaultOf asked before now (stop_status stop) (stop_line stop)
+
+-- the count of faults never falls, and a read fault has its cause
+pub record HasCause {T : Type 0} (asked : List (List ℕ)) (before now : ℕ) (result : Result T Stop) : Type 0 where
+  pub later : before ≤ now
+  pub fault : FaultsOnlyBy asked before now result
+
+-- what contracts see of the inputs of a command
+abbrev pub given_in : Inputs → Given
+given_in (inputs.One dict sentence) = OneGiven dict sentence.now

@@ -1,19 +1,39 @@
 -- The status and the line of inputs that are not had.
-use Rattle.std.specs.Prelude.{ℕ, List}
-use Rattle.lg_run.specs.Lines.{memory_line, unreadable_line, too_long_line, not_first_form_line}
+use Rattle.std.specs.Prelude.{◌≡◌, ◌⊎◌, ℕ, List}
+use Rattle.std.specs.declared.option.Option.{Option}
+use Rattle.std.specs.Io.KnownBytes.{Appends}
+use Rattle.lg_dictread.specs.declared.dict_error.DictError.{DictError}
+use Rattle.lg_dictread.specs.declared.dict_error.DictError.TheVariants as errors
+use Rattle.lg_dictread.specs.declared.dict_error.WordFileError.TheVariants as causes
+use Rattle.lg_run.specs.Lines.{memory_line, unreadable_line, too_long_line, dict_line}
 use Rattle.lg_run.specs.declared.status.Status.{Status}
 use Rattle.lg_run.specs.declared.status.Status.TheVariants.{BadInput, ReadFault, NoMemory}
 use Rattle.lg_run.specs.declared.stop.Stop.{Stop}
-use Rattle.lg_run.specs.declared.stop.Stop.TheVariants.{Memory, Unreadable, TooLong, NotFirstForm}
+use Rattle.lg_run.specs.declared.stop.Stop.TheVariants.{Memory, Unreadable, TooLong, Refused}
+
+-- a word file that cannot be read is a read fault, and every other error but want of memory is one of the input
+abbrev pub dict_status : DictError → Status
+dict_status errors.NoMemory = NoMemory
+dict_status (errors.WordFile line file causes.Failed) = ReadFault
+dict_status _ = BadInput
 
 abbrev pub stop_status : Stop → Status
 stop_status Memory = NoMemory
 stop_status (Unreadable name) = ReadFault
 stop_status (TooLong name) = BadInput
-stop_status (NotFirstForm name) = BadInput
+stop_status (Refused name error) = dict_status error
 
 abbrev pub stop_line : Stop → List ℕ
 stop_line Memory = memory_line
 stop_line (Unreadable name) = unreadable_line name.now
 stop_line (TooLong name) = too_long_line name.now
-stop_line (NotFirstForm name) = not_first_form_line name.now
+stop_line (Refused name error) = dict_line name.now error
+
+-- the status and, where this is so, the line that was written
+pub record SaysOf (status wanted : Status) (so : Type 0) (old new : Option (List ℕ)) (line : List ℕ) : Type 0 where
+  pub same : status ≡ wanted
+  pub written : so → Appends old new line
+
+-- a stop ends with its status and its line, unless there is no memory for the line
+abbrev pub EndsAs : Stop → Status → Type 0 → Option (List ℕ) → Option (List ℕ) → Type 0
+EndsAs stop status so old new = SaysOf status (stop_status stop) so old new (stop_line stop) ⊎ SaysOf status NoMemory so old new memory_line

@@ -1,5 +1,5 @@
 -- The form of the words of the command line.
-use Rattle.std.specs.Prelude.{ℕ, Bool, false, ◌&&◌, not, List, [], ◌∷◌, codes, if◌then◌else◌, nat_eq, nat_le, length}
+use Rattle.std.specs.Prelude.{ℕ, ◌≤◌, Bool, false, ◌&&◌, not, List, [], ◌∷◌, codes, if◌then◌else◌, nat_eq, nat_le, length}
 use Rattle.std.specs.declared.option.Option.{Option}
 use Rattle.std.specs.declared.option.Option.TheVariants.{None, Some}
 use Rattle.std.specs.Str.{bytes_eq}
@@ -29,3 +29,7 @@ one_of _ = None
 abbrev pub task_of : List (List ℕ) → Option Task
 task_of (word ∷ rest) = if bytes_eq word (codes "one") then one_of rest else None
 task_of [] = None
+
+-- its sentence is no longer than a sentence may be
+abbrev pub IsShort : Task → Type 0
+IsShort (One dictionary sentence) = length sentence ≤ SENTENCE

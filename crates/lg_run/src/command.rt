@@ -1,7 +1,7 @@
 //! The words of the command line. Their form is tested without taking memory.
-ghost use Rattle.std.specs.Prelude.{◌≡◌, map, string_bytes};
+ghost use Rattle.std.specs.Prelude.{◌≡◌, IfSome, map, string_bytes};
 ghost use Rattle.std.specs.Option.{option_map};
-ghost use Rattle.lg_run.specs.Words.{is_operand, one_of, task_of};
+ghost use Rattle.lg_run.specs.Words.{is_operand, one_of, task_of, IsShort};
 ghost use Rattle.lg_run.specs.Commands.{task};
 
 /// What the words ask for.
@@ -27,7 +27,8 @@ fn is_operand(word: &str) -> bool
 }
 
 fn one_of(words: &[String]) -> Option<Command<'_>>
-    ensures { option_map task result ≡ one_of (map string_bytes words.now) }
+    ensures value { option_map task result ≡ one_of (map string_bytes words.now) }
+    ensures short { IfSome result (λ command. IsShort (task command)) }
 {
     match words {
         [dictionary, sentence]
@@ -45,7 +46,8 @@ fn one_of(words: &[String]) -> Option<Command<'_>>
 
 /// The command that the words ask for: `one DICT SENTENCE`. None where they are in another form.
 pub fn command_of(words: &[String]) -> Option<Command<'_>>
-    ensures { option_map task result ≡ task_of (map string_bytes words.now) }
+    ensures value { option_map task result ≡ task_of (map string_bytes words.now) }
+    ensures short { IfSome result (λ command. IsShort (task command)) }
 {
     match words.split_first() {
         Some((word, rest)) if word.as_str() == "one" => one_of(rest),

@@ -3,11 +3,14 @@
 
 mod command;
 mod inputs;
+pub mod law;
+mod line;
 mod sentence;
 mod status;
 mod stop;
 mod top;
 
+pub use law::inputs_have_one_verdict;
 pub use status::Status;
 pub use top::run;
 

@@ -1,10 +1,13 @@
 //! Why the inputs of a command are not had.
 
+use lg_dictread::DictError;
+
 /// Why the inputs of a command are not had: want of memory, or a file by its name.
-#[derive(Clone, Copy, Debug)]
+#[derive(Debug, Drop)]
 pub enum Stop<'a> {
     Memory,
     Unreadable(&'a str),
     TooLong(&'a str),
-    NotFirstForm(&'a str),
+    /// The dictionary of that name, with the first fault of it or of one of its word files.
+    Refused(&'a str, DictError),
 }

@@ -1,0 +1,195 @@
+-- Reading a dictionary: its file, and then its text with its word files.
+use Rattle.std.proofs.Common.{◌≡◌, ℕ, ◌<◌, ◌≤◌, List, [], ◌∷◌, ◌++◌, length, map, ◌⊎◌, inl, inr, Option, None, Some, IfSome, IsSomeAnd, refl, sym, ◌∙◌, ap, subst, arith}
+use Rattle.std.proofs.lemmas.Bool.{cases_lt}
+use Rattle.std.proofs.lemmas.List.{append-nil}
+use Rattle.lg_base.specs.Contents.{Contents, file}
+use Rattle.std.proofs.lemmas.List.Folds.{flat_map-map}
+use Rattle.std.specs.FinMap.{from_entries}
+use Rattle.lg_gram.specs.declared.entry.Entry.{Entry}
+use Rattle.lg_dict.specs.Dictionary.{dictionary_of}
+use Rattle.lg_dictread.specs.declared.dict_error.DictError.{DictError}
+use Rattle.lg_dictread.specs.declared.dict_error.DictError.TheVariants as errors
+use Rattle.lg_dictread.specs.declared.dict_error.WordFileError.TheVariants as causes
+use Rattle.lg_dictread.specs.Limits.{FILE}
+use Rattle.lg_dictread.specs.Telling.{Answers, AsksFront, IsMissing, OnError, IsCause}
+use Rattle.lg_dictread.specs.Texts.{Meaning, TextAnswer, refuse, DictionaryIs}
+use Rattle.lg_dictread.specs.DictTexts.{entry_meaning, DictionaryOf}
+use Rattle.lg_run.specs.Words.{Task, One}
+use Rattle.lg_run.specs.Lines.{too_long_line, dict_line}
+use Rattle.lg_run.specs.Inputs.{Found, accepted, refused, missing, HasSome, IsOne, FileIs, absent, long, whole, dictionary_from, found_in, DictionaryReads, reads, DictionaryInput, OneGiven, given, InputsAre}
+use Rattle.lg_run.specs.Reads.{AsksInOrder, Comes, TellsStop, IsFaultOf}
+use Rattle.lg_run.specs.Stops.{dict_status}
+use Rattle.lg_run.specs.declared.status.Status.TheVariants.{BadInput}
+use Rattle.lg_run.proofs.Readings.{one_given, some_given, some_followed, one_followed}
+
+-- ---- a file
+
+some_at : (contents : Contents) (name : List ℕ) (found : Option (List ℕ)) → file contents name ≡ found → HasSome (FileIs contents name)
+some_at contents name None is = (name ∷ [], missing name, absent is)
+some_at contents name (Some bytes) is = sized (cases_lt FILE (length bytes)) where
+  sized : (FILE < length bytes) ⊎ (length bytes ≤ FILE) → HasSome (FileIs contents name)
+  sized (inl h) = (name ∷ [], refused (too_long_line name), long bytes is h)
+  sized (inr h) = (name ∷ [], accepted bytes, whole bytes is h)
+
+pub some_file : (contents : Contents) (name : List ℕ) → HasSome (FileIs contents name)
+some_file contents name = some_at contents name (file contents name) refl
+
+same_bytes : (a b : List ℕ) → ◌≡◌ {A = Option (List ℕ)} (Some a) (Some b) → a ≡ b
+same_bytes a b h = cc
+
+not_both : (bytes : List ℕ) → ◌≡◌ {A = Option (List ℕ)} None (Some bytes) → ⊥
+not_both bytes h = cc
+
+too_long : (a b : List ℕ) → a ≡ b → FILE < length a → length b ≤ FILE → ⊥
+too_long a b h p q = let e = ap length h in omega arith
+
+pub one_file : (contents : Contents) (name : List ℕ) → IsOne (FileIs contents name)
+one_file contents name _ _ _ _ (absent p) (absent q) = (refl, refl)
+one_file contents name _ _ _ _ (absent p) (long bytes q r) = absurd (not_both bytes (sym p ∙ q))
+one_file contents name _ _ _ _ (absent p) (whole bytes q r) = absurd (not_both bytes (sym p ∙ q))
+one_file contents name _ _ _ _ (long bytes p r) (absent q) = absurd (not_both bytes (sym q ∙ p))
+one_file contents name _ _ _ _ (long bytes p r) (long other q s) = (refl, refl)
+one_file contents name _ _ _ _ (long bytes p r) (whole other q s) = absurd (too_long bytes other (same_bytes bytes other (sym p ∙ q)) r s)
+one_file contents name _ _ _ _ (whole bytes p r) (absent q) = absurd (not_both bytes (sym q ∙ p))
+one_file contents name _ _ _ _ (whole bytes p r) (long other q s) = absurd (too_long other bytes (same_bytes other bytes (sym q ∙ p)) s r)
+one_file contents name _ _ _ _ (whole bytes p r) (whole other q s) = (refl, ap accepted (same_bytes bytes other (sym p ∙ q)))
+
+-- the file was asked for
+pub asks_file : (contents : Contents) (name : List ℕ) (old new : List (List ℕ)) → new ≡ old ++ name ∷ [] → AsksInOrder (FileIs contents name) old new
+asks_file contents name old new grown _ _ (absent p) = (name ∷ [], [], refl, grown)
+asks_file contents name old new grown _ _ (long bytes p q) = (name ∷ [], [], refl, grown)
+asks_file contents name old new grown _ _ (whole bytes p q) = (name ∷ [], [], refl, grown)
+
+-- the file is too long
+pub long_file : (contents : Contents) (name : List ℕ) (old new : List (List ℕ)) → new ≡ old ++ name ∷ [] → IsSomeAnd (file contents name) (λ bytes. FILE < length bytes) →
+    Comes (FileIs contents name) old new (refused (too_long_line name))
+long_file contents name old new grown h = of_found (file contents name) refl h where
+  of_found : (found : Option (List ℕ)) → file contents name ≡ found → IsSomeAnd found (λ bytes. FILE < length bytes) → Comes (FileIs contents name) old new (refused (too_long_line name))
+  of_found None is k = absurd k
+  of_found (Some bytes) is k = record { names = name ∷ []; read = long bytes is k; grown = grown }
+
+-- the dictionary of the entries is that of what they mean
+pub same_dictionary : (entries : List Entry) → dictionary_from (map entry_meaning entries) ≡ dictionary_of entries
+same_dictionary entries = λ i. record {
+  words = from_entries (flat_map-map (λ (m : Meaning). map (λ (word : List ℕ). (word, m.formula)) m.words) entry_meaning entries i);
+  macros = from_entries (flat_map-map (λ (m : Meaning). map (λ (name : List ℕ). (name, (m.formula, m.level))) m.macros) entry_meaning entries i);
+}
+
+-- ---- a text
+
+-- what the law of dictionaries says
+abbrev pub SomeDictionary : Type 0
+SomeDictionary = (contents : Contents) (bytes : List ℕ) → (asked : List (List ℕ)) × (answer : TextAnswer) × DictionaryIs contents bytes asked answer
+
+abbrev pub OneDictionary : Type 0
+OneDictionary = (contents : Contents) (bytes : List ℕ) (asked other : List (List ℕ)) (x y : TextAnswer) →
+    DictionaryIs contents bytes asked x → DictionaryIs contents bytes other y → (asked ≡ other) × (x ≡ y)
+
+pub some_text : SomeDictionary → (contents : Contents) (name bytes : List ℕ) → HasSome (DictionaryReads contents name bytes)
+some_text law contents name bytes = let d = law contents bytes in (d.0, found_in name d.1, reads d.0 d.1 d.2)
+
+pub one_text : OneDictionary → (contents : Contents) (name bytes : List ℕ) → IsOne (DictionaryReads contents name bytes)
+one_text law contents name bytes _ _ _ _ (reads asked answer p) (reads other reply q) =
+    let same = law contents bytes asked other answer reply p q in (same.0, ap (found_in name) same.1)
+
+-- where the answer is known, all that is read for it was asked
+pub asks_answered : OneDictionary → (known : Option Contents) (name bytes : List ℕ) (old new : List (List ℕ)) (answer : TextAnswer) →
+    Answers known (DictionaryOf bytes) old new answer → IfSome known (λ contents. AsksInOrder (DictionaryReads contents name bytes) old new)
+asks_answered law None name bytes old new answer h = tt
+asks_answered law (Some contents) name bytes old new answer h = asks where
+  asks : AsksInOrder (DictionaryReads contents name bytes) old new
+  asks _ _ (reads asked other q) = (asked, [], sym (append-nil asked), h.1 ∙ ap (λ (l : List (List ℕ)). old ++ l) (law contents bytes h.0 asked answer other h.2 q).0)
+
+asks_front : (known : Option Contents) (name bytes : List ℕ) (old new : List (List ℕ)) → AsksFront known (DictionaryOf bytes) old new → IfSome known (λ contents. AsksInOrder (DictionaryReads contents name bytes) old new)
+asks_front None name bytes old new h = tt
+asks_front (Some contents) name bytes old new h = asks where
+  asks : AsksInOrder (DictionaryReads contents name bytes) old new
+  asks _ _ (reads asked answer q) = h asked answer q
+
+module _ (law : OneDictionary) (known : Option Contents) (name bytes : List ℕ) (old new : List (List ℕ)) where
+  abbrev Asks : Type 0
+  Asks = IfSome known (λ contents. AsksInOrder (DictionaryReads contents name bytes) old new)
+
+  abbrev Says : DictError → Type 0
+  Says error = Answers known (DictionaryOf bytes) old new (refuse error)
+
+  abbrev Told : DictError → Type 0
+  Told error = OnError (IsMissing known) (AsksFront known (DictionaryOf bytes) old new) Says error
+
+  said : (error : DictError) → Says error → Asks
+  said error h = asks_answered law known name bytes old new (refuse error) h
+
+  -- whatever the error is, no more was asked than is read
+  pub asks_error : (error : DictError) → Told error → Asks
+  asks_error errors.NoMemory h = asks_front known name bytes old new h
+  asks_error (errors.WordFile line file causes.Failed) h = asks_front known name bytes old new h.0
+  asks_error (errors.WordFile line file causes.TooLong) h = said (errors.WordFile line file causes.TooLong) h
+  asks_error (errors.WordFile line file (causes.NotUtf8 n)) h = said (errors.WordFile line file (causes.NotUtf8 n)) h
+  asks_error (errors.NotUtf8 n) h = said (errors.NotUtf8 n) h
+  asks_error (errors.Syntax line column) h = said (errors.Syntax line column) h
+  asks_error (errors.UnknownMacro line macro) h = said (errors.UnknownMacro line macro) h
+  asks_error (errors.CostForm line) h = said (errors.CostForm line) h
+  asks_error (errors.TooDeep line) h = said (errors.TooDeep line) h
+  asks_error (errors.TooManyNodes line n) h = said (errors.TooManyNodes line n) h
+  asks_error (errors.TooManyChoices line n) h = said (errors.TooManyChoices line n) h
+  asks_error (errors.SideTooLong line n) h = said (errors.SideTooLong line n) h
+  asks_error (errors.DuplicateWord word n m) h = said (errors.DuplicateWord word n m) h
+
+-- an error that is a fault of the input says the line of the first text that is refused
+abbrev pub ErrorTold : Contents → List ℕ → List ℕ → List (List ℕ) → List (List ℕ) → DictError → Type 0
+ErrorTold contents name bytes old new error = TellsStop (DictionaryReads contents name bytes) old new (dict_status error) (dict_line name error)
+
+module _ (contents : Contents) (name bytes : List ℕ) (old new : List (List ℕ)) where
+  read_so : (answer : TextAnswer) (line : List ℕ) → found_in name answer ≡ refused line → Answers (Some contents) (DictionaryOf bytes) old new answer → TellsStop (DictionaryReads contents name bytes) old new BadInput line
+  read_so answer line same h = record { names = h.0; read = subst (λ f. DictionaryReads contents name bytes h.0 f) same (reads h.0 answer h.2); grown = h.1 }
+
+  pub told_known : (error : DictError) → OnError (IsMissing (Some contents)) (AsksFront (Some contents) (DictionaryOf bytes) old new) (λ e. Answers (Some contents) (DictionaryOf bytes) old new (refuse e)) error → ErrorTold contents name bytes old new error
+  told_known errors.NoMemory h = tt
+  told_known (errors.WordFile line file causes.Failed) h = tt
+  told_known (errors.WordFile line file causes.TooLong) h = read_so (refuse (errors.WordFile line file causes.TooLong)) (too_long_line file) refl h
+  told_known (errors.WordFile line file (causes.NotUtf8 n)) h = let e = errors.WordFile line file (causes.NotUtf8 n) in read_so (refuse e) (dict_line name e) refl h
+  told_known (errors.NotUtf8 n) h = let e = errors.NotUtf8 n in read_so (refuse e) (dict_line name e) refl h
+  told_known (errors.Syntax line column) h = let e = errors.Syntax line column in read_so (refuse e) (dict_line name e) refl h
+  told_known (errors.UnknownMacro line macro) h = let e = errors.UnknownMacro line macro in read_so (refuse e) (dict_line name e) refl h
+  told_known (errors.CostForm line) h = let e = errors.CostForm line in read_so (refuse e) (dict_line name e) refl h
+  told_known (errors.TooDeep line) h = let e = errors.TooDeep line in read_so (refuse e) (dict_line name e) refl h
+  told_known (errors.TooManyNodes line n) h = let e = errors.TooManyNodes line n in read_so (refuse e) (dict_line name e) refl h
+  told_known (errors.TooManyChoices line n) h = let e = errors.TooManyChoices line n in read_so (refuse e) (dict_line name e) refl h
+  told_known (errors.SideTooLong line n) h = let e = errors.SideTooLong line n in read_so (refuse e) (dict_line name e) refl h
+  told_known (errors.DuplicateWord word n m) h = let e = errors.DuplicateWord word n m in read_so (refuse e) (dict_line name e) refl h
+
+pub told_error : (known : Option Contents) (name bytes : List ℕ) (old new : List (List ℕ)) (error : DictError) →
+    OnError (IsMissing known) (AsksFront known (DictionaryOf bytes) old new) (λ e. Answers known (DictionaryOf bytes) old new (refuse e)) error → IfSome known (λ contents. ErrorTold contents name bytes old new error)
+told_error None name bytes old new error h = tt
+told_error (Some contents) name bytes old new error h = told_known contents name bytes old new error h
+
+-- a word file that was not read is the cause of a read fault
+pub fault_error : (before now : ℕ) (name : List ℕ) (asked : List (List ℕ)) (error : DictError) → IsCause before now asked error → IsFaultOf asked before now (dict_status error) (dict_line name error)
+fault_error before now name asked errors.NoMemory h = tt
+fault_error before now name asked (errors.WordFile line file causes.Failed) h = (h.1 refl, (file, h.0, refl))
+fault_error before now name asked (errors.WordFile line file causes.TooLong) h = tt
+fault_error before now name asked (errors.WordFile line file (causes.NotUtf8 n)) h = tt
+fault_error before now name asked (errors.NotUtf8 n) h = tt
+fault_error before now name asked (errors.Syntax line column) h = tt
+fault_error before now name asked (errors.UnknownMacro line macro) h = tt
+fault_error before now name asked (errors.CostForm line) h = tt
+fault_error before now name asked (errors.TooDeep line) h = tt
+fault_error before now name asked (errors.TooManyNodes line n) h = tt
+fault_error before now name asked (errors.TooManyChoices line n) h = tt
+fault_error before now name asked (errors.SideTooLong line n) h = tt
+fault_error before now name asked (errors.DuplicateWord word n m) h = tt
+
+-- ---- all inputs
+
+pub one_dictionary : OneDictionary → (contents : Contents) (name : List ℕ) → IsOne (DictionaryInput contents name)
+one_dictionary law contents name = one_followed (FileIs contents name) (DictionaryReads contents name) (one_file contents name) (one_text law contents name)
+
+pub one_verdict : OneDictionary → (contents : Contents) (task : Task) → IsOne (InputsAre contents task)
+one_verdict law contents (One dictionary sentence) =
+    one_followed (DictionaryInput contents dictionary) (λ dict. given (OneGiven dict sentence)) (one_dictionary law contents dictionary) (λ dict. one_given (OneGiven dict sentence))
+
+pub some_verdict : SomeDictionary → (contents : Contents) (task : Task) → HasSome (InputsAre contents task)
+some_verdict law contents (One dictionary sentence) =
+    some_followed (DictionaryInput contents dictionary) (λ dict. given (OneGiven dict sentence))
+    (some_followed (FileIs contents dictionary) (DictionaryReads contents dictionary) (some_file contents dictionary) (some_text law contents dictionary))
+    (λ dict. some_given (OneGiven dict sentence))

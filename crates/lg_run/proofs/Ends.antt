@@ -1,0 +1,150 @@
+-- How a run ends, by what was read and how it finishes.
+use Rattle.std.proofs.Common.{◌≡◌, ◌≢◌, ℕ, List, [], ◌⊎◌, inl, inr, Option, None, Some, IfSome, refl, sym, ◌∙◌, subst}
+use Rattle.std.specs.Io.KnownBytes.{Appends, Keeps}
+use Rattle.lg_base.specs.Contents.{Contents}
+use Rattle.lg_base.specs.Faults.{Rose}
+use Rattle.lg_base.specs.Sinks.{AppendsFront}
+use Rattle.lg_dictread.specs.declared.dict_error.DictError.{DictError}
+use Rattle.lg_dictread.specs.declared.dict_error.DictError.TheVariants as errors
+use Rattle.lg_dictread.specs.declared.dict_error.WordFileError.TheVariants as causes
+use Rattle.lg_run.specs.Words.{Task}
+use Rattle.lg_run.specs.Inputs.{Found, Reading, accepted, refused, IsOne, Given, InputsAre}
+use Rattle.lg_run.specs.Lines.{memory_line, dict_line}
+use Rattle.lg_run.specs.Stops.{dict_status, stop_status, stop_line, EndsAs}
+use Rattle.lg_run.specs.Reads.{AsksInOrder, Comes, TellsStop, IsFaultOf}
+use Rattle.lg_run.specs.Answers.{WhereTold, Caused, Told, AnswersRefused, AnswersAccepted, IsRefusal, HasLine, WritesLine, Finishes, last_line, IsStopped}
+use Rattle.lg_run.specs.declared.stop.Stop.{Stop}
+use Rattle.lg_run.specs.declared.stop.Stop.TheVariants.{Memory, Unreadable, TooLong, Refused}
+use Rattle.lg_run.specs.declared.status.Status.{Status}
+use Rattle.lg_run.specs.declared.status.Status.TheVariants.{Done, BadInput, Usage, ReadFault, WriteFault, NoMemory}
+
+-- ---- where something is told or not
+
+-- what holds of the inputs of a task that is the command's
+pub told_of : (contents : Option Contents) (task : Task) (wanted : Option Task) (Holds : Reading Given → Type 0) → Some task ≡ wanted → IfSome contents (λ known. Holds (InputsAre known task)) → WhereTold contents wanted Holds
+told_of contents task wanted Holds same h = subst (λ (t : Option Task). WhereTold contents t Holds) same (of_some contents h) where
+  of_some : (contents : Option Contents) → IfSome contents (λ known. Holds (InputsAre known task)) → WhereTold contents (Some task) Holds
+  of_some None k = tt
+  of_some (Some known) k = k
+
+-- where the words are not in form nothing is told
+pub untold : (contents : Option Contents) (wanted : Option Task) (Holds : Reading Given → Type 0) → None ≡ wanted → WhereTold contents wanted Holds
+untold contents wanted Holds same = subst (λ (t : Option Task). WhereTold contents t Holds) same (of_none contents) where
+  of_none : (contents : Option Contents) → WhereTold contents None Holds
+  of_none None = tt
+  of_none (Some known) = tt
+
+pub told_map : (contents : Option Contents) (task : Option Task) (Holds More : Reading Given → Type 0) →
+    ((known : Contents) (t : Task) → Holds (InputsAre known t) → More (InputsAre known t)) → WhereTold contents task Holds → WhereTold contents task More
+told_map None task Holds More leads h = tt
+told_map (Some known) None Holds More leads h = tt
+told_map (Some known) (Some t) Holds More leads h = leads known t h
+
+-- ---- what is written
+
+module _ (inputs : Reading Given) (old new : List (List ℕ)) (before after : Option (List ℕ)) where
+  -- a command that has its inputs in hand finishes so
+  pub finished : (g : Given) (status : Status) → Comes inputs old new (accepted g) → Finishes g status before after → Told inputs old new before after status
+  finished g Done h f = record { given = g; read = h; document = f.0; is = f.1; grown = f.2 }
+  finished g WriteFault h f = record { given = g; read = h; document = f.0; is = f.1; grown = f.2 }
+  finished g NoMemory h f = tt
+  finished g ReadFault h f = absurd f
+  finished g BadInput h f = absurd f
+  finished g Usage h f = absurd f
+
+  -- a command whose inputs are not had ends so
+  pub stopped : (status : Status) (line : List ℕ) → IsStopped status → TellsStop inputs old new status line → Told inputs old new before after status
+  stopped BadInput line is h = (line, h)
+  stopped ReadFault line is h = tt
+  stopped NoMemory line is h = tt
+  stopped Done line is h = absurd is
+  stopped Usage line is h = absurd is
+  stopped WriteFault line is h = absurd is
+
+  module _ (one : IsOne inputs) (files_before files_now out_before out_now : ℕ) where
+    clash : (g : Given) (line : List ℕ) → ◌≡◌ {A = Found Given} (accepted g) (refused line) → ⊥
+    clash g line h = cc
+
+    -- a text that is refused is told
+    pub answers_refused : (status : Status) → Told inputs old new before after status → Caused status files_before files_now out_before out_now →
+        AnswersRefused inputs (¬ Rose files_before files_now) status
+    answers_refused Done told caused names line is calm = absurd (clash told.given line (one told.read.names names (accepted told.given) (refused line) told.read.read is).1)
+    answers_refused WriteFault told caused names line is calm = absurd (clash told.given line (one told.read.names names (accepted told.given) (refused line) told.read.read is).1)
+    answers_refused ReadFault told caused names line is calm = absurd (calm caused)
+    answers_refused Usage told caused names line is calm = absurd told
+    answers_refused BadInput told caused names line is calm = inl refl
+    answers_refused NoMemory told caused names line is calm = inr refl
+
+    -- inputs that are accepted are answered
+    pub answers_accepted : (status : Status) → Told inputs old new before after status → Caused status files_before files_now out_before out_now →
+        AnswersAccepted inputs (¬ Rose files_before files_now) (¬ Rose out_before out_now) status
+    answers_accepted Done told caused names g is read written = inl refl
+    answers_accepted NoMemory told caused names g is read written = inr refl
+    answers_accepted WriteFault told caused names g is read written = absurd (written caused)
+    answers_accepted ReadFault told caused names g is read written = absurd (read caused)
+    answers_accepted Usage told caused names g is read written = absurd told
+    answers_accepted BadInput told caused names g is read written = absurd (clash g told.0 (one names told.1.names (accepted g) (refused told.0) is told.1.read).1)
+
+-- ---- the line
+
+-- the line of an error for want of memory
+memory_said : (name : List ℕ) (error : DictError) → dict_status error ≡ NoMemory → dict_line name error ≡ memory_line
+memory_said name errors.NoMemory h = refl
+memory_said name (errors.WordFile line file causes.Failed) h = cc
+memory_said name (errors.WordFile line file causes.TooLong) h = cc
+memory_said name (errors.WordFile line file (causes.NotUtf8 n)) h = cc
+memory_said name (errors.NotUtf8 n) h = cc
+memory_said name (errors.Syntax line column) h = cc
+memory_said name (errors.UnknownMacro line macro) h = cc
+memory_said name (errors.CostForm line) h = cc
+memory_said name (errors.TooDeep line) h = cc
+memory_said name (errors.TooManyNodes line n) h = cc
+memory_said name (errors.TooManyChoices line n) h = cc
+memory_said name (errors.SideTooLong line n) h = cc
+memory_said name (errors.DuplicateWord word n m) h = cc
+
+stop_said : (stop : Stop) → stop_status stop ≡ NoMemory → stop_line stop ≡ memory_line
+stop_said Memory h = refl
+stop_said (Unreadable name) h = cc
+stop_said (TooLong name) h = cc
+stop_said (Refused name error) h = memory_said name.now error h
+
+stop_refuses : (stop : Stop) → stop_status stop ≡ BadInput → IsRefusal (stop_line stop)
+stop_refuses Memory h = cc
+stop_refuses (Unreadable name) h = cc
+stop_refuses (TooLong name) h = (name.now, inl refl)
+stop_refuses (Refused name error) h = (name.now, inr (error, refl))
+
+module _ (contents : Option Contents) (task : Option Task) (old new : List (List ℕ)) (before now : ℕ) where
+  -- the line of a stop, by its status
+  stop_fits : (status : Status) (line : List ℕ) → IsStopped status → (status ≡ NoMemory → line ≡ memory_line) → (status ≡ BadInput → IsRefusal line) →
+      IsFaultOf new before now status line → WhereTold contents task (λ inputs. TellsStop inputs old new status line) → HasLine contents task old new status line
+  stop_fits BadInput line is memory refuses fault told = (refuses refl, told)
+  stop_fits ReadFault line is memory refuses fault told = fault.1
+  stop_fits NoMemory line is memory refuses fault told = memory refl
+  stop_fits Done line is memory refuses fault told = absurd is
+  stop_fits Usage line is memory refuses fault told = absurd is
+  stop_fits WriteFault line is memory refuses fault told = absurd is
+
+  pub stop_written : (stop : Stop) (status : Status) (so : Type 0) (err_old err_new : Option (List ℕ)) → IsStopped status → EndsAs stop status so err_old err_new →
+      IsFaultOf new before now (stop_status stop) (stop_line stop) → WhereTold contents task (λ inputs. TellsStop inputs old new (stop_status stop) (stop_line stop)) →
+      so → WritesLine contents task old new status err_old err_new
+  stop_written stop status so err_old err_new is (inl says) fault told holds = record {
+    line = stop_line stop;
+    fits = subst (λ (s : Status). HasLine contents task old new s (stop_line stop)) (sym says.same)
+        (stop_fits (stop_status stop) (stop_line stop) (subst IsStopped says.same is) (stop_said stop) (stop_refuses stop) fault told);
+    grown = says.written holds;
+  }
+  stop_written stop status so err_old err_new is (inr says) fault told holds = record {
+    line = memory_line;
+    fits = subst (λ (s : Status). HasLine contents task old new s memory_line) (sym says.same) refl;
+    grown = says.written holds;
+  }
+
+  pub last_written : (g : Given) (status : Status) (out_old out_new err_old err_new : Option (List ℕ)) → Finishes g status out_old out_new → Appends err_old err_new (last_line status) → WritesLine contents task old new status err_old err_new
+  last_written g Done out_old out_new err_old err_new f grown = record { line = []; fits = refl; grown = grown }
+  last_written g WriteFault out_old out_new err_old err_new f grown = record { line = last_line WriteFault; fits = refl; grown = grown }
+  last_written g NoMemory out_old out_new err_old err_new f grown = record { line = memory_line; fits = refl; grown = grown }
+  last_written g BadInput out_old out_new err_old err_new f grown = absurd f
+  last_written g Usage out_old out_new err_old err_new f grown = absurd f
+  last_written g ReadFault out_old out_new err_old err_new f grown = absurd f

@@ -1,0 +1,78 @@
+-- What comes of the inputs of a command, by the words and by what the files hold.
+use Rattle.std.specs.Prelude.{◌≡◌, ℕ, ◌<◌, ◌≤◌, List, [], ◌∷◌, ◌++◌, length, map}
+use Rattle.std.specs.List.{flat_map}
+use Rattle.std.specs.FinMap.{from_entries}
+use Rattle.std.specs.declared.option.Option.TheVariants.{None, Some}
+use Rattle.lg_base.specs.Contents.{Contents, file}
+use Rattle.lg_dict.specs.Dictionary.{Dictionary}
+use Rattle.lg_dictread.specs.declared.dict_error.DictError.TheVariants as errors
+use Rattle.lg_dictread.specs.declared.dict_error.WordFileError.TheVariants as causes
+use Rattle.lg_dictread.specs.Limits.{FILE}
+use Rattle.lg_dictread.specs.Texts.{Meaning, TextAnswer, stands, refuse, DictionaryIs}
+use Rattle.lg_run.specs.Words.{Task, One}
+use Rattle.lg_run.specs.Lines.{too_long_line, dict_line}
+
+-- What comes of texts that are read: all are accepted and stand for this; or the first that is refused has this line;
+-- or this is the first name that is not there.
+pub data Found (A : Type 0) : Type 0 where
+  accepted : A → Found A
+  refused : List ℕ → Found A
+  missing : List ℕ → Found A
+
+-- the names of the files that are read, in order, and what comes of them
+abbrev pub Reading : Type 0 → Type 1
+Reading A = List (List ℕ) → Found A → Type 0
+
+-- a reading comes to something, and to one thing alone
+abbrev pub HasSome : {A : Type 0} → Reading A → Type 0
+HasSome {A} reading = (names : List (List ℕ)) × (found : Found A) × reading names found
+
+abbrev pub IsOne : {A : Type 0} → Reading A → Type 0
+IsOne {A} reading = (names others : List (List ℕ)) (x y : Found A) → reading names x → reading others y → (names ≡ others) × (x ≡ y)
+
+-- no file is read for this
+abbrev pub given : {A : Type 0} → A → Reading A
+given a names found = (names ≡ []) × (found ≡ accepted a)
+
+-- One text after another: what the first stands for says how the next is read, and nothing is read after a text that is
+-- refused or a name that is not there.
+pub data Followed {A B : Type 0} (first : Reading A) (next : A → Reading B) : List (List ℕ) → Found B → Type 0 where
+  both : (a : A) (names more : List (List ℕ)) (found : Found B) → first names (accepted a) → next a more found → Followed first next (names ++ more) found
+  ends_refused : (names : List (List ℕ)) (line : List ℕ) → first names (refused line) → Followed first next names (refused line)
+  ends_missing : (names : List (List ℕ)) (name : List ℕ) → first names (missing name) → Followed first next names (missing name)
+
+-- the bytes of a file that the words name
+pub data FileIs (contents : Contents) (name : List ℕ) : List (List ℕ) → Found (List ℕ) → Type 0 where
+  absent : file contents name ≡ None → FileIs contents name (name ∷ []) (missing name)
+  long : (bytes : List ℕ) → file contents name ≡ Some bytes → FILE < length bytes → FileIs contents name (name ∷ []) (refused (too_long_line name))
+  whole : (bytes : List ℕ) → file contents name ≡ Some bytes → length bytes ≤ FILE → FileIs contents name (name ∷ []) (accepted bytes)
+
+-- each word of the entries with its formula, and each macro with its formula and its level
+abbrev pub dictionary_from : List Meaning → Dictionary
+dictionary_from entries = record {
+  words = from_entries (flat_map (λ m. map (λ word. (word, m.formula)) m.words) entries);
+  macros = from_entries (flat_map (λ m. map (λ name. (name, (m.formula, m.level))) m.macros) entries);
+}
+
+-- what comes of a dictionary of this name; a word file that is not there is a name that is not there
+abbrev pub found_in : List ℕ → TextAnswer → Found Dictionary
+found_in name (stands entries) = accepted (dictionary_from entries)
+found_in name (refuse (errors.WordFile line file causes.Failed)) = missing file
+found_in name (refuse error) = refused (dict_line name error)
+
+-- the dictionary of these bytes, with its word files
+pub data DictionaryReads (contents : Contents) (name bytes : List ℕ) : List (List ℕ) → Found Dictionary → Type 0 where
+  reads : (asked : List (List ℕ)) (answer : TextAnswer) → DictionaryIs contents bytes asked answer → DictionaryReads contents name bytes asked (found_in name answer)
+
+-- the dictionary with this name
+abbrev pub DictionaryInput : Contents → List ℕ → Reading Dictionary
+DictionaryInput contents name = Followed (FileIs contents name) (DictionaryReads contents name)
+
+-- what a command has in hand once all its inputs are accepted
+pub data Given : Type 0 where
+  -- a dictionary and a sentence
+  OneGiven : Dictionary → List ℕ → Given
+
+-- the inputs of a command
+abbrev pub InputsAre : Contents → Task → Reading Given
+InputsAre contents (One dictionary sentence) = Followed (DictionaryInput contents dictionary) (λ dict. given (OneGiven dict sentence))

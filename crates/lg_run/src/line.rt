@@ -1,0 +1,186 @@
+//! The lines that say why a dictionary is refused.
+ghost use Rattle.std.specs.Prelude.{◌≡◌, ◌∷◌, ◌++◌, [], IfOk, OnOk, map, decimal};
+ghost use Rattle.std.specs.List.{flat_map};
+ghost use Rattle.lg_run.specs.Lines.{refusal_line, on_line, not_utf8, line_about, dict_line};
+ghost use Rattle.lg_run.specs.Pieces.{piece_text};
+ghost use Rattle.lg_dictread.specs.declared.dict_error.DictError.TheVariants as errors;
+
+use lg_base::{NoMemory, write_bytes, write_number};
+use lg_dictread::{DictError, WordFileError};
+use std::alloc::Global;
+
+/// A part of a line.
+#[derive(Clone, Copy, Debug)]
+pub enum Piece<'a> {
+    Text(&'a [u8]),
+    Number(u64),
+}
+
+/// The line of an error of the dictionary with this name. A word file's own faults have the word file's name.
+pub(crate) fn dict_line(
+    alloc: Global,
+    name: &[u8],
+    error: &DictError,
+) -> Result<Vec<u8>, NoMemory>
+    ensures { IfOk result (λ line. line.items ≡ dict_line name.now error.now) }
+{
+    match error {
+        DictError::NoMemory => about(alloc, b"lgparse: out of memory\n", b"", b""),
+        DictError::NotUtf8(byte) => byte_line(alloc, name, *byte),
+        DictError::Syntax(line, column) => syntax_line(alloc, name, *line, *column),
+        DictError::UnknownMacro(line, text) => macro_line(alloc, name, *line, text.bytes()),
+        DictError::CostForm(line) => bare_line(alloc, name, *line, b"cost form"),
+        DictError::TooDeep(line) => bare_line(alloc, name, *line, b"too deep"),
+        DictError::TooManyNodes(line, count) => {
+            count_line(alloc, name, *line, b"too many nodes ", *count)
+        }
+        DictError::TooManyChoices(line, count) => {
+            count_line(alloc, name, *line, b"too many choices ", *count)
+        }
+        DictError::SideTooLong(line, count) => {
+            let count = u64::from(*count);
+            count_line(alloc, name, *line, b"too many connectors on a side ", count)
+        }
+        DictError::DuplicateWord(word, first, again) => {
+            duplicate_line(alloc, name, word.bytes(), *first, *again)
+        }
+        DictError::WordFile(_, file, cause) => word_file_line(alloc, file.bytes(), *cause),
+    }
+}
+
+fn word_file_line(alloc: Global, name: &[u8], cause: WordFileError) -> Result<Vec<u8>, NoMemory>
+    ensures { IfOk result (λ line. line.items ≡ dict_line [] (errors.WordFile 0 name.now cause)) }
+{
+    match cause {
+        WordFileError::Failed => about(alloc, b"lgparse: cannot read ", name, b"\n"),
+        WordFileError::TooLong => {
+            about(alloc, b"lgparse: ", name, b" is longer than 67108864 bytes\n")
+        }
+        WordFileError::NotUtf8(byte) => byte_line(alloc, name, byte),
+    }
+}
+
+fn about(
+    alloc: Global,
+    front: &[u8],
+    name: &[u8],
+    back: &[u8],
+) -> Result<Vec<u8>, NoMemory>
+    ensures { IfOk result (λ line. line.items ≡ line_about front.now name.now back.now) }
+{
+    let mut line = Vec::new(alloc);
+    write_bytes(&mut line, front)?;
+    write_bytes(&mut line, name)?;
+    write_bytes(&mut line, back)?;
+    Ok(line)
+}
+
+fn byte_line(alloc: Global, name: &[u8], byte: u64) -> Result<Vec<u8>, NoMemory>
+    ensures { IfOk result (λ line. line.items ≡ refusal_line name.now (not_utf8 byte)) }
+{
+    refusal(alloc, name, &[Piece::Text(b"byte "), Piece::Number(byte), Piece::Text(b" is not UTF-8")])
+}
+
+fn syntax_line(alloc: Global, name: &[u8], line: u32, column: u32) -> Result<Vec<u8>, NoMemory>
+    ensures { IfOk result (λ text. text.items ≡ dict_line name.now (errors.Syntax line column)) }
+{
+    let why = [
+        Piece::Text(b"line "),
+        Piece::Number(u64::from(line)),
+        Piece::Text(b" column "),
+        Piece::Number(u64::from(column)),
+        Piece::Text(b": syntax"),
+    ];
+    refusal(alloc, name, &why)
+}
+
+fn bare_line(alloc: Global, name: &[u8], line: u32, why: &[u8]) -> Result<Vec<u8>, NoMemory>
+    ensures { IfOk result (λ text. text.items ≡ refusal_line name.now (on_line line (why.now ∷ []))) }
+{
+    let why = [
+        Piece::Text(b"line "),
+        Piece::Number(u64::from(line)),
+        Piece::Text(b": "),
+        Piece::Text(why),
+    ];
+    refusal(alloc, name, &why)
+}
+
+fn macro_line(alloc: Global, name: &[u8], line: u32, text: &[u8]) -> Result<Vec<u8>, NoMemory>
+    ensures { IfOk result (λ said. said.items ≡ dict_line name.now (errors.UnknownMacro line text.now)) }
+{
+    let why = [
+        Piece::Text(b"line "),
+        Piece::Number(u64::from(line)),
+        Piece::Text(b": "),
+        Piece::Text(b"unknown macro "),
+        Piece::Text(text),
+    ];
+    refusal(alloc, name, &why)
+}
+
+fn count_line(
+    alloc: Global,
+    name: &[u8],
+    line: u32,
+    why: &[u8],
+    count: u64,
+) -> Result<Vec<u8>, NoMemory>
+    ensures { IfOk result (λ said. said.items ≡ refusal_line name.now (on_line line (why.now ∷ decimal count ∷ []))) }
+{
+    let why = [
+        Piece::Text(b"line "),
+        Piece::Number(u64::from(line)),
+        Piece::Text(b": "),
+        Piece::Text(why),
+        Piece::Number(count),
+    ];
+    refusal(alloc, name, &why)
+}
+
+fn duplicate_line(
+    alloc: Global,
+    name: &[u8],
+    word: &[u8],
+    first: u32,
+    again: u32,
+) -> Result<Vec<u8>, NoMemory>
+    ensures { IfOk result (λ text. text.items ≡ dict_line name.now (errors.DuplicateWord word.now first again)) }
+{
+    let why = [
+        Piece::Text(word),
+        Piece::Text(b" is defined on lines "),
+        Piece::Number(u64::from(first)),
+        Piece::Text(b" and "),
+        Piece::Number(u64::from(again)),
+    ];
+    refusal(alloc, name, &why)
+}
+
+/// The line of a file that is refused, with the pieces of the cause.
+fn refusal(alloc: Global, name: &[u8], why: &[Piece<'_>]) -> Result<Vec<u8>, NoMemory>
+    ensures { IfOk result (λ line. line.items ≡ refusal_line name.now (map piece_text why.now)) }
+{
+    let mut line = about(alloc, b"lgparse: ", name, b": ")?;
+    write_pieces(alloc, &mut line, why)?;
+    write_bytes(&mut line, b"\n")?;
+    Ok(line)
+}
+
+fn write_pieces(alloc: Global, out: &mut Vec<u8>, pieces: &[Piece<'_>]) -> Result<(), NoMemory>
+    ensures { OnOk result (out.new.items ≡ out.old.items ++ flat_map piece_text pieces.now) }
+{
+    for piece in pieces {
+        write_piece(alloc, out, piece)?;
+    }
+    Ok(())
+}
+
+fn write_piece(alloc: Global, out: &mut Vec<u8>, piece: &Piece<'_>) -> Result<(), NoMemory>
+    ensures { OnOk result (out.new.items ≡ out.old.items ++ piece_text piece.now) }
+{
+    match piece {
+        Piece::Text(bytes) => write_bytes(out, bytes),
+        Piece::Number(number) => write_number(alloc, out, *number),
+    }
+}
