@@ -1,7 +1,7 @@
 //! Dictionary texts: their entries, and the first fault of a text.
 //!
-//! The format is after link-parser's: `words : expression ;`. [`read_first_form`] reads the small form of it that the
-//! program takes now.
+//! The format is after link-parser's. An entry is `items : expression ;`, where an item is a word, a macro or a word file.
+//! [`read_dict`] reads a whole dictionary, puts the macros in and reads the word files; [`read_entry`] reads one entry.
 #![tactic(auto)]
 
 mod define;
@@ -10,7 +10,6 @@ mod dict_text;
 mod earlier;
 mod entry;
 mod entry_text;
-pub mod first_form;
 mod items;
 mod law;
 mod limits;
@@ -25,5 +24,4 @@ mod word_file;
 pub use dict_error::{DictError, WordFileError};
 pub use dict_text::read_dict;
 pub use entry_text::{EntryError, read_entry};
-pub use first_form::{FirstFormError, read_first_form};
 pub use law::{exactly_one_dictionary, exactly_one_entry, exactly_one_entry_text};
