@@ -164,6 +164,7 @@ fn an_entry_has_its_parts(rt: HostRuntime) -> Result<(), Fail> {
     let text = b"<m>: (A+ & B-);\n% c\nx\n/w <n> \"y z\": [<m>]0.5 or C+;";
     match read_dict(alloc, text, &mut word_files(alloc)?) {
         Ok(entries) => {
+            assert_eq!(rt; entries.len(), 2);
             let entry = &entries[1];
             for (word, want) in entry
                 .words
