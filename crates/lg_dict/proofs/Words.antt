@@ -107,7 +107,7 @@ abbrev pub found_in : Inside → List ℕ → List (List ℕ)
 found_in a text = (if is_some (at_text a.words text) then text ∷ [] else []) ++ listed a.stems text
 
 module _ (a : Inside) where
-  known : (word : List ℕ) → is_some (get (shown a).words word) ≡ among word (text_keys a.words)
+  pub known : (word : List ℕ) → is_some (get (shown a).words word) ≡ among word (text_keys a.words)
   known word = ap is_some (get-shown (tree_at a.formulas.items) a.words word) ∙ is_some-map (tree_at a.formulas.items) (at_text a.words word) ∙ found_among word a.words.entries
 
   itself : (text word : List ℕ) → among word (if is_some (at_text a.words text) then text ∷ [] else []) ≡ (among text (text_keys a.words) && same_text word text)

@@ -1,5 +1,5 @@
 -- What contracts see of a dictionary: two finite maps.
-use Rattle.std.specs.Prelude.{◌≡◌, ◌⊎◌, ◌↔◌, ℕ, List, map, Contains, IsSome}
+use Rattle.std.specs.Prelude.{◌≡◌, ◌⊎◌, ◌↔◌, ◌≤◌, ℕ, List, length, map, Contains, IsSome}
 use Rattle.std.specs.List.{flat_map}
 use Rattle.std.specs.List.Sorted.{IsStrictlySortedBy}
 use Rattle.std.specs.Ordering.{nat_cmp}
@@ -43,3 +43,12 @@ pub record IsWordOf (dict : Dictionary) (text word : List ℕ) : Type 0 where
 pub record AreWordsOf (dict : Dictionary) (text : List ℕ) (words : List (List ℕ)) : Type 0 where
   pub rise : IsStrictlySortedBy (slice_cmp nat_cmp) words
   pub exactly : (word : List ℕ) → Contains words word ↔ IsWordOf dict text word
+
+-- the length of the longest of some texts: none has more bytes, and one has so many, or it is 0
+pub record IsLongest (IsOne : List ℕ → Type 0) (n : ℕ) : Type 0 where
+  pub bounds : (text : List ℕ) → IsOne text → length text ≤ n
+  pub reached : (n ≡ 0) ⊎ ((text : List ℕ) × IsOne text × (length text ≡ n))
+
+-- the length of the longest word of the dictionary
+abbrev pub IsLongestWord : Dictionary → ℕ → Type 0
+IsLongestWord dict n = IsLongest (λ word. IsSome (get dict.words word)) n

@@ -7,10 +7,10 @@ ghost use Rattle.std.specs.Ordering.{nat_cmp};
 ghost use Rattle.std.specs.Cmp.Lexicographic.{slice_cmp};
 ghost use Rattle.lg_gram.specs.Trees.{tree_of};
 ghost use Rattle.lg_gram.specs.Formulas.{LevelFits};
-ghost use Rattle.lg_dict.specs.Dictionary.{dictionary_of, AreEntries, IsWordOf, AreWordsOf};
+ghost use Rattle.lg_dict.specs.Dictionary.{dictionary_of, AreEntries, IsWordOf, AreWordsOf, IsLongestWord};
 ghost use Rattle.lg_dict.specs.Tables.{at_text, listed};
 
-use crate::tables::{Macro, Table, macro_table, stem_table, with_stem, word_table};
+use crate::tables::{Macro, Table, longest_word, macro_table, stem_table, with_stem, word_table};
 use lg_base::{NoMemory, Text, Texts};
 use lg_gram::{Entry, Formula};
 use std::alloc::Global;
@@ -19,13 +19,15 @@ use std::marker::Model;
 /// A dictionary. Contracts see two finite maps: from its words to the trees of their formulas, and from its macros to
 /// the trees of their formulas and their levels.
 ///
-/// A formula is stored once, for all words of its entry.
+/// A formula is stored once, for all words of its entry. A text longer than each word is found to be none without being
+/// read.
 #[derive(Drop)]
 pub struct Dict {
     formulas: Vec<Formula>,
     words: Table<usize>,
     macros: Table<Macro>,
     stems: Table<Vec<Text>>,
+    longest: usize,
 }
 
 impl Model for Dict {
@@ -53,19 +55,31 @@ impl Dict {
         let words = word_table(alloc, &entries)?;
         let macros = macro_table(alloc, &entries)?;
         let stems = stem_table(alloc, &words)?;
+        let longest = longest_word(&words);
         let formulas = formulas_of(alloc, entries)?;
         Ok(Dict {
             formulas,
             words,
             macros,
             stems,
+            longest,
         })
+    }
+
+    /// The length in bytes of the longest word; 0 where there is no word. No memory.
+    pub(crate) fn longest(&self) -> usize
+        ensures { IsLongestWord self.now result }
+    {
+        self.longest
     }
 
     /// The formula of a word. No memory.
     pub(crate) fn get(&self, word: &[u8]) -> Option<&Formula>
         ensures { option_map (λ formula. tree_of formula.now) result ≡ finite.get self.now.words word.now }
     {
+        if word.len() > self.longest {
+            return None;
+        }
         let place = *self.words.get(word)?;
         Some(&self.formulas[place])
     }
@@ -83,6 +97,9 @@ impl Dict {
     pub(crate) fn has(&self, text: &[u8]) -> bool
         ensures { IsTrue result ↔ ((word : List ℕ) × IsWordOf self.now text.now word) }
     {
+        if text.len() > self.longest {
+            return false;
+        }
         self.words.contains_key(text) || !with_stem(&self.stems, text).is_empty()
     }
 
@@ -90,6 +107,9 @@ impl Dict {
     pub(crate) fn words_of(&self, alloc: Global, text: &[u8]) -> Result<Texts, NoMemory>
         ensures { IfOk result (AreWordsOf self.now text.now) }
     {
+        if text.len() > self.longest {
+            return Ok(Texts::of(Vec::new(alloc)));
+        }
         let found = found_words(alloc, &self.words, &self.stems, text)?;
         sorted_texts(alloc, found)
     }

@@ -1,9 +1,9 @@
 //! The hash tables of a dictionary, each made once from the entries. Their keys are bytes.
-ghost use Rattle.std.specs.Prelude.{◌≡◌, ◌≢◌, ◌<◌, ◌++◌, [], ◌∷◌, ℕ, List, map, filter, length, All, AllPairs, IfOk, OnOk, nat_eq, if◌then◌else◌};
+ghost use Rattle.std.specs.Prelude.{◌≡◌, ◌≢◌, ◌<◌, ◌++◌, [], ◌∷◌, ℕ, List, map, filter, length, All, AllPairs, Contains, IfOk, OnOk, nat_eq, if◌then◌else◌};
 ghost use Rattle.std.specs.List.{IsDistinct};
 ghost use Rattle.indexmap.specs.IndexMap.{values};
 ghost use Rattle.lg_dict.specs.Subscripts.{stem_of};
-ghost use Rattle.lg_dict.specs.Dictionary.{words_in, macros_in, words_with_formulas, macros_with_formulas, AreEntries};
+ghost use Rattle.lg_dict.specs.Dictionary.{words_in, macros_in, words_with_formulas, macros_with_formulas, AreEntries, IsLongest};
 ghost use Rattle.lg_dict.specs.Tables.{text_entries, text_keys, listed, same_text, with_trees, with_macros, IsMacro};
 
 use crate::subscript::stem;
@@ -73,6 +73,17 @@ fn copied(alloc: Global, bytes: &[u8]) -> Result<Vec<u8>, NoMemory>
 {
     let copy = bytes.to_vec(alloc)?;
     Ok(copy)
+}
+
+/// The length in bytes of the longest word; 0 where there is no word.
+pub(crate) fn longest_word(words: &Table<usize>) -> usize
+    ensures { IsLongest (Contains (text_keys words.now)) result }
+{
+    let mut longest = 0;
+    for word in words.keys() {
+        longest = longest.max(word.len());
+    }
+    longest
 }
 
 /// The words of each stem.

@@ -111,6 +111,16 @@ fn looks_up_words(rt: HostRuntime) -> Result<(), Fail> {
 }
 
 #[test]
+fn tells_the_longest_word(rt: HostRuntime) -> Result<(), Fail> {
+    let alloc = rt.alloc();
+    let dict = sample_dict(alloc)?;
+    assert_eq!(rt; View::of(alloc, &dict).longest(), 5);
+    let empty = Dict::of(alloc, Vec::new(alloc))?;
+    assert_eq!(rt; View::of(alloc, &empty).longest(), 0);
+    Ok(())
+}
+
+#[test]
 fn looks_up_macros(rt: HostRuntime) -> Result<(), Fail> {
     let dict = sample_dict(rt.alloc())?;
     let view = View::of(rt.alloc(), &dict);

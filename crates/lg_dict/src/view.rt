@@ -4,7 +4,7 @@ ghost use Rattle.std.specs.FinMap as finite;
 ghost use Rattle.std.specs.Option.{option_map};
 ghost use Rattle.lg_gram.specs.Trees.{tree_of};
 ghost use Rattle.lg_gram.specs.Formulas.{LevelFits};
-ghost use Rattle.lg_dict.specs.Dictionary.{IsWordOf, AreWordsOf};
+ghost use Rattle.lg_dict.specs.Dictionary.{IsWordOf, AreWordsOf, IsLongestWord};
 
 use crate::dict::Dict;
 use lg_base::{NoMemory, Texts};
@@ -35,6 +35,13 @@ impl<'a> View<'a> {
         ensures { result ≡ base.now }
     {
         View { base }
+    }
+
+    /// The length in bytes of the longest word; 0 where there is no word. No memory.
+    pub fn longest(&self) -> usize
+        ensures { IsLongestWord self.now result }
+    {
+        self.base.longest()
     }
 
     /// The formula of a word. No memory.

@@ -6,7 +6,11 @@ use Rattle.lg_gram.specs.Trees.{tree_of}
 use Rattle.lg_dict.specs.Tables.{tree_at}
 use Rattle.lg_dict.specs.Dictionary.{Dictionary}
 use Rattle.lg_dict.proofs.Lookups.{get-shown, among_all, tree_at-get_or}
+use Rattle.lg_dict.proofs.Longest.{longest_seen, is_missing}
 use Rattle.lg_dict.proofs.dict.Dict.get.Goals as goal
+
+pub returns-then-word-self : goal.returns-then-word-self
+returns-then-word-self c = is_missing c.args.self.now c.self.inside.longest (longest_seen c.self.inside c.args.self.now c.self.view_is c.self.invariant) c.args.word.now c.if-word-self.true
 
 pub returns-in_err-place : goal.returns-in_err-place
 returns-in_err-place c =

@@ -1,7 +1,11 @@
 use Rattle.std.proofs.Common.{◌||◌, ◌==◌, not, length, ap, sym, ◌∙◌}
 use Rattle.lg_dict.specs.Tables.{listed}
 use Rattle.lg_dict.proofs.Words.{has_seen}
+use Rattle.lg_dict.proofs.Longest.{longest_seen, has_none}
 use Rattle.lg_dict.proofs.dict.Dict.has.Goals as goal
+
+pub returns-then-text-self : goal.returns-then-text-self
+returns-then-text-self c = has_none c.args.self.now c.self.inside.longest (longest_seen c.self.inside c.args.self.now c.self.view_is c.self.invariant) c.args.text.now c.if-text-self.true
 
 pub returns-then-contains_key : goal.returns-then-contains_key
 returns-then-contains_key c =

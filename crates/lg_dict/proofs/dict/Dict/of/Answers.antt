@@ -17,6 +17,7 @@ invariant_of-result c =
       words = subst (λ n. All (λ place. place < n) (values c.in_ok-words.words)) count c.in_ok-words.ensures.within;
       macros = subst (λ fs. All (IsMacro fs) (values c.in_ok-macros.macros)) same c.in_ok-macros.ensures.fit;
       stems = c.in_ok-stems.ensures;
+      longest = c.longest_word-longest.ensures;
     }
 
 pub returns : goal.returns

@@ -1,7 +1,13 @@
-use Rattle.std.proofs.Common.{List, ℕ, map, Bor, Contains, sym, subst, ◌↔◌}
+use Rattle.std.proofs.Common.{List, ℕ, map, Bor, Contains, sym, subst, ◌∙◌, ◌↔◌}
 use Rattle.lg_dict.specs.Dictionary.{IsWordOf}
 use Rattle.lg_dict.proofs.Words.{Contains-seen, words_result}
+use Rattle.lg_dict.proofs.Longest.{longest_seen, has_no_words}
 use Rattle.lg_dict.proofs.dict.Dict.words_of.Goals as goal
+
+pub returns-then-text-self : goal.returns-then-text-self
+returns-then-text-self c =
+    has_no_words c.args.self.now c.self.inside.longest (longest_seen c.self.inside c.args.self.now c.self.view_is c.self.invariant) c.args.text.now c.if-text-self.true
+    c.of.result (c.of.ensures ∙ c.new.ensures.items)
 
 pub returns : goal.returns
 returns c =

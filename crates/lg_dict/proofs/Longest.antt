@@ -1,0 +1,105 @@
+-- The longest word, and that a text longer than it is neither a word nor a stem.
+use Rattle.std.proofs.Common.{◌≡◌, ◌↔◌, ℕ, ◌<◌, ◌≤◌, List, [], ◌∷◌, ◌++◌, Bool, true, false, if◌then◌else◌, cond, length, take, max, Contains, IsSome, Option, Some, None, inl, inr, true≢false, refl, sym, ap, subst, ◌∙◌, arith}
+use mathlib.Core.Logic.{⊎_elim}
+use Rattle.std.proofs.lemmas.Bool.{cases_lt, cases_order}
+use Rattle.std.proofs.lemmas.List.{length-take}
+use Rattle.std.proofs.lemmas.List.Elements.{Contains-append_left, Contains-append_right, Contains-push_cases}
+use Rattle.std.specs.List.{before_last}
+use Rattle.std.specs.List.Sorted.{IsStrictlySortedBy}
+use Rattle.std.specs.declared.cmp.Ordering.TheVariants.{Less, Equal, Greater}
+use Rattle.std.specs.Ordering.{nat_cmp, ord_max, is_lt}
+use Rattle.std.specs.Cmp.{nat_cmp_is}
+use Rattle.std.specs.Cmp.Lexicographic.{slice_cmp}
+use Rattle.std.specs.FinMap.{get}
+use Rattle.lg_gram.specs.Trees.{Tree}
+use Rattle.lg_dict.specs.Dictionary.{Dictionary, IsWordOf, AreWordsOf, IsLongest, IsLongestWord}
+use Rattle.lg_dict.specs.Subscripts.{is_point, has_subscript}
+use Rattle.lg_dict.specs.Tables.{text_keys}
+use Rattle.lg_dict.specs.Layout.{shown, IsKept}
+use Rattle.lg_dict.specs.declared.dict.Dict.TheInside.{Inside}
+use Rattle.lg_dict.proofs.Words.{known, Contains-among}
+
+-- of one more text
+
+pub ord_max_is : (a b : ℕ) → ord_max nat_cmp a b ≡ max a b
+ord_max_is a b = elim (cases_order a b) [
+  | inl same ↦ ap (λ o. cond (is_lt o) a b) (sym (nat_cmp_is b a Equal (sym same))) ∙ omega arith
+  | inr (inl less) ↦ ap (λ o. cond (is_lt o) a b) (sym (nat_cmp_is b a Greater less)) ∙ omega arith
+  | inr (inr more) ↦ ap (λ o. cond (is_lt o) a b) (sym (nat_cmp_is b a Less more)) ∙ omega arith
+]
+
+pub longest-more : (xs : List (List ℕ)) (x : List ℕ) (n m : ℕ) → m ≡ max n (length x) → IsLongest (Contains xs) n → IsLongest (Contains (xs ++ x ∷ [])) m
+longest-more xs x n m is so_far = record {
+  bounds = λ text h. elim (Contains-push_cases xs x text h) [
+    | inl here ↦ let low = so_far.bounds text here in omega arith
+    | inr same ↦ subst (λ t. length t ≤ m) same (omega arith)
+  ];
+  reached = ⊎_elim
+      (λ less. inr (x, Contains-append_right xs (x ∷ []) x (0, omega arith, refl), omega arith))
+      (λ more. elim so_far.reached [
+        | inl none ↦ inl (omega arith)
+        | inr one ↦ inr (one.0, Contains-append_left xs (x ∷ []) one.0 one.1, let same = one.2 in omega arith)
+      ])
+      (cases_lt n (length x));
+}
+
+-- of the words of a dictionary, which are the keys of its table
+
+longest-same : (P Q : List ℕ → Type 0) (n : ℕ) → ((text : List ℕ) → P text ↔ Q text) → IsLongest P n → IsLongest Q n
+longest-same P Q n same is = record {
+  bounds = λ text h. is.bounds text ((same text).1 h);
+  reached = elim is.reached [
+    | inl none ↦ inl none
+    | inr one ↦ inr (one.0, (same one.0).0 one.1, one.2)
+  ];
+}
+
+key_is_word : (a : Inside) (word : List ℕ) → Contains (text_keys a.words) word ↔ IsSome (get (shown a).words word)
+key_is_word a word = (λ h. known a word ∙ (Contains-among (text_keys a.words) word).0 h, λ h. (Contains-among (text_keys a.words) word).1 (sym (known a word) ∙ h))
+
+pub longest_seen : (a : Inside) (dict : Dictionary) → shown a ≡ dict → IsKept a → IsLongestWord dict a.longest
+longest_seen a dict seen kept =
+    subst (λ d. IsLongestWord d a.longest) seen
+    (longest-same (Contains (text_keys a.words)) (λ word. IsSome (get (shown a).words word)) a.longest (key_is_word a) kept.longest)
+
+-- a text that is longer
+
+take_is_short : (n : ℕ) (word : List ℕ) → length (take n word) ≤ length word
+take_is_short n word = omega (arith, length-take n word)
+
+stem_is_short : (word : List ℕ) (b : Bool) → length (if b then before_last is_point word else word) ≤ length word
+stem_is_short word true = take_is_short _ word
+stem_is_short word false = omega arith
+
+-- a word of a text has at least the bytes of the text
+pub word_is_longer : (dict : Dictionary) (text word : List ℕ) → IsWordOf dict text word → length text ≤ length word
+word_is_longer dict text word is = elim is.fits [
+  | inl same ↦ let lengths : length word ≡ length text = ap length same in omega arith
+  | inr stem ↦ subst (λ t. length t ≤ length word) stem (stem_is_short word (has_subscript word))
+]
+
+module _ (dict : Dictionary) (n : ℕ) (longest : IsLongestWord dict n) (text : List ℕ) (longer : n < length text) where
+  pub has_no_word : (word : List ℕ) → IsWordOf dict text word → ⊥
+  has_no_word word is =
+      let least : length text ≤ length word = word_is_longer dict text word is in
+      let most : length word ≤ n = longest.bounds word is.kept in
+      omega arith
+
+  pub has_none : (false ≡ true) ↔ ((word : List ℕ) × IsWordOf dict text word)
+  has_none = (λ h. absurd (true≢false (sym h)), λ w. absurd (has_no_word w.0 w.1))
+
+  no_value : (found : Option Tree) → (IsSome found → ⊥) → None ≡ found
+  no_value None none = refl
+  no_value (Some t) none = absurd (none refl)
+
+  pub is_missing : None ≡ get dict.words text
+  is_missing = no_value (get dict.words text) (λ h. let most : length text ≤ n = longest.bounds text h in omega arith)
+
+  none_rise : IsStrictlySortedBy (slice_cmp nat_cmp) []
+  unfolding IsStrictlySortedBy
+  none_rise = tt
+
+  pub has_no_words : (words : List (List ℕ)) → words ≡ [] → AreWordsOf dict text words
+  has_no_words words is =
+      subst (AreWordsOf dict text) (sym is)
+      (record { rise = none_rise; exactly = λ word. (λ h. absurd (let within = h.1 in omega arith), λ w. absurd (has_no_word word w)) })
