@@ -38,7 +38,8 @@ pub(crate) struct Off<'a> {
 /// Cuts a chunk, after link-parser: of a chunk that has no word a closing sign is cut off, else an opening sign, else
 /// `'s` where the dictionary has it, and then the rest is cut.
 ///
-/// Each step looks the rest up, so the time is linear in the chunk for each piece.
+/// Each step looks the rest up, which reads it only where it is no longer than the longest word of the dictionary. So
+/// the time is linear in the chunk, and for each piece that is cut off in the longest word.
 pub(crate) fn cut_chunk<'a>(
     alloc: Global,
     view: &View,

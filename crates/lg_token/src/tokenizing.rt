@@ -17,8 +17,8 @@ use std::alloc::Global;
 /// has it, and the pieces of the chunks between spaces and tabs, after link-parser.
 ///
 /// The text has fewer than 2^32 bytes. A token's text is what stands from its first byte to its last in the sentence; a
-/// wall has an empty span. The time is linear in the text and the words that are found, but for a chunk of which much
-/// is cut off: each piece costs a look-up of what is left.
+/// wall has an empty span. The time is linear in the text and the words that are found, and for each sign that is cut
+/// off in the longest word of the dictionary.
 pub fn tokens(alloc: Global, view: &View, text: &str) -> Result<Tokens, NoMemory>
     requires { length text.now < 2 ^ 32 }
     ensures { IfOk result (AreTokens view.now text.now) }

@@ -27,7 +27,8 @@ pub(crate) fn token_words(
     }
 }
 
-/// Whether the text has a word, also with its first letter lowered where it is the initial token.
+/// Whether the text has a word, also with its first letter lowered where it is the initial token. A text that is longer
+/// than the longest word is not read.
 pub(crate) fn is_known(
     alloc: Global,
     view: &View,
@@ -36,6 +37,9 @@ pub(crate) fn is_known(
 ) -> Result<bool, NoMemory>
     ensures { IfOk result (λ known. IsTrue known ↔ IsKnown view.now initial text.now) }
 {
+    if text.len() > view.longest() {
+        return Ok(false);
+    }
     if view.has(text) {
         return Ok(true);
     }
