@@ -1,0 +1,1 @@
+//! The samples: their dictionaries, sentences and pages.
