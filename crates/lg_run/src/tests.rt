@@ -5,7 +5,7 @@ mod rows;
 mod samples;
 
 use super::*;
-use lg_base::{MemFiles, MemSink};
+use lg_base::{MemFiles, MemSink, Sink};
 use std::alloc::Global;
 use std::process::Abort;
 use std::test::Fail;
@@ -47,6 +47,29 @@ fn shows<R: Abort + Threads + Sync>(
     let files = dictionary_of(alloc, dictionary.as_bytes())?;
     let words = one(alloc, sentence)?;
     expect(rt, alloc, files, &words, Status::Done, page, "")
+}
+
+// Wants these pages of the sentences, one a line, each page after a line with its sentence.
+fn shows_all<R: Abort + Threads + Sync>(
+    rt: &R,
+    alloc: Global,
+    dictionary: &str,
+    sentences: &str,
+    pages: &str,
+) -> Result<(), Fail> {
+    let mut files = dictionary_of(alloc, dictionary.as_bytes())?;
+    let mut out = MemSink::new(alloc, ROOM)?;
+    let mut err = MemSink::new(alloc, 0)?;
+    for sentence in sentences.lines() {
+        out.put(b"> ")?;
+        out.put(sentence.as_bytes())?;
+        out.put(b"\n")?;
+        let words = one(alloc, sentence)?;
+        let status = run(rt, alloc, &words, &mut files, &mut out, &mut err);
+        assert_eq!(rt; status, Status::Done);
+    }
+    assert_eq!(rt; out.bytes(), pages.as_bytes());
+    Ok(())
 }
 
 // Wants this status and this line where the files are read for a sentence.
