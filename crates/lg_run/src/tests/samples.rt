@@ -3,21 +3,21 @@ use super::*;
 
 #[test]
 fn first_sample(rt: HostRuntime) -> Result<(), Fail> {
-    shows_all(&rt, rt.alloc(), FIRST, FIRST_SENTENCES, FIRST_PAGES)
+    shows_all(&rt, rt.alloc(), FIRST_DICT, FIRST_TXT, FIRST_OUT)
 }
 
-const FIRST: &str = r"a the: D+;
+const FIRST_DICT: &str = r"a the: D+;
 snake cat: D- & (O- or S+);
 Mary: O- or S+;
 ran: S-;
 chased: S- & O+;
 ";
 
-const FIRST_SENTENCES: &str = r"the cat chased a snake
+const FIRST_TXT: &str = r"the cat chased a snake
 the cat Mary ran
 ";
 
-const FIRST_PAGES: &str = r"> the cat chased a snake
+const FIRST_OUT: &str = r"> the cat chased a snake
 linkage 1 unused 0 cost 0.000 length 5
 word 0 the the - D 0.000
 word 1 cat cat D S 0.000
@@ -45,13 +45,13 @@ fn attachment_of_phrases(rt: HostRuntime) -> Result<(), Fail> {
     shows_all(
         &rt,
         rt.alloc(),
-        ATTACHMENT,
-        ATTACHMENT_SENTENCES,
-        ATTACHMENT_PAGES,
+        ATTACHMENT_DICT,
+        ATTACHMENT_TXT,
+        ATTACHMENT_OUT,
     )
 }
 
-const ATTACHMENT: &str =
+const ATTACHMENT_DICT: &str =
     r"% Where a prepositional phrase belongs: to the noun before it, or to the verb.
 %
 % An entry is a list of words, a colon, a formula and a semicolon. A percent sign starts a comment.
@@ -82,14 +82,14 @@ saw: S- & O+ & {@MV+};
 in with: J+ & (M- or MV-);
 ";
 
-const ATTACHMENT_SENTENCES: &str = r"the dog in the park slept
+const ATTACHMENT_TXT: &str = r"the dog in the park slept
 the dog ran in the park
 I saw the man with a telescope
 the man saw a dog in the park
 the man saw in the park
 ";
 
-const ATTACHMENT_PAGES: &str = r"> the dog in the park slept
+const ATTACHMENT_OUT: &str = r"> the dog in the park slept
 linkage 1 unused 0 cost 0.000 length 9
 word 0 the the - D 0.000
 word 1 dog dog D @M,S 0.000
@@ -198,10 +198,10 @@ page shown 1 examined 1 next 2 end
 
 #[test]
 fn walls_and_unknown_words(rt: HostRuntime) -> Result<(), Fail> {
-    shows_all(&rt, rt.alloc(), WALLS, WALLS_SENTENCES, WALLS_PAGES)
+    shows_all(&rt, rt.alloc(), WALLS_DICT, WALLS_TXT, WALLS_OUT)
 }
 
-const WALLS: &str =
+const WALLS_DICT: &str =
     r#"% A whole sentence: its walls, its signs, and words that are not in the dictionary.
 
 % Walls. They stand before the first word and after the last one, and only where the dictionary has them.
@@ -239,13 +239,13 @@ UNKNOWN-WORD.n: <noun>;
 UNKNOWN-WORD.v: S- & {O+};
 "#;
 
-const WALLS_SENTENCES: &str = r"The big cat ran.
+const WALLS_TXT: &str = r"The big cat ran.
 3 dogs chased Rex!
 Mary's well-fed cat ran.
 A snark galumphed
 ";
 
-const WALLS_PAGES: &str = r"> The big cat ran.
+const WALLS_OUT: &str = r"> The big cat ran.
 linkage 1 unused 0 cost 0.000 length 18
 word 0 LEFT-WALL LEFT-WALL - Wd,Xp,RW 0.000
 word 1 The the - D 0.000
@@ -311,10 +311,10 @@ page shown 1 examined 1 next 2 end
 
 #[test]
 fn rare_readings_come_last(rt: HostRuntime) -> Result<(), Fail> {
-    shows_all(&rt, rt.alloc(), COSTS, COSTS_SENTENCES, COSTS_PAGES)
+    shows_all(&rt, rt.alloc(), COSTS_DICT, COSTS_TXT, COSTS_OUT)
 }
 
-const COSTS: &str = r"% Rare readings last: square brackets put a cost on a part of a formula.
+const COSTS_DICT: &str = r"% Rare readings last: square brackets put a cost on a part of a formula.
 %
 % The linkages of a sentence are listed by their cost, which is the sum of the costs of what its words use.
 % [A+] adds 1 to the cost, [[A+]] adds 2, and [A+]0.5 adds the number that is written.
@@ -341,22 +341,11 @@ like.p: J+ & MV-;
 like.v: S- & O+;
 ";
 
-const COSTS_SENTENCES: &str = r"time flies
-time flies like arrows
+const COSTS_TXT: &str = r"time flies like arrows
 fruit flies like bananas
 ";
 
-const COSTS_PAGES: &str = r"> time flies
-linkage 1 unused 0 cost 0.000 length 1
-word 0 time time.n - S 0.000
-word 1 flies flies.v S - 0.000
-link 0 1 S 0 0
-linkage 2 unused 0 cost 2.000 length 1
-word 0 time time.v - O 2.000
-word 1 flies flies.n O - 0.000
-link 0 1 O 0 0
-page shown 2 examined 2 next 3 end
-> time flies like arrows
+const COSTS_OUT: &str = r"> time flies like arrows
 linkage 1 unused 0 cost 0.000 length 3
 word 0 time time.n - S 0.000
 word 1 flies flies.v S MV 0.000
