@@ -86,7 +86,6 @@ fn fault_of(alloc: Global, text: &[u8]) -> Option<KnowError> {
 fn the_first_fault_is_told(rt: HostRuntime) {
     let table = [
         (b"".as_slice(), None),
-        (b"start: e C", Some(KnowError::Syntax(1, 11))),
         (b"\xEF\xBB\xBFignore C;", Some(KnowError::Syntax(1, 8))),
         (b"end: C;", Some(KnowError::UnknownSection(1))),
         (b"cycle: R;\n;", Some(KnowError::UnknownSection(2))),
@@ -106,5 +105,18 @@ fn the_first_fault_is_told(rt: HostRuntime) {
     ];
     for (text, want) in table {
         assert_eq!(rt; fault_of(rt.alloc(), text), want);
+    }
+}
+
+#[test]
+fn knowledge_readers_faults(rt: HostRuntime) {
+    let table = [
+        (b"start: e C".as_slice(), KnowError::Syntax(1, 11)),
+        (b"some: A;", KnowError::UnknownSection(1)),
+        (b"none: a { B };", KnowError::BadPattern(1)),
+        (b"bounded: E;", KnowError::BadType(1)),
+    ];
+    for (text, want) in table {
+        assert_eq!(rt; fault_of(rt.alloc(), text), Some(want));
     }
 }

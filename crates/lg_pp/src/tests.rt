@@ -151,7 +151,7 @@ fn broken(
 }
 
 #[test]
-fn the_big_cat_ran(rt: HostRuntime) -> Result<(), Fail> {
+fn domains_and_groups_of_a_walled_sentence(rt: HostRuntime) -> Result<(), Fail> {
     let alloc = rt.alloc();
     let words = ["Wd+ Xp+", "D+", "A+", "@A- D- Wd- S+", "S-", "Xp-"];
     let links = [

@@ -1,5 +1,6 @@
 //! What no clause says: that runs come to an end that is not want of memory, and pages and lines that are known from
 //! elsewhere.
+mod post_processing;
 mod refusals;
 mod rows;
 mod samples;
