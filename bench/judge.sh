@@ -1,5 +1,5 @@
 #!/usr/bin/env bash
-# Times post-processing: a good linkage of 122 words and 239 links, judged by more and more rules, all of which hold; then
+# Times post-processing: a good linkage of 122 words and 237 links, judged by more and more rules, all of which hold; then
 # linkages of more and more links, judged by 1,000 rules. Domains are found once a linkage, so a rule takes links times
 # patterns.
 cd -P -- "$(dirname -- "$(readlink -f -- "$0")")" || exit 70

@@ -15,26 +15,27 @@ pub(crate) fn cut(alloc: Global, kind: &str, bytes: u32) -> Result<String> {
     let sentence = sentence(alloc, kind, bytes as usize)?;
     let dict = dict_of(alloc, DICTIONARY)?;
     let tokens = tokens(alloc, &View::of(alloc, &dict), sentence.as_str())?;
-    Ok(format!(in alloc; "tokens: bytes {} tokens {}", sentence.len(), tokens.items().len())?)
+    Ok(format!(in alloc;
+        "tokens: bytes {} tokens {}",
+        sentence.len(),
+        tokens.items().len()
+    )?)
 }
 
 fn sentence(alloc: Global, kind: &str, bytes: usize) -> Result<String>
     ensures { IfOk result (λ text. length (string_bytes text) < 2 ^ 32) }
 {
-    let text = match kind {
-        "words" => "the cat ran ".repeat(alloc, bytes / 12)?,
-        "signs" => ")".repeat(alloc, bytes)?,
-        "capitals" => halves(alloc, bytes / 2)?,
+    let (front, back) = match kind {
+        "words" => ("the cat ran ", ""),
+        "signs" => (")", ""),
+        "capitals" => ("A", ")"),
         _ => bail!("words, signs or capitals"),
     };
+    let count = bytes / (front.len() + back.len()).max(1);
+    let mut text = front.repeat(alloc, count)?;
+    text.push_str(back.repeat(alloc, count)?.as_str())?;
     if text.len() > u32::MAX as usize {
         bail!("too long");
     }
-    Ok(text)
-}
-
-fn halves(alloc: Global, bytes: usize) -> Result<String> {
-    let mut text = "A".repeat(alloc, bytes)?;
-    text.push_str(")".repeat(alloc, bytes)?.as_str())?;
     Ok(text)
 }

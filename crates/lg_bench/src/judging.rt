@@ -19,7 +19,8 @@ use std::alloc::Global;
 const POWERS: u32 = 7;
 
 // Domains of four kinds, of which that of kind r begins at the first word, so that nothing stands before its root.
-const STARTS: &str = "start: r Aa Ba Ca Da Ea Fa Ga; start: s B; start: t C; start: u D; ignore: G;";
+const STARTS: &str =
+    "start: r Aa Ba Ca Da Ea Fa Ga; start: s B; start: t C; start: u D; ignore: G;";
 
 // Rules of each form, all of which hold.
 const RULES: [&str; 6] = [
@@ -40,7 +41,10 @@ pub(crate) fn judged(alloc: Global, rules: u32, links: u32) -> Result<String> {
     let links = g.links().len();
     Ok(match judge(alloc, &know, &g)? {
         None => format!(in alloc; "judge: words {words} links {links} rules {rules} all hold")?,
-        Some(broken) => format!(in alloc; "judge: rule {} breaks at {} {}", broken.rule, broken.left, broken.right)?,
+        Some(broken) => format!(in alloc;
+            "judge: rule {} breaks at {} {}",
+            broken.rule, broken.left, broken.right
+        )?,
     })
 }
 
@@ -61,48 +65,47 @@ fn knowledge(alloc: Global, rules: u32) -> Result<Knowledge>
 fn linkage(alloc: Global, words: u32) -> Result<Linkage>
     ensures { IfOk result IsGood }
 {
-    let problem = problem(alloc, words)?;
-    let linkage = Linkage::of(chosen(alloc, words)?, links(alloc, words)?).context("no linkage")?;
-    if belongs(&problem, &linkage) {
-        match check(&problem, &linkage) {
-            Verdict::Good => Ok(linkage),
-            _ => bail!("no good linkage"),
-        }
-    } else {
-        bail!("a linkage of no problem")
+    let (problem, linkage) = made(alloc, words)?;
+    if belongs(&problem, &linkage) && matches!(check(&problem, &linkage), Verdict::Good) {
+        return Ok(linkage);
     }
+    bail!("no good linkage")
 }
 
-fn problem(alloc: Global, words: u32) -> Result<Problem> {
+// A problem of one disjunct a word, and its linkage.
+fn made(alloc: Global, words: u32) -> Result<(Problem, Linkage)> {
     let mut positions = Vec::new(alloc);
-    for at in 0..words {
-        let mut disjuncts = Vec::new(alloc);
-        disjuncts.push(disjunct(alloc, words, at)?)?;
-        positions.push(Disjuncts::of(disjuncts))?;
-    }
-    Problem::of(Positions::of(positions)).context("no problem")
-}
-
-fn chosen(alloc: Global, words: u32) -> Result<Chosen> {
     let mut chosen = Vec::new(alloc);
+    let mut links = Vec::new(alloc);
     for at in 0..words {
-        chosen.push(Some(disjunct(alloc, words, at)?))?;
+        let disjunct = add_word(alloc, words, at, &mut links)?;
+        positions.push(Disjuncts::of(vec![in alloc; disjunct.clone()?]?))?;
+        chosen.push(Some(disjunct))?;
     }
-    Ok(Chosen::of(chosen))
+    let problem = Problem::of(Positions::of(positions)).context("no problem")?;
+    let linkage = Linkage::of(Chosen::of(chosen), Links::of(links)).context("no linkage")?;
+    Ok((problem, linkage))
 }
 
-fn disjunct(alloc: Global, words: u32, at: u32) -> Result<Disjunct>
+// The disjunct of a word; adds the links from it to the right.
+fn add_word(alloc: Global, words: u32, at: u32, links: &mut Vec<Link>) -> Result<Disjunct>
     requires { at < words }
 {
     let mut left = Vec::new(alloc);
     let mut right = Vec::new(alloc);
     for power in 0..POWERS.min(at.trailing_zeros() + 1) {
         let span = 1 << power;
-        if span < words - at {
-            right.push(connector(power, at, true)?)?;
-        }
         if span <= at {
             left.push(connector(power, at, false)?)?;
+        }
+        if span < words - at {
+            right.push(connector(power, at, true)?)?;
+            links.push(Link {
+                left: at,
+                lplace: power,
+                right: at + span,
+                rplace: power,
+            })?;
         }
     }
     Ok(Disjunct {
@@ -120,30 +123,4 @@ fn connector(power: u32, at: u32, right: bool) -> Result<Connector>
     let caps = [b'A' + power as u8];
     let subs: &[u8] = if at == 0 { b"a" } else { b"" };
     Connector::of(&caps, subs, false, right).context("no connector")
-}
-
-fn links(alloc: Global, words: u32) -> Result<Links> {
-    let mut links = Vec::new(alloc);
-    for at in 0..words {
-        add_links(words, at, &mut links)?;
-    }
-    Ok(Links::of(links))
-}
-
-// Adds the links from a word to the right.
-fn add_links(words: u32, at: u32, links: &mut Vec<Link>) -> Result<()>
-    requires { at < words }
-{
-    for power in 0..POWERS.min(at.trailing_zeros() + 1) {
-        let span = 1 << power;
-        if span < words - at {
-            links.push(Link {
-                left: at,
-                lplace: power,
-                right: at + span,
-                rplace: power,
-            })?;
-        }
-    }
-    Ok(())
 }

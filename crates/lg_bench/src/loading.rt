@@ -1,33 +1,23 @@
 //! A made dictionary: read, loaded, and asked for each of its words.
-ghost use Rattle.std.specs.Prelude.{◌≡◌, IfOk};
-ghost use Rattle.lg_gram.specs.Entries.{AreEntries};
-
 use anyhow::Result;
 use lg_base::MemFiles;
 use lg_dict::{Dict, View};
 use lg_dictread::read_dict;
-use lg_gram::Entry;
 use std::alloc::Global;
 
-/// How many bytes, entries and words are there, where entry number n is of word `wn` alone, in one of four shapes.
+/// How many bytes the text has in which entry number n is of the word `wn`, in one of four shapes, and how many of its
+/// words are found.
 pub(crate) fn loaded(alloc: Global, words: u32) -> Result<String> {
     let text = text(alloc, words)?;
-    let entries = entries_of(alloc, text.as_str())?;
-    let count = entries.len();
-    let dict = Dict::of(alloc, entries)?;
+    let dict = dict_of(alloc, text.as_str())?;
     let found = found(alloc, &View::of(alloc, &dict), words)?;
-    Ok(format!(in alloc; "dictionary: bytes {} entries {count} found {found}", text.len())?)
+    Ok(format!(in alloc; "dictionary: bytes {} words {found}", text.len())?)
 }
 
 /// The dictionary of a text without word files.
 pub(crate) fn dict_of(alloc: Global, text: &str) -> Result<Dict> {
-    Ok(Dict::of(alloc, entries_of(alloc, text)?)?)
-}
-
-fn entries_of(alloc: Global, text: &str) -> Result<Vec<Entry>>
-    ensures { IfOk result (λ entries. AreEntries entries.items) }
-{
-    Ok(read_dict(alloc, text.as_bytes(), &mut MemFiles::new(alloc))?)
+    let entries = read_dict(alloc, text.as_bytes(), &mut MemFiles::new(alloc))?;
+    Ok(Dict::of(alloc, entries)?)
 }
 
 fn text(alloc: Global, words: u32) -> Result<String> {

@@ -52,6 +52,5 @@ fn main(rt: HostRuntime) -> Result<()> {
     let _program = words.next();
     let words: Vec<String> = words.collect(rt.alloc())?;
     let line = answer(rt.alloc(), &words)?;
-    println!(rt; "{line}")?;
-    Ok(())
+    Ok(println!(rt; "{line}")?)
 }
