@@ -80,11 +80,7 @@ fn read_dictionary<'a, F: Files>(
 }
 
 /// The bytes of the file with this name.
-fn read_file<'a, F: Files>(
-    alloc: Global,
-    files: &mut F,
-    name: &'a str,
-) -> Result<Vec<u8>, Stop<'a>>
+fn read_file<'a, F: Files>(alloc: Global, files: &mut F, name: &'a str) -> Result<Vec<u8>, Stop<'a>>
     ensures unchanged { F.contents files.new ≡ F.contents files.old }
     ensures names { IfSome (F.contents files.old) (λ known. AsksInOrder (FileIs known name.now) (F.asked files.old) (F.asked files.new)) }
     ensures told { IfSome (F.contents files.old) (λ known. Tells (λ bytes. bytes.items) (FileIs known name.now) (F.asked files.old) (F.asked files.new) result) }

@@ -17,11 +17,7 @@ pub enum Piece<'a> {
 }
 
 /// The line of an error of the dictionary with this name. A word file's own faults have the word file's name.
-pub(crate) fn dict_line(
-    alloc: Global,
-    name: &[u8],
-    error: &DictError,
-) -> Result<Vec<u8>, NoMemory>
+pub(crate) fn dict_line(alloc: Global, name: &[u8], error: &DictError) -> Result<Vec<u8>, NoMemory>
     ensures { IfOk result (λ line. line.items ≡ dict_line name.now error.now) }
 {
     match error {
@@ -54,18 +50,18 @@ fn word_file_line(alloc: Global, name: &[u8], cause: WordFileError) -> Result<Ve
     match cause {
         WordFileError::Failed => about(alloc, b"lgparse: cannot read ", name, b"\n"),
         WordFileError::TooLong => {
-            about(alloc, b"lgparse: ", name, b" is longer than 67108864 bytes\n")
+            about(
+                alloc,
+                b"lgparse: ",
+                name,
+                b" is longer than 67108864 bytes\n",
+            )
         }
         WordFileError::NotUtf8(byte) => byte_line(alloc, name, byte),
     }
 }
 
-fn about(
-    alloc: Global,
-    front: &[u8],
-    name: &[u8],
-    back: &[u8],
-) -> Result<Vec<u8>, NoMemory>
+fn about(alloc: Global, front: &[u8], name: &[u8], back: &[u8]) -> Result<Vec<u8>, NoMemory>
     ensures { IfOk result (λ line. line.items ≡ line_about front.now name.now back.now) }
 {
     let mut line = Vec::new(alloc);
@@ -78,7 +74,15 @@ fn about(
 fn byte_line(alloc: Global, name: &[u8], byte: u64) -> Result<Vec<u8>, NoMemory>
     ensures { IfOk result (λ line. line.items ≡ refusal_line name.now (not_utf8 byte)) }
 {
-    refusal(alloc, name, &[Piece::Text(b"byte "), Piece::Number(byte), Piece::Text(b" is not UTF-8")])
+    refusal(
+        alloc,
+        name,
+        &[
+            Piece::Text(b"byte "),
+            Piece::Number(byte),
+            Piece::Text(b" is not UTF-8"),
+        ],
+    )
 }
 
 fn syntax_line(alloc: Global, name: &[u8], line: u32, column: u32) -> Result<Vec<u8>, NoMemory>

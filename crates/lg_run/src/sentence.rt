@@ -19,11 +19,7 @@ const EXAMINE: u64 = 1000;
 
 /// What is written of the sentence: the first page of its candidates, or the line that says that it has too many words
 /// or too many choices.
-pub(crate) fn document(
-    alloc: Global,
-    dict: &Dict,
-    sentence: &str,
-) -> Result<Vec<u8>, NoMemory>
+pub(crate) fn document(alloc: Global, dict: &Dict, sentence: &str) -> Result<Vec<u8>, NoMemory>
     requires { length sentence.now < 2 ^ 32 }
     ensures { IfOk result (λ text. DocumentIs dict.now sentence.now text.items) }
 {

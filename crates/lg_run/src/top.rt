@@ -67,12 +67,7 @@ pub fn run<R: Threads + Sync, F: Files, O: Sink, E: Sink>(
 }
 
 // Writes the document of a command that has its inputs in hand.
-fn finish<O: Sink, E: Sink>(
-    alloc: Global,
-    inputs: &Inputs<'_>,
-    out: &mut O,
-    err: &mut E,
-) -> Status
+fn finish<O: Sink, E: Sink>(alloc: Global, inputs: &Inputs<'_>, out: &mut O, err: &mut E) -> Status
     requires short { IsShortGiven (given_in inputs.now) }
     ensures told { Finishes (given_in inputs.now) result (O.written out.old) (O.written out.new) }
     ensures caused { result ≡ Status.WriteFault → Rose (O.faults out.old) (O.faults out.new) }

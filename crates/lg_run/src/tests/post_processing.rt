@@ -2,10 +2,10 @@
 ghost use Rattle.std.specs.Prelude.{◌<◌, ◌^◌, length};
 
 use lg_answer::Listing;
-use lg_base::MemFiles;
+use lg_base::{MemFiles, NoMemory};
 use lg_dict::{Dict, View};
 use lg_dictread::read_dict;
-use lg_knowread::read_knowledge;
+use lg_knowread::{Knowledge, read_knowledge};
 use lg_text::page_text;
 use std::alloc::Global;
 use std::process::Abort;
@@ -31,8 +31,15 @@ fn page_of(alloc: Global, dictionary: &str, knowledge: &str) -> Result<Vec<u8>, 
     let dict = dict_of(alloc, dictionary)?;
     let know = read_knowledge(alloc, knowledge.as_bytes())?;
     let listing = Listing::start(alloc, &View::of(alloc, &dict), "x y z")?;
-    let (listing, page) = listing.page(alloc, &know, 10, 1000)?;
-    Ok(page_text(alloc, listing.tokens(), &page)?)
+    Ok(text_of(alloc, listing, &know)?)
+}
+
+// The text of the next page.
+fn text_of(alloc: Global, listing: Listing, know: &Knowledge) -> Result<Vec<u8>, NoMemory>
+    requires { length know.now.rules < 2 ^ 32 }
+{
+    let (listing, page) = listing.page(alloc, know, 10, 1000)?;
+    page_text(alloc, listing.tokens(), &page)
 }
 
 // Wants this text of that page.
@@ -86,7 +93,13 @@ fn none_over_the_whole_linkage(rt: HostRuntime) -> Result<(), Fail> {
 
 #[test]
 fn bounded_domain_reaches_left_of_its_root(rt: HostRuntime) -> Result<(), Fail> {
-    expect(&rt, rt.alloc(), FORK, "start: e C; bounded: e;", BROKEN_AT_C)
+    expect(
+        &rt,
+        rt.alloc(),
+        FORK,
+        "start: e C; bounded: e;",
+        BROKEN_AT_C,
+    )
 }
 
 #[test]
