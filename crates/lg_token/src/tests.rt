@@ -2,6 +2,8 @@
 ghost use Rattle.std.specs.Prelude.{◌≢◌, [], ◌∷◌, All, AllPairs, IfOk, IsTrue};
 ghost use Rattle.lg_dict.specs.Dictionary.{AreEntries};
 
+mod chunks;
+
 use crate::{tokens, tokens_are_one_list};
 use lg_base::{Text, Texts, write_bytes, write_number};
 use lg_dict::{Dict, View};
