@@ -21,6 +21,16 @@ fn run_without_a_script(rt: HostRuntime) -> Result<(), Fail> {
 }
 
 #[test]
+fn sixty_five_scripts(rt: HostRuntime) -> Result<(), Fail> {
+    let files = dictionary_of(rt.alloc(), b"x: A+;")?;
+    let mut words = words_of(rt.alloc(), "run|d|k")?;
+    for _ in 0..65 {
+        words.push(String::from_str(rt.alloc(), "s1")?)?;
+    }
+    expect(&rt, rt.alloc(), files, &words, Status::Usage, "", USAGE)
+}
+
+#[test]
 fn want_of_zero(rt: HostRuntime) -> Result<(), Fail> {
     formless(&rt, rt.alloc(), "one|--want|0|d|x")
 }
