@@ -14,8 +14,13 @@ use Rattle.lg_knowread.specs.declared.knowledge.Knowledge.{Knowledge}
 use Rattle.lg_pp.specs.Labels.{IsGood}
 use Rattle.lg_pp.specs.Breaks.{Judges}
 use Rattle.lg_answer.specs.Problems.{IsProblemOf, bound_of}
+use Rattle.lg_answer.specs.declared.options.Options.{Options}
 use Rattle.lg_answer.specs.declared.refusal.AnswerRefusal.{AnswerRefusal}
 use Rattle.lg_answer.specs.declared.refusal.AnswerRefusal.TheVariants.{NoMemory, Beyond}
+
+-- ten candidates are shown, and a thousand looked at, where nothing else is asked
+abbrev pub default_options : Options
+default_options = record { want = 10; examine = 1000 }
 
 -- how many of the candidates that were looked at pass
 abbrev pub passed : List PageItem → ℕ

@@ -3,6 +3,7 @@
 
 mod bound;
 mod listing;
+mod options;
 mod page;
 mod problem;
 mod refusal;
@@ -10,4 +11,5 @@ mod refusal;
 mod tests;
 
 pub use listing::Listing;
+pub use options::Options;
 pub use refusal::AnswerRefusal;

@@ -4,7 +4,7 @@ ghost use Rattle.lg_gram.specs.Trees.{tree_of};
 ghost use Rattle.lg_gram.specs.Formulas.{LevelFits};
 ghost use Rattle.lg_dict.specs.Dictionary.{AreEntries};
 
-use crate::{AnswerRefusal, Listing};
+use crate::{AnswerRefusal, Listing, Options};
 use lg_base::{Text, Texts};
 use lg_dict::{Dict, View};
 use lg_gram::{Bound, Connector, Entry, Expr, Exprs, Formula, Page, PageItem, Violation};
@@ -138,6 +138,39 @@ fn pages_of_one(rt: HostRuntime) -> Result<(), Fail> {
     Ok(())
 }
 
+// Two connectors that share three words.
+fn sharing(alloc: Global) -> Result<Vec<Entry>, Fail>
+    ensures { IfOk result (λ entries. AreEntries entries.items) }
+{
+    let mut members = Vec::new(alloc);
+    for _ in 0..2 {
+        members.push(Expr::Conn(Connector::of(b"A", b"", true, true).ok_or("a name")?))?;
+    }
+    let mut entries = Vec::new(alloc);
+    entries.push(entry(alloc, b"w", Expr::And(Exprs::of(members)))?)?;
+    entries.push(entry(alloc, b"z", any_of(alloc, b"A", false)?)?)?;
+    Ok(entries)
+}
+
+#[test]
+fn pages_of_one_and_a_long_skip(rt: HostRuntime) -> Result<(), Fail> {
+    let alloc = rt.alloc();
+    let dict = Dict::of(alloc, sharing(alloc)?)?;
+    let view = View::of(alloc, &dict);
+    let know = knowledge(alloc, false)?;
+    let listing = Listing::start(alloc, &view, "w z z z")?;
+    let (listing, first) = listing.page(alloc, &know, 1, 1000)?;
+    expect_count(&rt, &first, 1, 2, false);
+    let (listing, second) = listing.page(alloc, &know, 1, 1000)?;
+    expect_count(&rt, &second, 1, 3, false);
+    let (_, third) = listing.page(alloc, &know, 1, 1000)?;
+    expect_count(&rt, &third, 0, 3, true);
+    let listing = Listing::start(alloc, &view, "w z z z")?;
+    let (_, last) = listing.skip(5).page(alloc, &know, 1, 1000)?;
+    expect_count(&rt, &last, 0, 3, true);
+    Ok(())
+}
+
 #[test]
 fn skips(rt: HostRuntime) -> Result<(), Fail> {
     let alloc = rt.alloc();
@@ -148,7 +181,8 @@ fn skips(rt: HostRuntime) -> Result<(), Fail> {
     assert!(rt; listing.stats().disjuncts == 6 && listing.stats().kept == 6);
     let (listing, page) = listing.skip(1).page(alloc, &know, 10, 1)?;
     expect_one(&rt, &page, 2, b"run.v");
-    let (_, last) = listing.skip(u64::MAX).page(alloc, &know, 10, 10)?;
+    let Options { want, examine } = Options::default();
+    let (_, last) = listing.skip(u64::MAX).page(alloc, &know, want, examine)?;
     expect_count(&rt, &last, 0, 4, true);
     Ok(())
 }

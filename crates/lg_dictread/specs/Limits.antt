@@ -1,6 +1,6 @@
 -- The limits of dictionary texts.
 use Rattle.std.specs.Prelude.{ℕ}
 
--- the bytes of a word file
+-- the most bytes of a dictionary and of a word file
 abbrev pub FILE : ℕ
 FILE = 67108864

@@ -25,3 +25,4 @@ pub use dict_error::{DictError, WordFileError};
 pub use dict_text::read_dict;
 pub use entry_text::{EntryError, read_entry};
 pub use law::{exactly_one_dictionary, exactly_one_entry, exactly_one_entry_text};
+pub use limits::FILE;

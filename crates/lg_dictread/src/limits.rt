@@ -12,5 +12,5 @@ pub(crate) const CHOICES: u64 = 1_000_000;
 /// The connectors on a side of an entry's expression, macros put in.
 pub(crate) const SIDE: u32 = 255;
 
-/// The bytes of a word file.
-pub(crate) const FILE: u64 = 67_108_864;
+/// The most bytes of a dictionary and of a word file.
+pub const FILE: u64 = 67_108_864;

@@ -10,11 +10,8 @@ use crate::command::Command;
 use crate::stop::Stop;
 use lg_base::{FileError, Files, NoMemory};
 use lg_dict::Dict;
-use lg_dictread::{exactly_one_dictionary, read_dict};
+use lg_dictread::{FILE, exactly_one_dictionary, read_dict};
 use std::alloc::Global;
-
-// The most bytes of a file.
-const FILE: u64 = 67_108_864;
 
 /// The inputs of a command.
 #[derive(Drop)]

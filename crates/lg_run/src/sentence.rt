@@ -1,21 +1,16 @@
 //! A sentence, and what is written of it.
 ghost use Rattle.std.specs.Prelude.{◌≡◌, ◌<◌, ◌^◌, IfOk, length};
 ghost use Rattle.lg_gram.specs.declared.listing.Page.{Page};
-ghost use Rattle.lg_answer.specs.Pages.{IsPage};
+ghost use Rattle.lg_answer.specs.Pages.{IsPage, default_options};
 ghost use Rattle.lg_text.specs.Texts.{page_text};
-ghost use Rattle.lg_run.specs.Documents.{DocumentIs, WANT, EXAMINE, no_knowledge};
+ghost use Rattle.lg_run.specs.Documents.{DocumentIs, no_knowledge};
 
-use lg_answer::{AnswerRefusal, Listing};
+use lg_answer::{AnswerRefusal, Listing, Options};
 use lg_base::NoMemory;
 use lg_dict::{Dict, View};
 use lg_knowread::{Knowledge, Patterns, Rules, Starts};
 use lg_text::{bound_text, page_text};
 use std::alloc::Global;
-
-// How many candidates are shown, and how many are looked at.
-const WANT: u64 = 10;
-
-const EXAMINE: u64 = 1000;
 
 /// What is written of the sentence: the first page of its candidates, or the line that says that it has too many words
 /// or too many choices.
@@ -31,9 +26,10 @@ pub(crate) fn document(alloc: Global, dict: &Dict, sentence: &str) -> Result<Vec
 }
 
 fn first_page(alloc: Global, listing: Listing) -> Result<Vec<u8>, NoMemory>
-    ensures { IfOk result (λ text. (page : Page) × IsPage no_knowledge listing.candidates listing.position WANT EXAMINE page × (text.items ≡ page_text listing.tokens page)) }
+    ensures { IfOk result (λ text. (page : Page) × IsPage no_knowledge listing.candidates listing.position default_options.want default_options.examine page × (text.items ≡ page_text listing.tokens page)) }
 {
-    let (listing, page) = listing.page(alloc, &no_knowledge(alloc), WANT, EXAMINE)?;
+    let Options { want, examine } = Options::default();
+    let (listing, page) = listing.page(alloc, &no_knowledge(alloc), want, examine)?;
     page_text(alloc, listing.tokens(), &page)
 }
 

@@ -2,9 +2,9 @@ use Rattle.std.proofs.Common.{◌≡◌, ℕ, List, subst}
 use Rattle.lg_gram.specs.declared.listing.Page.{Page}
 use Rattle.lg_dict.specs.Dictionary.{Dictionary}
 use Rattle.lg_answer.specs.declared.refusal.AnswerRefusal.TheVariants.{Beyond}
-use Rattle.lg_answer.specs.Pages.{IsPage, IsListing, IsBeyond, IsRefused}
+use Rattle.lg_answer.specs.Pages.{default_options, IsPage, IsListing, IsBeyond, IsRefused}
 use Rattle.lg_text.specs.Texts.{page_text, bound_line}
-use Rattle.lg_run.specs.Documents.{DocumentIs, listed, beyond, WANT, EXAMINE, no_knowledge}
+use Rattle.lg_run.specs.Documents.{DocumentIs, listed, beyond, no_knowledge}
 use Rattle.lg_run.proofs.Answered.{of_each}
 use Rattle.lg_run.proofs.sentence.document.Goals as goal
 
@@ -13,8 +13,8 @@ pub returns-in-Ok : goal.returns-in-Ok
 returns-in-Ok c =
     let l = c.in-Ok.listing in
     let start : l.position ≡ 0 = c.in-Ok.ensures.first in
-    of_each c.first_page.result (λ text. (page : Page) × IsPage no_knowledge l.candidates l.position WANT EXAMINE page × (text.items ≡ page_text l.tokens page)) (λ text. DocumentIs c.args.dict.now c.args.sentence.now text.items)
-    (λ text h. listed l h.0 (subst (λ (d : Dictionary). IsListing d c.args.sentence.now l) c.of.ensures c.in-Ok.ensures.listing) (subst (λ (n : ℕ). IsPage no_knowledge l.candidates n WANT EXAMINE h.0) start h.1) h.2)
+    of_each c.first_page.result (λ text. (page : Page) × IsPage no_knowledge l.candidates l.position default_options.want default_options.examine page × (text.items ≡ page_text l.tokens page)) (λ text. DocumentIs c.args.dict.now c.args.sentence.now text.items)
+    (λ text h. listed l h.0 (subst (λ (d : Dictionary). IsListing d c.args.sentence.now l) c.of.ensures c.in-Ok.ensures.listing) (subst (λ (n : ℕ). IsPage no_knowledge l.candidates n default_options.want default_options.examine h.0) start h.1) h.2)
     c.first_page.ensures
 
 -- the line of the bound
