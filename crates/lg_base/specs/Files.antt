@@ -18,6 +18,14 @@ asked_after asked name (Err NoMemory) = asked
 asked_after asked name (Err Failed) = asked ++ name ∷ []
 asked_after asked name (Err TooLong) = asked ++ name ∷ []
 
+-- a front part of these names was asked
+abbrev pub AsksWithin : List (List ℕ) → List (List ℕ) → List (List ℕ) → Type 0
+AsksWithin old new names = (front : List (List ℕ)) × (rest : List (List ℕ)) × (names ≡ front ++ rest) × (new ≡ old ++ front)
+
+-- this name was asked last
+abbrev pub EndsWith : List (List ℕ) → List ℕ → Type 0
+EndsWith asked name = (earlier : List (List ℕ)) × (asked ≡ earlier ++ name ∷ [])
+
 -- the answer fits what the files have for the name: its bytes where these are at most `limit`, TooLong where they are more
 abbrev pub Reads : {A : Type 0} → Option (List ℕ) → ℕ → Result (Vec ℕ A) FileError → Type 0
 Reads found limit (Ok bytes) = (found ≡ Some bytes.items) × (length bytes.items ≤ limit)

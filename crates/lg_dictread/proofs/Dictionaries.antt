@@ -5,9 +5,8 @@ use Rattle.lg_base.specs.Contents.{Contents}
 use Rattle.lg_lex.specs.declared.marks.Marks.TheVariants.{Dictionary}
 use Rattle.lg_lex.specs.Lexing.{between, lex}
 use Rattle.lg_lex.specs.Marked.{without_mark}
-use Rattle.lg_lex.specs.Tokens.{AreTokens}
+use Rattle.lg_lex.specs.Tokens.{AreTokens, Token}
 use Rattle.lg_dictread.specs.declared.dict_error.DictError.TheVariants.{NotUtf8}
-use Rattle.lg_dictread.specs.Entries.{Token}
 use Rattle.lg_dictread.specs.Texts.{nothing, TextAnswer, refuse, TextIs, DictionaryIs, not_utf8, text}
 use Rattle.lg_dictread.proofs.ItemAnswers.{Laws}
 use Rattle.lg_dictread.proofs.TextAnswers.{EntryLaws, some_text, one_text}

@@ -1,13 +1,14 @@
 -- What is scanned stands at the front of the tokens, or is their first fault, and nothing else is.
 use Rattle.std.proofs.Common.{◌≡◌, ◌≢◌, ℕ, List, [], ◌∷◌, ◌++◌, refl, sym, ap, subst, ◌∙◌, append_assoc}
 use Rattle.std.proofs.lemmas.List.{append-nil}
+use Rattle.lg_lex.specs.Tokens.{Token}
 use Rattle.lg_gram.specs.declared.entry.Item.{Item}
 use Rattle.lg_expr.specs.declared.fault.Fault.{Fault}
 use Rattle.lg_expr.specs.Grammar.{Rules}
 use Rattle.lg_expr.specs.Automaton.{Answer, read, stopped, start, run}
 use Rattle.lg_expr.specs.Reading.{AnswerIs}
 use Rattle.lg_dictread.specs.Items.{Head, item, colon, other}
-use Rattle.lg_dictread.specs.Entries.{Token, head, part, AreItems, HeadStops, EntryFault, in_items, in_expression, EntryAnswer, entry, fault, EntryIs}
+use Rattle.lg_dictread.specs.Entries.{head, part, AreItems, HeadStops, EntryFault, in_items, in_expression, EntryAnswer, entry, fault, EntryIs}
 use Rattle.lg_dictread.specs.Scanning.{Scanned, items_end, items_stop, scan_step, scan, with_expression, with_items, answer_of}
 
 -- ---- what is scanned is so

@@ -5,21 +5,21 @@ use Rattle.lg_lex.specs.declared.marks.Marks.TheVariants.{Dictionary}
 use Rattle.lg_lex.specs.declared.place.Place.{Place}
 use Rattle.lg_lex.specs.Lexing.{between, lex}
 use Rattle.lg_lex.specs.Marked.{without_mark}
-use Rattle.lg_lex.specs.Tokens.{AreTokens}
+use Rattle.lg_lex.specs.Tokens.{AreTokens, Token, IsText}
+use Rattle.lg_lex.specs.Spots.{place_left}
 use Rattle.lg_expr.specs.declared.fault.Fault as expr_fault
 use Rattle.lg_expr.specs.declared.fault.Fault.TheVariants as faults
 use Rattle.lg_expr.specs.declared.macros.Known.TheVariants.{Unknown, Free}
 use Rattle.lg_expr.specs.Reading.{FirstFault}
 use Rattle.lg_dictread.specs.declared.entry_text.EntryError.{EntryError}
 use Rattle.lg_dictread.specs.declared.entry_text.EntryError.TheVariants.{NoMemory, NotUtf8, Syntax, CostForm, TooDeep}
-use Rattle.lg_dictread.specs.Entries.{Token, part, EntryFault, in_items, in_expression, EntryAnswer, entry, fault, EntryIs}
+use Rattle.lg_dictread.specs.Entries.{part, EntryFault, in_items, in_expression, EntryAnswer, entry, fault, EntryIs}
 use Rattle.lg_dictread.specs.Scanning.{answer_of}
 use Rattle.lg_dictread.specs.declared.stop.Stop.{Stop}
 use Rattle.lg_dictread.specs.declared.stop.Stop.TheVariants as stops
 use Rattle.lg_dictread.specs.View.{TellsStop, KnowsMacros, LeadsTo, TellsAlone}
-use Rattle.lg_dictread.specs.Places.{place_left}
 use Rattle.lg_gram.specs.declared.entry.RawEntry.{RawEntry}
-use Rattle.lg_dictread.specs.EntryTexts.{free_rules, IsText, EntryView, entry_view, written_view, IsErrorAt, EntryTextIs, not_utf8, one, goes_on, faulty, TellsEntryText}
+use Rattle.lg_dictread.specs.EntryTexts.{free_rules, EntryView, entry_view, written_view, IsErrorAt, EntryTextIs, not_utf8, one, goes_on, faulty, TellsEntryText}
 
 no_unknown_part : (body rest : List Token) → FirstFault Token part free_rules body faults.UnknownMacro rest → ⊥
 no_unknown_part body [] h = h.stops
@@ -45,7 +45,7 @@ same_error p faults.TooDeep d e h k = h ∙ sym k
 
 -- ---- what an answer of the tokens makes of the text
 
-pub text_is : (bytes : List ℕ) (ts : List Token) (a : EntryAnswer) (x : Result EntryView EntryError) → IsText bytes ts → EntryIs free_rules ts a → LeadsTo (without_mark bytes) a x → EntryTextIs bytes x
+pub text_is : (bytes : List ℕ) (ts : List Token) (a : EntryAnswer) (x : Result EntryView EntryError) → IsText Dictionary bytes ts → EntryIs free_rules ts a → LeadsTo (without_mark bytes) a x → EntryTextIs bytes x
 text_is bytes ts (entry e []) x is h leads = subst (EntryTextIs bytes) (sym leads) (one ts e is h)
 text_is bytes ts (entry e (t ∷ rest)) x is h (d, error, leads) = subst (EntryTextIs bytes) (sym leads) (goes_on ts e t rest d is h error)
 text_is bytes ts (fault f left) x is h (d, error, leads) = subst (EntryTextIs bytes) (sym leads) (faulty ts f left d is h error)
@@ -63,7 +63,7 @@ same_result text (fault f left) x y (d, h, xd) (e, k, ye) = xd ∙ ap Err (same_
 -- the text is at fault before all else, or an answer of its tokens leads to the result
 abbrev Reached : List ℕ → Result EntryView EntryError → Type 0
 Reached bytes x = ((n : ℕ) × IsValidUpTo bytes n × (x ≡ Err (NotUtf8 n)))
-    ⊎ ((ts : List Token) × (a : EntryAnswer) × IsText bytes ts × EntryIs free_rules ts a × LeadsTo (without_mark bytes) a x)
+    ⊎ ((ts : List Token) × (a : EntryAnswer) × IsText Dictionary bytes ts × EntryIs free_rules ts a × LeadsTo (without_mark bytes) a x)
 
 reached : (bytes : List ℕ) (x : Result EntryView EntryError) → EntryTextIs bytes x → Reached bytes x
 reached bytes x (not_utf8 n h) = inl (n, h, refl)
@@ -81,7 +81,7 @@ knows_macros text ts a (stops.CostForm line) is h = tt
 knows_macros text ts a (stops.UnknownMacro line name) is h = no_unknown ts h.0 h.1 (subst (EntryIs free_rules ts) h.2 is) h.3.0
 knows_macros text ts a (stops.TooDeep line) is h = tt
 
-pub told_text : (bytes : List ℕ) (ts : List Token) (a : EntryAnswer) (x : Result RawEntry EntryError) → IsText bytes ts → EntryIs free_rules ts a → TellsAlone (without_mark bytes) a x → TellsEntryText bytes x
+pub told_text : (bytes : List ℕ) (ts : List Token) (a : EntryAnswer) (x : Result RawEntry EntryError) → IsText Dictionary bytes ts → EntryIs free_rules ts a → TellsAlone (without_mark bytes) a x → TellsEntryText bytes x
 told_text bytes ts a (Ok e) is h leads = text_is bytes ts a (Ok (entry_view e)) is h leads
 told_text bytes ts a (Err NoMemory) is h leads = tt
 told_text bytes ts a (Err (NotUtf8 n)) is h leads = text_is bytes ts a (Err (NotUtf8 n)) is h leads

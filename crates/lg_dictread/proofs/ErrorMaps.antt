@@ -64,6 +64,22 @@ module _ (Told More : DictError → Type 0) where
   error_map Missing Ended Stopped ends leads (WordFile line name (causes.NotUtf8 n)) h = leads (WordFile line name (causes.NotUtf8 n)) h
   error_map Missing Ended Stopped ends leads (WordFile line name causes.Failed) h = (ends h.0, λ missing. leads (WordFile line name causes.Failed) (h.1 missing))
 
+  -- what comes of each comes of all
+  pub error_any : (Missing : List ℕ → Type 0) (Ended Any : Type 0) → (Ended → Any) → ((error : DictError) → Told error → Any) → (error : DictError) → OnError Missing Ended Told error → Any
+  error_any Missing Ended Any ends leads NoMemory h = ends h
+  error_any Missing Ended Any ends leads (NotUtf8 n) h = leads (NotUtf8 n) h
+  error_any Missing Ended Any ends leads (Syntax line column) h = leads (Syntax line column) h
+  error_any Missing Ended Any ends leads (UnknownMacro line m) h = leads (UnknownMacro line m) h
+  error_any Missing Ended Any ends leads (CostForm line) h = leads (CostForm line) h
+  error_any Missing Ended Any ends leads (TooDeep line) h = leads (TooDeep line) h
+  error_any Missing Ended Any ends leads (TooManyNodes line n) h = leads (TooManyNodes line n) h
+  error_any Missing Ended Any ends leads (TooManyChoices line n) h = leads (TooManyChoices line n) h
+  error_any Missing Ended Any ends leads (SideTooLong line n) h = leads (SideTooLong line n) h
+  error_any Missing Ended Any ends leads (DuplicateWord w n m) h = leads (DuplicateWord w n m) h
+  error_any Missing Ended Any ends leads (WordFile line name causes.TooLong) h = leads (WordFile line name causes.TooLong) h
+  error_any Missing Ended Any ends leads (WordFile line name (causes.NotUtf8 n)) h = leads (WordFile line name (causes.NotUtf8 n)) h
+  error_any Missing Ended Any ends leads (WordFile line name causes.Failed) h = ends h.0
+
   -- where nothing but memory may end the call
   pub memory_error : (Missing : List ℕ → Type 0) (Stopped : Type 0) → Stopped → ((error : DictError) → Told error → More error) → (error : DictError) → UnlessMemory Told error → OnError Missing Stopped More error
   memory_error Missing Stopped stops leads NoMemory h = stops

@@ -8,10 +8,11 @@ use Rattle.std.specs.Iterator.Adapters.{zip_first, zip_second, zip_steps}
 use Rattle.std.specs.List.{zip}
 use Rattle.std.specs.Slice.Iter.{iter_rest, iter_steps}
 use Rattle.lg_base.specs.Contents.{Contents}
+use Rattle.lg_base.specs.Files.{AsksWithin}
 use Rattle.lg_gram.specs.declared.entry.Item.{Item}
 use Rattle.lg_dictread.specs.declared.dict_error.DictError.{DictError}
 use Rattle.lg_dictread.specs.Definitions.{Lines, AreNew, Defined, none_defined, both, asked_by, ItemsAnswer, define, refuse_items, with_defined, ItemsGive, no_item, defines, twice, unread}
-use Rattle.lg_dictread.specs.Telling.{AsksWithin, Answers, AsksFront, IsMissing, OnError}
+use Rattle.lg_dictread.specs.Telling.{Answers, AsksFront, IsMissing, OnError}
 use Rattle.lg_dictread.specs.Defining.{names_in, AddsNames, Listed, none_listed, AddsDefined, ItemIs, ItemsAre}
 use Rattle.lg_dictread.proofs.ErrorMaps.{if_some, if_some_map, if_some_both, error_map}
 use Rattle.lg_dictread.proofs.ItemAnswers.{Laws, answer_of, items_give, is_items_answer}

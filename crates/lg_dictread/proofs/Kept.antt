@@ -5,11 +5,11 @@ use Rattle.lg_gram.specs.declared.entry.Item.{Item}
 use Rattle.lg_lex.specs.declared.token.Token as code_token
 use Rattle.lg_lex.specs.declared.token.Token.TheVariants as tokens
 use Rattle.lg_lex.specs.Found.{lexeme_of, following}
-use Rattle.lg_dictread.specs.declared.spot.Spot.{Spot}
+use Rattle.lg_lex.specs.declared.spot.Spot.{Spot}
+use Rattle.lg_lex.specs.Tokens.{Token}
+use Rattle.lg_lex.specs.Spots.{IsSpot}
 use Rattle.lg_dictread.specs.Items.{Head, item, colon, other, head_of}
-use Rattle.lg_dictread.specs.Entries.{Token}
 use Rattle.lg_dictread.specs.Scanning.{scan_step, scan}
-use Rattle.lg_dictread.specs.Spots.{IsSpot}
 use Rattle.lg_dictread.specs.Places.{line_of}
 use Rattle.lg_dictread.specs.View.{KeepsItems}
 

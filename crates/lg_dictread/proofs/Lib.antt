@@ -16,3 +16,4 @@ pub mod Formulas
 pub mod NextEntry
 pub mod TextsTold
 pub mod Listing
+pub mod Asked

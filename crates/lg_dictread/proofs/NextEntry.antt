@@ -7,6 +7,7 @@ use Rattle.std.proofs.lemmas.List.Folds.{flat_map-map}
 use Rattle.std.specs.List.{AllByRecursion, zip, flat_map, list_any}
 use Rattle.std.specs.Str.{IsUtf8}
 use Rattle.lg_base.specs.Contents.{Contents}
+use Rattle.lg_base.specs.Files.{AsksWithin}
 use Rattle.lg_gram.specs.Filled.{Formulas, filled, filled_level}
 use Rattle.lg_gram.specs.RawTrees.{RawTree, raw_tree_of}
 use Rattle.lg_gram.specs.Trees.{Tree}
@@ -20,7 +21,8 @@ use Rattle.lg_dictread.specs.declared.entry.One.{One}
 use Rattle.lg_gram.specs.declared.entry.Item.{Item}
 use Rattle.lg_gram.specs.declared.entry.ItemKind.TheVariants as kinds
 use Rattle.lg_lex.specs.declared.place.Place.{Place}
-use Rattle.lg_lex.specs.Tokens.{Lexeme, sign, quoted, plain, broken, HasUtf8}
+use Rattle.lg_lex.specs.Tokens.{Lexeme, sign, quoted, plain, broken, HasUtf8, Token}
+use Rattle.lg_lex.specs.Spots.{place_left}
 use Rattle.lg_expr.specs.declared.fault.Fault as expr_fault
 use Rattle.lg_expr.specs.Grammar.{Rules}
 use Rattle.lg_expr.specs.Classes.{is_macro_name}
@@ -29,10 +31,10 @@ use Rattle.lg_dictread.specs.declared.dict_error.DictError.TheVariants as errors
 use Rattle.lg_dictread.specs.declared.stop.Stop.{Stop}
 use Rattle.lg_dictread.specs.declared.stop.Stop.TheVariants as stops
 use Rattle.lg_dictread.specs.Items.{item, colon, other, is_file_name, plain_item, head_of}
-use Rattle.lg_dictread.specs.Entries.{Token, Written, AreItems, EntryStands, EntryAnswer, fault, EntryIs}
-use Rattle.lg_dictread.specs.Places.{line_of, entry_line, place_left, part_left}
+use Rattle.lg_dictread.specs.Entries.{Written, AreItems, EntryStands, EntryAnswer, fault, EntryIs}
+use Rattle.lg_dictread.specs.Places.{line_of, entry_line, part_left}
 use Rattle.lg_dictread.specs.View.{TellsFault, TellsStop, KeepsItems, Keeps, TellsEntry}
-use Rattle.lg_dictread.specs.Telling.{AsksWithin, Answers, AsksFront, IsMissing, UnlessMemory, OnError}
+use Rattle.lg_dictread.specs.Telling.{Answers, AsksFront, IsMissing, UnlessMemory, OnError}
 use Rattle.lg_dictread.specs.Definitions.{same_text, both, Lines, AreNew, Defined, ItemsAnswer, define, refuse_items, ItemsGive}
 use Rattle.lg_dictread.specs.Defining.{names_in, defined_in, Listed, listed_in, none_listed, AddsDefined, HasUtf8Name, ItemsAre}
 use Rattle.lg_dictread.specs.Texts.{Earlier, rules_after, Meaning, meaning_of, IsSmall, IsLarge, nodes, choices, side, IsErrorOf, EntryOutcome, means, fails, EntryGives, whole, at_fault, large, at_items}

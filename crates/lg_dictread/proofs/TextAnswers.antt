@@ -4,6 +4,8 @@ use Rattle.lg_base.specs.Contents.{Contents}
 use Rattle.lg_gram.specs.declared.entry.Item.{Item}
 use Rattle.lg_gram.specs.Filled.{filled}
 use Rattle.lg_lex.specs.declared.place.Place.{Place}
+use Rattle.lg_lex.specs.Tokens.{Token}
+use Rattle.lg_lex.specs.Spots.{place_left}
 use Rattle.lg_expr.specs.declared.fault.Fault as expr_fault
 use Rattle.lg_expr.specs.declared.fault.Fault.TheVariants as faults
 use Rattle.lg_expr.specs.Grammar.{Rules}
@@ -11,9 +13,9 @@ use Rattle.lg_expr.specs.Parts.{Part, names}
 use Rattle.lg_expr.specs.Reading.{FirstFault}
 use Rattle.lg_dictread.specs.declared.dict_error.DictError.{DictError}
 use Rattle.lg_dictread.specs.declared.dict_error.DictError.TheVariants.{Syntax, UnknownMacro, CostForm, TooDeep}
-use Rattle.lg_dictread.specs.Entries.{Token, part, Written, AreItems, EntryStands, EntryFault, in_items, in_expression, EntryAnswer, entry, fault, EntryIs}
+use Rattle.lg_dictread.specs.Entries.{part, Written, AreItems, EntryStands, EntryFault, in_items, in_expression, EntryAnswer, entry, fault, EntryIs}
 use Rattle.lg_dictread.specs.Scanning as scanning
-use Rattle.lg_dictread.specs.Places.{place_left, part_left, line_of, entry_line}
+use Rattle.lg_dictread.specs.Places.{part_left, line_of, entry_line}
 use Rattle.lg_dictread.specs.Definitions.{Defined, ItemsAnswer, define, refuse_items, ItemsGive}
 use Rattle.lg_dictread.specs.Texts as texts
 use Rattle.lg_dictread.specs.Texts.{Earlier, nothing, rules_after, Meaning, meaning_of, then_entry, IsSmall, IsLarge, IsErrorOf, EntryOutcome, means, fails, EntryGives, whole, at_fault, large, at_items, TextAnswer, stands, refuse, with_meaning, TextIs, ended, DictionaryIs, not_utf8, text}

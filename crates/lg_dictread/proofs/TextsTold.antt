@@ -4,18 +4,17 @@ use Rattle.std.proofs.lemmas.List.{append-nil}
 use Rattle.std.specs.Option.{is_some}
 use Rattle.std.specs.Str.{IsUtf8, IsValidUpTo}
 use Rattle.lg_base.specs.Contents.{Contents}
+use Rattle.lg_base.specs.Files.{AsksWithin}
 use Rattle.lg_lex.specs.declared.marks.Marks.TheVariants.{Dictionary}
 use Rattle.lg_lex.specs.Marked.{without_mark}
-use Rattle.lg_lex.specs.Tokens.{AreTokens}
+use Rattle.lg_lex.specs.Tokens.{AreTokens, Token, IsText}
 use Rattle.lg_dictread.specs.declared.dict_error.DictError.{DictError}
 use Rattle.lg_dictread.specs.declared.dict_error.DictError.TheVariants.{NotUtf8}
-use Rattle.lg_dictread.specs.Entries.{Token}
 use Rattle.lg_dictread.specs.Definitions.{Defined}
-use Rattle.lg_dictread.specs.Telling.{AsksWithin, Answers, AsksFront, IsMissing, OnError}
+use Rattle.lg_dictread.specs.Telling.{Answers, AsksFront, IsMissing, OnError}
 use Rattle.lg_dictread.specs.Texts as texts
 use Rattle.lg_dictread.specs.Texts.{Earlier, nothing, Meaning, then_entry, EntryOutcome, means, fails, EntryGives, TextAnswer, stands, refuse, with_meaning, TextIs, ended, DictionaryIs, not_utf8}
 use Rattle.lg_dictread.specs.DictTexts.{TextOf, DictionaryOf}
-use Rattle.lg_dictread.specs.EntryTexts.{IsText}
 use Rattle.lg_dictread.specs.Reading.{NextIs}
 use Rattle.lg_dictread.proofs.ErrorMaps.{if_some, if_some_map, if_some_both, error_map}
 use Rattle.lg_dictread.proofs.ItemAnswers.{Laws}
@@ -127,7 +126,7 @@ some_left (Some x) ts first left e h = λ none. let wrong : [] ≡ first x ∷ l
 -- ---- dictionary files
 
 -- the names of a file are those of its tokens
-file_front : (contents : Contents) (bytes : List ℕ) (ts : List Token) (old new : List (List ℕ)) → IsText bytes ts
+file_front : (contents : Contents) (bytes : List ℕ) (ts : List Token) (old new : List (List ℕ)) → IsText Dictionary bytes ts
     → ((us : List Token) → AreTokens Dictionary us 0 (without_mark bytes) → ts ≡ us) → ((n : ℕ) → IsValidUpTo bytes n → IsUtf8 bytes → ⊥)
     → ((names : List (List ℕ)) (answer : TextAnswer) → TextIs contents (without_mark bytes) nothing ts names answer → AsksWithin old new names)
     → (names : List (List ℕ)) (answer : TextAnswer) → DictionaryIs contents bytes names answer → AsksWithin old new names
@@ -135,7 +134,7 @@ file_front contents bytes ts old new is one apart front names answer (not_utf8 n
 file_front contents bytes ts old new is one apart front names answer (texts.text us asked a are h) =
     front asked a (subst (λ (l : List Token). TextIs contents (without_mark bytes) nothing l asked a) (sym (one us are.tokens)) h)
 
-module _ (known : Option Contents) (bytes : List ℕ) (ts : List Token) (old new : List (List ℕ)) (is : IsText bytes ts) where
+module _ (known : Option Contents) (bytes : List ℕ) (ts : List Token) (old new : List (List ℕ)) (is : IsText Dictionary bytes ts) where
   pub file_told : (answer : TextAnswer) → Answers known (TextOf (without_mark bytes) nothing ts) old new answer → Answers known (DictionaryOf bytes) old new answer
   file_told answer h = if_some_map known _ _ (λ contents (names, new_is, text_is). (names, new_is, texts.text ts names answer is text_is)) h
 

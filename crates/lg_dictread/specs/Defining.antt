@@ -2,6 +2,7 @@
 use Rattle.std.specs.Prelude.{◌≡◌, ℕ, ◌≤◌, List, [], ◌∷◌, ◌++◌, length, map, Option, None, Some, Result, Ok, Err}
 use Rattle.std.specs.Str.{IsUtf8}
 use Rattle.lg_base.specs.Contents.{Contents}
+use Rattle.lg_base.specs.Files.{AsksWithin}
 use Rattle.lg_gram.specs.declared.entry.Item.{Item}
 use Rattle.lg_gram.specs.declared.entry.ItemKind.TheVariants as kinds
 use Rattle.lg_dictread.specs.declared.dict_error.DictError.{DictError}
@@ -14,7 +15,7 @@ use Rattle.lg_dictread.specs.declared.define.Tables.{Tables}
 use Rattle.lg_dictread.specs.declared.define.Names.{Names}
 use Rattle.lg_dictread.specs.Definitions.{Lines, AreNew, IsTwice, Defined, both, fails, FileGives, asked_by, ItemsAnswer, define, refuse_items, with_defined, ItemsGive}
 use Rattle.lg_dictread.specs.Tables.{text_entries}
-use Rattle.lg_dictread.specs.Telling.{Determined, AsksWithin, Answers, IsMissing, UnlessMemory, OnError}
+use Rattle.lg_dictread.specs.Telling.{Determined, Answers, IsMissing, UnlessMemory, OnError}
 
 abbrev pub defined_in : Tables → Defined
 defined_in t = record { words = text_entries t.words; macros = text_entries t.macros }

@@ -1,8 +1,8 @@
 -- What the reader of dictionary texts answers.
 use Rattle.std.specs.Prelude.{ℕ, List}
+use Rattle.lg_lex.specs.Tokens.{Token}
 use Rattle.lg_gram.specs.declared.entry.Entry.{Entry}
 use Rattle.lg_gram.specs.Trees.{tree_of}
-use Rattle.lg_dictread.specs.Entries.{Token}
 use Rattle.lg_dictread.specs.Texts.{Earlier, Meaning, TextAnswer, TextIs, DictionaryIs}
 use Rattle.lg_dictread.specs.Telling.{Determined}
 

@@ -3,7 +3,7 @@
 use Rattle.std.specs.Prelude.{◌≡◌, ◌≢◌, ℕ, List, [], ◌∷◌}
 use Rattle.lg_gram.specs.declared.entry.Item.{Item}
 use Rattle.lg_gram.specs.RawTrees.{RawTree}
-use Rattle.lg_lex.specs.Tokens.{Lexeme}
+use Rattle.lg_lex.specs.Tokens.{Token}
 use Rattle.lg_expr.specs.declared.fault.Fault.{Fault}
 use Rattle.lg_expr.specs.declared.fault.Fault.TheVariants.{Syntax}
 use Rattle.lg_expr.specs.Parts.{Part}
@@ -11,10 +11,6 @@ use Rattle.lg_expr.specs.Classes.{part_of_lexeme}
 use Rattle.lg_expr.specs.Grammar.{Rules}
 use Rattle.lg_expr.specs.Reading.{StandFor, FirstFault}
 use Rattle.lg_dictread.specs.Items.{Head, item, colon, other, head_of}
-
--- a token, and the number of bytes before it
-abbrev pub Token : Type 0
-Token = Lexeme × ℕ
 
 abbrev pub head : Token → Head
 head t = head_of t.0

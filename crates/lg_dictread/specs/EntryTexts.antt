@@ -1,13 +1,14 @@
 -- What a text of exactly one entry stands for, or its first fault. Macros stay as they are named.
 use Rattle.std.specs.Prelude.{◌≡◌, ℕ, List, [], ◌∷◌, map, Result, Ok, Err}
-use Rattle.std.specs.Str.{IsUtf8, IsValidUpTo}
+use Rattle.std.specs.Str.{IsValidUpTo}
 use Rattle.lg_gram.specs.declared.entry.Item.{Item}
 use Rattle.lg_gram.specs.declared.entry.RawEntry.{RawEntry}
 use Rattle.lg_gram.specs.RawTrees.{RawTree, raw_tree_of}
 use Rattle.lg_lex.specs.declared.marks.Marks.TheVariants.{Dictionary}
 use Rattle.lg_lex.specs.declared.place.Place.{Place}
 use Rattle.lg_lex.specs.Marked.{without_mark}
-use Rattle.lg_lex.specs.Tokens.{AreTokens}
+use Rattle.lg_lex.specs.Tokens.{Token, IsText}
+use Rattle.lg_lex.specs.Spots.{place_left}
 use Rattle.lg_expr.specs.declared.fault.Fault as expr_fault
 use Rattle.lg_expr.specs.declared.fault.Fault.TheVariants as faults
 use Rattle.lg_expr.specs.declared.macros.Known.TheVariants.{Free}
@@ -15,17 +16,12 @@ use Rattle.lg_expr.specs.Grammar.{Rules}
 use Rattle.lg_dictread.specs.declared.entry_text.EntryError.{EntryError}
 use Rattle.lg_dictread.specs.declared.entry_text.EntryError.TheVariants.{NoMemory, NotUtf8, Syntax, CostForm, TooDeep}
 use Rattle.lg_gram.specs.Limits.{LEVEL}
-use Rattle.lg_dictread.specs.Entries.{Token, Written, EntryStands, EntryFault}
-use Rattle.lg_dictread.specs.Places.{place_left, entry_line}
+use Rattle.lg_dictread.specs.Entries.{Written, EntryStands, EntryFault}
+use Rattle.lg_dictread.specs.Places.{entry_line}
 
 -- each macro may be named, at any depth
 abbrev pub free_rules : Rules
 free_rules = record { known = λ name. Free; limit = LEVEL }
-
--- the text is UTF-8, and has these tokens after a byte order mark, from which places count
-pub record IsText (bytes : List ℕ) (ts : List Token) : Type 0 where
-  pub utf8 : IsUtf8 bytes
-  pub tokens : AreTokens Dictionary ts 0 (without_mark bytes)
 
 -- what contracts see of an entry: its items, its expression, the greatest number of brackets open at once, and the line
 -- of its first item
@@ -57,10 +53,10 @@ IsErrorAt p faults.TooDeep error = error ≡ TooDeep p.line
 -- The text has one entry and nothing after it, or this error tells its first fault.
 pub data EntryTextIs (bytes : List ℕ) : Result EntryView EntryError → Type 0 where
   not_utf8 : (n : ℕ) → IsValidUpTo bytes n → EntryTextIs bytes (Err (NotUtf8 n))
-  one : (ts : List Token) (e : Written) → IsText bytes ts → EntryStands free_rules ts e [] → EntryTextIs bytes (Ok (written_view (without_mark bytes) e))
-  goes_on : (ts : List Token) (e : Written) (t : Token) (rest : List Token) (error : EntryError) → IsText bytes ts → EntryStands free_rules ts e (t ∷ rest)
+  one : (ts : List Token) (e : Written) → IsText Dictionary bytes ts → EntryStands free_rules ts e [] → EntryTextIs bytes (Ok (written_view (without_mark bytes) e))
+  goes_on : (ts : List Token) (e : Written) (t : Token) (rest : List Token) (error : EntryError) → IsText Dictionary bytes ts → EntryStands free_rules ts e (t ∷ rest)
       → IsErrorAt (place_left (without_mark bytes) (t ∷ rest)) faults.Syntax error → EntryTextIs bytes (Err error)
-  faulty : (ts : List Token) (f : expr_fault.Fault) (left : List Token) (error : EntryError) → IsText bytes ts → EntryFault free_rules ts f left
+  faulty : (ts : List Token) (f : expr_fault.Fault) (left : List Token) (error : EntryError) → IsText Dictionary bytes ts → EntryFault free_rules ts f left
       → IsErrorAt (place_left (without_mark bytes) left) f error → EntryTextIs bytes (Err error)
 
 -- what the reader answers, unless memory ran out

@@ -11,14 +11,13 @@ use Rattle.lg_gram.specs.Trees.{Tree, tree_of}
 use Rattle.lg_base.specs.Contents.{Contents}
 use Rattle.lg_lex.specs.declared.marks.Marks.TheVariants.{Dictionary}
 use Rattle.lg_lex.specs.Lexing.{tokens_from}
-use Rattle.lg_lex.specs.Tokens.{HasUtf8}
+use Rattle.lg_lex.specs.Tokens.{HasUtf8, Token}
+use Rattle.lg_lex.specs.declared.spot.Spot.{Spot}
 use Rattle.lg_expr.specs.Fits.{Fits}
 use Rattle.lg_dictread.specs.declared.dict_error.DictError.{DictError}
 use Rattle.lg_dictread.specs.declared.dict_error.DictError.TheVariants as errors
-use Rattle.lg_dictread.specs.declared.spot.Spot.{Spot}
 use Rattle.lg_dictread.specs.declared.stop.Stop.{Stop}
 use Rattle.lg_dictread.specs.declared.stop.Stop.TheVariants as stops
-use Rattle.lg_dictread.specs.Entries.{Token}
 use Rattle.lg_dictread.specs.Telling.{Determined, Answers, AsksFront, IsMissing, UnlessMemory, OnError}
 use Rattle.lg_dictread.specs.declared.define.Names.{Names}
 use Rattle.lg_dictread.specs.declared.earlier.Earlier as code_earlier

@@ -1,11 +1,12 @@
 -- The same a token at a time: items up to the colon, and then the automaton of expressions.
 use Rattle.std.specs.Prelude.{ℕ, List, [], ◌∷◌, ◌++◌}
+use Rattle.lg_lex.specs.Tokens.{Token}
 use Rattle.lg_gram.specs.declared.entry.Item.{Item}
 use Rattle.lg_expr.specs.declared.fault.Fault.TheVariants.{Syntax}
 use Rattle.lg_expr.specs.Grammar.{Rules}
 use Rattle.lg_expr.specs.Automaton.{Answer, read, stopped, start, run}
 use Rattle.lg_dictread.specs.Items.{Head, item, colon, other}
-use Rattle.lg_dictread.specs.Entries.{Token, head, part, EntryAnswer, entry, fault}
+use Rattle.lg_dictread.specs.Entries.{head, part, EntryAnswer, entry, fault}
 
 -- the items and what follows the colon after them, or what is left from a token at fault on
 pub data Scanned : Type 0 where

@@ -1,7 +1,8 @@
 -- How a call tells its answer, where files tell what they hold, and what else holds of it.
-use Rattle.std.specs.Prelude.{◌≡◌, ℕ, ◌≤◌, List, [], ◌∷◌, ◌++◌, Option, None, IfSome, Result, IfErr}
+use Rattle.std.specs.Prelude.{◌≡◌, ℕ, ◌≤◌, List, ◌++◌, Option, None, IfSome, Result, IfErr}
 use Rattle.lg_base.specs.Contents.{Contents, file}
 use Rattle.lg_base.specs.Faults.{Rose}
+use Rattle.lg_base.specs.Files.{AsksWithin, EndsWith}
 use Rattle.lg_dictread.specs.declared.dict_error.DictError.{DictError}
 use Rattle.lg_dictread.specs.declared.dict_error.DictError.TheVariants as errors
 use Rattle.lg_dictread.specs.declared.dict_error.WordFileError.TheVariants.{Failed}
@@ -9,10 +10,6 @@ use Rattle.lg_dictread.specs.declared.dict_error.WordFileError.TheVariants.{Fail
 -- what contents determine: the names of files that are asked for, in order, and an answer
 abbrev pub Determined : Type 0 → Type 1
 Determined A = Contents → List (List ℕ) → A → Type 0
-
--- a front part of these names was asked
-abbrev pub AsksWithin : List (List ℕ) → List (List ℕ) → List (List ℕ) → Type 0
-AsksWithin old new names = (front : List (List ℕ)) × (more : List (List ℕ)) × (names ≡ front ++ more) × (new ≡ old ++ front)
 
 module _ {A : Type 0} (known : Option Contents) (is : Determined A) (old new : List (List ℕ)) where
   -- this is the answer, and its names were asked
@@ -40,7 +37,7 @@ OnError Missing Ended Told error = Told error
 
 -- why a call failed: a word file that was not read is the last that was asked, and the count of faults rose
 abbrev pub IsCause : ℕ → ℕ → List (List ℕ) → DictError → Type 0
-IsCause before now asked (errors.WordFile line name cause) = ((earlier : List (List ℕ)) × (asked ≡ earlier ++ name ∷ [])) × (cause ≡ Failed → Rose before now)
+IsCause before now asked (errors.WordFile line name cause) = EndsWith asked name × (cause ≡ Failed → Rose before now)
 IsCause before now asked _ = Unit {0}
 
 -- the count of faults never falls, and errors of word files have their cause

@@ -8,8 +8,11 @@ use Rattle.lg_gram.specs.Filled.{Formulas, filled, filled_level}
 use Rattle.lg_gram.specs.Limits.{FORMULA_NODES, FORMULA_CHOICES, SIDE, COUNTED, SIDE_COUNTED, LEVEL}
 use Rattle.lg_gram.specs.Measures.{node_count, choice_count, side_count}
 use Rattle.lg_gram.specs.Trees.{Tree}
+use Rattle.lg_lex.specs.declared.marks.Marks.TheVariants.{Dictionary}
 use Rattle.lg_lex.specs.declared.place.Place.{Place}
 use Rattle.lg_lex.specs.Marked.{without_mark}
+use Rattle.lg_lex.specs.Tokens.{Token, IsText}
+use Rattle.lg_lex.specs.Spots.{place_left}
 use Rattle.lg_expr.specs.declared.fault.Fault as expr_fault
 use Rattle.lg_expr.specs.declared.fault.Fault.TheVariants as faults
 use Rattle.lg_expr.specs.Fits.{known_as}
@@ -17,9 +20,8 @@ use Rattle.lg_expr.specs.Grammar.{Rules}
 use Rattle.lg_expr.specs.Parts.{Part, names}
 use Rattle.lg_dictread.specs.declared.dict_error.DictError.{DictError}
 use Rattle.lg_dictread.specs.declared.dict_error.DictError.TheVariants.{NotUtf8, Syntax, UnknownMacro, CostForm, TooDeep, TooManyNodes, TooManyChoices, SideTooLong}
-use Rattle.lg_dictread.specs.Entries.{Token, Written, EntryStands, EntryFault}
-use Rattle.lg_dictread.specs.Places.{place_left, part_left, line_of, entry_line}
-use Rattle.lg_dictread.specs.EntryTexts.{IsText}
+use Rattle.lg_dictread.specs.Entries.{Written, EntryStands, EntryFault}
+use Rattle.lg_dictread.specs.Places.{part_left, line_of, entry_line}
 use Rattle.lg_dictread.specs.Definitions.{same_text, Defined, none_defined, both, define, refuse_items, ItemsGive}
 
 -- what was read before: every word and macro with its line, and what each macro stands for
@@ -129,5 +131,5 @@ pub data TextIs (contents : Contents) (text : List ℕ) : Earlier → List Token
 -- A dictionary file, where word files have these contents.
 pub data DictionaryIs (contents : Contents) (bytes : List ℕ) : List (List ℕ) → TextAnswer → Type 0 where
   not_utf8 : (n : ℕ) → IsValidUpTo bytes n → DictionaryIs contents bytes [] (refuse (NotUtf8 n))
-  text : (ts : List Token) (asked : List (List ℕ)) (answer : TextAnswer) → IsText bytes ts
+  text : (ts : List Token) (asked : List (List ℕ)) (answer : TextAnswer) → IsText Dictionary bytes ts
       → TextIs contents (without_mark bytes) nothing ts asked answer → DictionaryIs contents bytes asked answer

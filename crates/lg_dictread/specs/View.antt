@@ -5,6 +5,8 @@ use Rattle.lg_gram.specs.RawTrees.{raw_tree_of}
 use Rattle.lg_lex.specs.declared.marks.Marks.TheVariants.{Dictionary}
 use Rattle.lg_lex.specs.declared.place.Place.{Place}
 use Rattle.lg_lex.specs.Lexing.{tokens_from}
+use Rattle.lg_lex.specs.Tokens.{Token}
+use Rattle.lg_lex.specs.Spots.{place_left, IsSpot}
 use Rattle.lg_expr.specs.declared.fault.Fault.{Fault}
 use Rattle.lg_expr.specs.declared.fault.Fault.TheVariants.{Syntax, CostForm, UnknownMacro, TooDeep}
 use Rattle.lg_expr.specs.Parts.{Part, names}
@@ -17,10 +19,9 @@ use Rattle.lg_dictread.specs.declared.items.PlacedItems.{PlacedItems}
 use Rattle.lg_dictread.specs.declared.entry.Expression.{Expression}
 use Rattle.lg_dictread.specs.declared.entry.One.{One}
 use Rattle.lg_dictread.specs.Items.{Head, item, colon, other}
-use Rattle.lg_dictread.specs.Entries.{Token, Written, EntryAnswer, entry, fault}
+use Rattle.lg_dictread.specs.Entries.{Written, EntryAnswer, entry, fault}
 use Rattle.lg_dictread.specs.Scanning.{Scanned, items_end, items_stop}
-use Rattle.lg_dictread.specs.Places.{place_left, part_left, line_of}
-use Rattle.lg_dictread.specs.Spots.{IsSpot}
+use Rattle.lg_dictread.specs.Places.{part_left, line_of}
 use Rattle.lg_dictread.specs.EntryTexts.{EntryView, entry_view, written_view, IsErrorAt}
 use Rattle.lg_dictread.specs.declared.entry_text.EntryError.{EntryError}
 use Rattle.lg_dictread.specs.declared.entry_text.EntryError.TheVariants as errors

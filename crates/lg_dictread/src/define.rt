@@ -4,8 +4,9 @@ ghost use Rattle.std.specs.Prelude.{◌≡◌, ◌∷◌, [], map};
 ghost use Rattle.lg_lex.specs.declared.run.Separators.TheVariants.{WhiteSpace};
 ghost use Rattle.lg_lex.specs.Runs.{runs_from};
 ghost use Rattle.std.specs.List.{AllByRecursion, zip};
+ghost use Rattle.lg_base.specs.Files.{AsksWithin};
 ghost use Rattle.lg_dictread.specs.Definitions.{on_line, asked_by};
-ghost use Rattle.lg_dictread.specs.Telling.{AsksWithin, AsksFront, HasCause};
+ghost use Rattle.lg_dictread.specs.Telling.{AsksFront, HasCause};
 ghost use Rattle.lg_dictread.specs.Tables.{text_entries};
 ghost use Rattle.lg_dictread.specs.Defining.{TellsNames, HasUtf8Name, defined_in, listed_in, none_listed, ItemIs, ItemsAre, AddsDefined, TellsDefined};
 

@@ -5,7 +5,7 @@ ghost use Rattle.std.specs.Str.{IsUtf8};
 ghost use Rattle.lg_gram.specs.Entries.{AreEntries};
 ghost use Rattle.lg_lex.specs.declared.marks.Marks.TheVariants.{Dictionary};
 ghost use Rattle.lg_lex.specs.Lexing.{tokens_from};
-ghost use Rattle.lg_dictread.specs.Spots.{IsSpot};
+ghost use Rattle.lg_lex.specs.Spots.{IsSpot};
 ghost use Rattle.lg_dictread.specs.Texts.{nothing, stands, refuse};
 ghost use Rattle.lg_dictread.specs.DictTexts.{entry_meaning, TextOf, DictionaryOf};
 ghost use Rattle.lg_dictread.specs.Telling.{Answers, AsksFront, IsMissing, OnError, HasCause};
@@ -15,17 +15,16 @@ use crate::define::define_items;
 use crate::dict_error::DictError;
 use crate::earlier::Earlier;
 use crate::entry::read_one;
-use crate::law::exactly_one_entry;
+use crate::law::{exactly_one_dictionary, exactly_one_entry};
 use crate::limits::BRACKETS;
 use crate::measure::measure;
-use crate::spot::{Spot, next_spotted};
 use crate::stop::Stop;
 use lg_base::{Files, Text};
 use lg_expr::expressions_fit;
 use lg_gram::Entry;
 use lg_lex::{
-    bytes_are_utf8_or_at_fault, runs_are_one_list, tokens_are_one_list, tokens_are_utf8,
-    utf8_fault, without_mark,
+    Marks, Spot, bytes_are_utf8_or_at_fault, next_spotted, runs_are_one_list, tokens_are_one_list,
+    tokens_are_utf8, utf8_fault, without_mark,
 };
 use std::alloc::Global;
 
@@ -105,7 +104,7 @@ fn read_text<F: Files>(alloc: Global, text: &[u8], files: &mut F) -> Result<Vec<
     bytes_are_utf8_or_at_fault();
     let mut earlier = Earlier::new(alloc);
     let mut spot = Spot::START;
-    while next_spotted(text, spot).is_some() {
+    while next_spotted(Marks::Dictionary, text, spot).is_some() {
         spot = read_next(alloc, &mut earlier, text, spot, files)?;
     }
     Ok(earlier.entries)
@@ -127,11 +126,13 @@ pub fn read_dict<F: Files>(
         (F.asked files.old) (F.asked files.new) (stands (map entry_meaning entries.items))) }
     ensures fault { IfErr result (OnError (IsMissing (F.contents files.old)) (AsksFront (F.contents files.old) (DictionaryOf bytes.now) (F.asked files.old) (F.asked files.new))
         (λ error. Answers (F.contents files.old) (DictionaryOf bytes.now) (F.asked files.old) (F.asked files.new) (refuse error))) }
+    ensures asks { AsksFront (F.contents files.old) (DictionaryOf bytes.now) (F.asked files.old) (F.asked files.new) }
     ensures fit { IfOk result (λ entries. AreEntries entries.items) }
     ensures cause { HasCause (F.faults files.old) (F.faults files.new) (F.asked files.new) result }
 {
     tokens_are_one_list();
     bytes_are_utf8_or_at_fault();
+    exactly_one_dictionary();
     match utf8_fault(bytes) {
         Some(byte) => Err(DictError::NotUtf8(byte)),
         None => read_text(alloc, without_mark(bytes), files),

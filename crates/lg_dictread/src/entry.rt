@@ -3,21 +3,21 @@
 ghost use Rattle.std.specs.Prelude.{◌≡◌, ℕ, List};
 ghost use Rattle.lg_lex.specs.declared.marks.Marks.TheVariants.{Dictionary};
 ghost use Rattle.lg_lex.specs.Lexing.{tokens_from};
+ghost use Rattle.lg_lex.specs.Tokens.{Token};
+ghost use Rattle.lg_lex.specs.Spots.{IsSpot};
 ghost use Rattle.lg_expr.specs.Automaton.{run, start};
 ghost use Rattle.lg_expr.specs.Parts.{names};
 ghost use Rattle.lg_expr.specs.View.{part_of};
-ghost use Rattle.lg_dictread.specs.Entries.{Token, part};
+ghost use Rattle.lg_dictread.specs.Entries.{part};
 ghost use Rattle.lg_dictread.specs.Scanning.{answer_of};
-ghost use Rattle.lg_dictread.specs.Spots.{IsSpot};
 ghost use Rattle.lg_dictread.specs.View.{TellsFault, TellsExpression, TellsEntry};
 
 use crate::items::read_items;
-use crate::spot::{Spot, next_spotted};
 use crate::stop::Stop;
 use lg_base::Numbers;
 use lg_expr::{Fault, Macros, Part, Progress, Refusal, State, exactly_one, part_of, step};
 use lg_gram::{Items, RawEntry, RawExpr};
-use lg_lex::Place;
+use lg_lex::{Marks, Place, Spot, next_spotted};
 use std::alloc::Global;
 
 /// An expression, the greatest number of brackets open in it at once, and the spot after the `;` that ends it.
@@ -66,7 +66,7 @@ fn read_expression<'a, M: Macros>(
     exactly_one();
     let mut state = State::start(alloc);
     let mut spot = from;
-    while let Some(found) = next_spotted(text, spot) {
+    while let Some(found) = next_spotted(Marks::Dictionary, text, spot) {
         let part = part_of(&found.token);
         match step(alloc, macros, limit, state, &part) {
             Ok(Progress::Goes(next)) => state = next,

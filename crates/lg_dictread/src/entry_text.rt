@@ -10,11 +10,10 @@ ghost use Rattle.lg_dictread.specs.Scanning.{answer_of};
 use crate::entry::read_one;
 use crate::law::exactly_one_entry;
 use crate::limits::BRACKETS;
-use crate::spot::{Spot, next_spotted};
 use crate::stop::Stop;
 use lg_expr::{Known, Macros};
 use lg_gram::RawEntry;
-use lg_lex::{Place, tokens_are_one_list, utf8_fault, without_mark};
+use lg_lex::{Marks, Place, Spot, next_spotted, tokens_are_one_list, utf8_fault, without_mark};
 use std::alloc::Global;
 use thiserror::Error;
 
@@ -75,7 +74,7 @@ fn read_alone(alloc: Global, text: &[u8]) -> Result<RawEntry, EntryError>
 {
     exactly_one_entry();
     match read_one(alloc, &FreeMacros, BRACKETS, text, Spot::START) {
-        Ok(one) => match next_spotted(text, one.end) {
+        Ok(one) => match next_spotted(Marks::Dictionary, text, one.end) {
             None => Ok(one.entry),
             Some(found) => Err(syntax_at(found.start.place)),
         },

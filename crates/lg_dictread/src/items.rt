@@ -4,17 +4,16 @@ ghost use Rattle.std.specs.Prelude.{◌≡◌, ◌<◌, [], vec_len, IfOk};
 ghost use Rattle.lg_lex.specs.declared.marks.Marks.TheVariants.{Dictionary};
 ghost use Rattle.lg_lex.specs.Found.{lexeme_of};
 ghost use Rattle.lg_lex.specs.Lexing.{tokens_from};
+ghost use Rattle.lg_lex.specs.Spots.{IsSpot};
 ghost use Rattle.lg_dictread.specs.Items.{item, plain_item, head_of};
 ghost use Rattle.lg_dictread.specs.Scanning.{scan};
-ghost use Rattle.lg_dictread.specs.Spots.{IsSpot};
 ghost use Rattle.lg_dictread.specs.View.{head_view, TellsItems};
 
-use crate::spot::{Spot, next_spotted};
 use crate::stop::Stop;
 use lg_base::Text;
 use lg_expr::is_macro_name;
 use lg_gram::{Item, ItemKind};
-use lg_lex::Token;
+use lg_lex::{Marks, Spot, Token, next_spotted};
 use std::alloc::Global;
 
 /// What a token is before the colon of an entry.
@@ -72,7 +71,7 @@ pub(crate) fn read_items<'a>(
     let mut items = Vec::new(alloc);
     let mut lines = Vec::new(alloc);
     let mut spot = from;
-    while let Some(found) = next_spotted(text, spot) {
+    while let Some(found) = next_spotted(Marks::Dictionary, text, spot) {
         match head_of(&found.token) {
             Head::Item(kind, name) => {
                 let text = Text::of(alloc, name)?;

@@ -1,6 +1,7 @@
 ghost use Rattle.std.specs.Prelude.{◌≡◌, ℕ, List, Result};
+ghost use Rattle.lg_lex.specs.Tokens.{Token};
 ghost use Rattle.lg_expr.specs.Grammar.{Rules};
-ghost use Rattle.lg_dictread.specs.Entries.{Token, EntryAnswer, EntryIs};
+ghost use Rattle.lg_dictread.specs.Entries.{EntryAnswer, EntryIs};
 ghost use Rattle.lg_dictread.specs.Scanning.{answer_of};
 ghost use Rattle.lg_dictread.specs.declared.entry_text.EntryError.{EntryError};
 ghost use Rattle.lg_dictread.specs.EntryTexts.{EntryView, EntryTextIs};

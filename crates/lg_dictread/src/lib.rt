@@ -14,7 +14,6 @@ mod items;
 mod law;
 mod limits;
 mod measure;
-mod spot;
 mod stop;
 mod table;
 #[cfg(test)]

@@ -12,12 +12,12 @@ use Rattle.lg_base.specs.Costs.CostForm.{Whole, WholeAndPart, Part as PartAlone}
 use Rattle.lg_gram.specs.Names.{is_capital}
 use Rattle.lg_gram.specs.Connectors.{Connector}
 use Rattle.lg_gram.proofs.Names.{written_parts}
-use Rattle.lg_lex.specs.Tokens.{Lexeme, sign, quoted, plain, broken}
+use Rattle.lg_lex.specs.Tokens.{Lexeme, sign, quoted, plain, broken, is_text}
 use Rattle.lg_expr.specs.declared.part.Operator.TheVariants.{And, Or}
 use Rattle.lg_expr.specs.declared.part.Bracket.TheVariants.{Round, Curly, Square}
 use Rattle.lg_expr.specs.Parts.{Part, connects, names, operates, opens, closes, number, no_number, ends, wrong}
 use Rattle.lg_expr.specs.Words.{at_text, sign_text, WritesConnector, IsMacroName, begins_number, Writes}
-use Rattle.lg_expr.specs.Classes.{is_text, connector_of, is_macro_name, cost_of, part_of_number, part_of_connector, part_of_word, part_of_sign, part_of_lexeme}
+use Rattle.lg_expr.specs.Classes.{connector_of, is_macro_name, cost_of, part_of_number, part_of_connector, part_of_word, part_of_sign, part_of_lexeme}
 use Rattle.lg_expr.proofs.Costs.{cost_is_read, cost_of_read, cost_of_none}
 use Rattle.lg_expr.proofs.Words.{connector_is, connector_writes, macro_is, macro_writes}
 

@@ -7,7 +7,7 @@ use Rattle.std.proofs.lemmas.List.{take_at, drop_at, drop_all, take-append-drop}
 use Rattle.std.proofs.Math.Seq.{drop-cons, get_or-append_seam}
 use Rattle.lg_gram.specs.Names.{is_capital, is_subscript, is_written, trimmed}
 use Rattle.lg_gram.specs.Connectors.{Connector}
-use Rattle.lg_gram.proofs.Names.{written_parts}
+use Rattle.lg_gram.proofs.Names.{written_parts, prefix_len-caps}
 use Rattle.lg_expr.specs.Words.{at_text, sign_text, WritesConnector, IsMacroName}
 use Rattle.lg_expr.specs.Classes.{last_byte, without_last, connector_from, connector_without_sign, connector_of, is_macro_name}
 
@@ -33,16 +33,6 @@ ends_with [] b some is = absurd (omega arith)
 ends_with (c ∷ w) b some is = word_split (c ∷ w) (omega arith) ∙ ap (λ (x : ℕ). without_last (c ∷ w) ++ x ∷ []) is
 
 -- ---- connectors
-
-prefix_len-caps : (caps subs : List ℕ) → list_all is_capital caps ≡ true → list_all is_subscript subs ≡ true → prefix_len is_capital (caps ++ subs) ≡ length caps
-prefix_len-caps [] [] all rest = refl
-prefix_len-caps [] (b ∷ subs) all rest =
-    let small = (and_parts (is_subscript b) (list_all is_subscript subs) rest).0 in
-    let none : is_capital b ≡ false = grind (arith, nat_tests) in
-    ap (λ (x : Bool). cond x (1 + prefix_len is_capital subs) 0) none
-prefix_len-caps (b ∷ caps) subs all rest =
-    let parts = and_parts (is_capital b) (list_all is_capital caps) all in
-    ap (λ (x : Bool). cond x (1 + prefix_len is_capital (caps ++ subs)) 0) parts.0 ∙ omega (arith, prefix_len-caps caps subs parts.1 rest)
 
 abbrev written_as : List ℕ → List ℕ → Bool → Bool → Connector
 written_as caps subs multi right = record { caps = caps; subs = trimmed subs; multi = multi; right = right }

@@ -2,19 +2,15 @@
 use Rattle.std.specs.Prelude.{ℕ, zero, suc, ◌+◌, ◌-◌, ◌*◌, ◌^◌, List, [], ◌∷◌, Bool, true, false, ℤ, pos, Option, Some, None, length, take, drop, position, slice_index, nat_le, nat_lt, ◌==◌, ◌&&◌, codes, if◌then◌else◌}
 use Rattle.std.specs.List.{list_all, prefix_len}
 use Rattle.std.specs.Char.{digit_value}
-use Rattle.std.specs.Cmp.Lexicographic.{pointwise}
 use Rattle.std.specs.Str.Parse.{digits_value}
 use Rattle.lg_base.specs.Costs.{part_value}
 use Rattle.lg_gram.specs.Names.{is_capital, is_written, trimmed}
 use Rattle.lg_gram.specs.Connectors.{Connector}
-use Rattle.lg_lex.specs.Tokens.{Lexeme, sign, quoted, plain, broken}
+use Rattle.lg_lex.specs.Tokens.{is_text, Lexeme, sign, quoted, plain, broken}
 use Rattle.lg_expr.specs.declared.part.Operator.TheVariants.{And, Or}
 use Rattle.lg_expr.specs.declared.part.Bracket.TheVariants.{Round, Curly, Square}
 use Rattle.lg_expr.specs.Parts.{Part, connects, names, operates, opens, closes, number, no_number, ends, wrong}
 use Rattle.lg_expr.specs.Words.{begins_number}
-
-abbrev pub is_text : List ℕ → List ℕ → Bool
-is_text text w = pointwise ◌==◌ w text
 
 abbrev pub last_byte : List ℕ → ℕ
 last_byte w = slice_index w (length w - 1)

@@ -1,8 +1,6 @@
 //! What the tokens of an expression are.
 
-ghost use Rattle.std.specs.Prelude.{◌≡◌, ◌≤◌, true, false, length};
-ghost use Rattle.std.specs.List.{prefix_len};
-ghost use Rattle.lg_gram.specs.Names.{is_capital};
+ghost use Rattle.std.specs.Prelude.{◌≡◌, true, false};
 ghost use Rattle.lg_lex.specs.Found.{lexeme_of};
 ghost use Rattle.lg_expr.specs.Words.{begins_number};
 ghost use Rattle.lg_expr.specs.Classes.{cost_of, connector_of, connector_from, connector_without_sign, is_macro_name, part_of_word, part_of_sign, part_of_number, part_of_lexeme};
@@ -10,7 +8,7 @@ ghost use Rattle.lg_expr.specs.View.{part_of};
 
 use crate::part::{Bracket, Operator, Part};
 use lg_base::{cost_number_laws, parse_cost};
-use lg_gram::Connector;
+use lg_gram::{Connector, capitals};
 use lg_lex::Token;
 
 /// What a token of a dictionary text is inside an expression.
@@ -117,15 +115,4 @@ fn connector_from(letters: &[u8], multi: bool, right: bool) -> Option<Connector>
 {
     let capitals = capitals(letters);
     Connector::of(&letters[..capitals], &letters[capitals..], multi, right)
-}
-
-/// How many capital letters stand at the front.
-fn capitals(letters: &[u8]) -> usize
-    ensures within { result ≤ length letters.now }
-    ensures count { result ≡ prefix_len is_capital letters.now }
-{
-    letters
-        .iter()
-        .take_while(|b| b.is_ascii_uppercase())
-        .count()
 }

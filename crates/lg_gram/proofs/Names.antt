@@ -9,7 +9,7 @@ use mathlib.Core.Bool.{beq}
 use Rattle.std.specs.Cmp.Derive.{both_true}
 use Rattle.std.proofs.lemmas.List.{length-replicate, take_at, drop_at, drop-replicate}
 use Rattle.std.proofs.lemmas.Bool.Decides.{nat_tests}
-use Rattle.std.specs.List.{list_all, suffix_len}
+use Rattle.std.specs.List.{list_all, prefix_len, suffix_len}
 use borrow.Rule.Slice.PartMut.{put_mid}
 use Rattle.lg_gram.specs.Names.{IsName, is_capital, is_subscript, is_written, WrittenParts, trimmed, STAR}
 use Rattle.lg_gram.specs.Connectors.{Connector, name_of, connector_text, connector_cmp}
@@ -35,6 +35,17 @@ written_parts caps subs h = record {
 
 pub is_written_from : (caps subs : List ℕ) → WrittenParts caps subs → is_written caps subs ≡ true
 is_written_from caps subs h = grind (arith, nat_tests, h.some, h.few, h.capitals, h.subscripts)
+
+-- the capitals of a name are those at its front
+pub prefix_len-caps : (caps subs : List ℕ) → list_all is_capital caps ≡ true → list_all is_subscript subs ≡ true → prefix_len is_capital (caps ++ subs) ≡ length caps
+prefix_len-caps [] [] all rest = refl
+prefix_len-caps [] (b ∷ subs) all rest =
+    let small = (and_parts (is_subscript b) (list_all is_subscript subs) rest).0 in
+    let none : is_capital b ≡ false = grind (arith, nat_tests) in
+    ap (λ (x : Bool). cond x (1 + prefix_len is_capital subs) 0) none
+prefix_len-caps (b ∷ caps) subs all rest =
+    let parts = and_parts (is_capital b) (list_all is_capital caps) all in
+    ap (λ (x : Bool). cond x (1 + prefix_len is_capital (caps ++ subs)) 0) parts.0 ∙ omega (arith, prefix_len-caps caps subs parts.1 rest)
 
 list_all-take : (p : ℕ → Bool) (xs : List ℕ) (n : ℕ) → list_all p xs ≡ true → list_all p (take n xs) ≡ true
 list_all-take p [] n h = rw take-nil refl

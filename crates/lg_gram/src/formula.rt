@@ -1,6 +1,7 @@
 //! Formulas: what a dictionary gives each word.
 ghost use Rattle.std.specs.Prelude.{◌≡◌, MatchOption, IfOk};
 ghost use Rattle.lg_gram.specs.Trees.{tree_of};
+ghost use Rattle.lg_gram.specs.Measures.{node_count};
 ghost use Rattle.lg_gram.specs.Formulas.{IsFormula};
 
 use crate::expr::{Expr, are_prices_small, choices, depth, longest_side, nodes};
@@ -22,11 +23,14 @@ const DEPTH: u32 = 602;
 #[derive(Debug, Drop)]
 pub struct Formula {
     expr: Expr,
+    nodes: u64,
 }
 
 impl Model for Formula {
     ghost use Rattle.lg_gram.specs.declared.expr.Expr.{Expr as Seen};
+    ghost use Rattle.std.specs.Prelude.{◌≡◌};
     ghost use Rattle.lg_gram.specs.Trees.{tree_of};
+    ghost use Rattle.lg_gram.specs.Measures.{node_count};
     ghost use Rattle.lg_gram.specs.Formulas.{IsFormula};
 
     ghost Value = { Seen };
@@ -38,7 +42,7 @@ impl Model for Formula {
 
     ghost view = { λ f. f.expr };
 
-    ghost invariant = { λ f. IsFormula (tree_of f.expr) };
+    ghost invariant = { λ f. IsFormula (tree_of f.expr) × (f.nodes ≡ node_count (tree_of f.expr)) };
 }
 
 impl Formula {
@@ -46,12 +50,17 @@ impl Formula {
     pub fn of(expr: Expr) -> Option<Formula>
         ensures { MatchOption result (IsFormula (tree_of expr) → ⊥) (λ f. (f ≡ expr) × IsFormula (tree_of expr)) }
     {
-        let fits = nodes(&expr) <= NODES
+        let nodes = nodes(&expr);
+        let fits = nodes <= NODES
             && choices(&expr) <= CHOICES
             && longest_side(&expr) <= SIDE
             && depth(&expr) <= DEPTH
             && are_prices_small(&expr);
-        if fits { Some(Formula { expr }) } else { None }
+        if fits {
+            Some(Formula { expr, nodes })
+        } else {
+            None
+        }
     }
 
     /// The expression.
@@ -62,11 +71,21 @@ impl Formula {
         &self.expr
     }
 
+    /// How many nodes the expression has. The time is constant.
+    pub fn nodes(&self) -> u64
+        ensures { result ≡ node_count (tree_of self.now) }
+    {
+        self.nodes
+    }
+
     /// A copy: a formula of the same tree.
     pub fn copied(&self, alloc: Global) -> Result<Formula, NoMemory>
         ensures { IfOk result (λ copy. tree_of copy ≡ tree_of self.now) }
     {
         let expr = self.expr.copied(alloc)?;
-        Ok(Formula { expr })
+        Ok(Formula {
+            expr,
+            nodes: self.nodes,
+        })
     }
 }

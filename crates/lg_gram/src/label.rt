@@ -1,6 +1,6 @@
 //! Names of connectors and labels of links.
 ghost use Rattle.std.specs.Prelude.{◌≡◌, ◌+◌, ◌-◌, ◌≤◌, ◌++◌, length, replicate, Some, None, if◌then◌else◌};
-ghost use Rattle.std.specs.List.{list_all};
+ghost use Rattle.std.specs.List.{list_all, prefix_len};
 ghost use Rattle.std.specs.Cmp.{partial_equiv_from_equiv};
 ghost use Rattle.std.specs.Cmp.Rules.{comparing};
 ghost use Rattle.std.proofs.Common.{rules};
@@ -94,6 +94,17 @@ impl Label {
     {
         &self.letters[..self.len]
     }
+}
+
+/// How many capital letters stand at the front.
+pub fn capitals(letters: &[u8]) -> usize
+    ensures within { result ≤ length letters.now }
+    ensures count { result ≡ prefix_len is_capital letters.now }
+{
+    letters
+        .iter()
+        .take_while(|b| b.is_ascii_uppercase())
+        .count()
 }
 
 fn can_be_name(caps: &[u8], subs: &[u8]) -> bool

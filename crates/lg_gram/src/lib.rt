@@ -21,7 +21,7 @@ pub use disjunct::{Chosen, Disjunct, Disjuncts, Positions};
 pub use entry::{Entry, Item, ItemKind, Items, RawEntry, RawExpr, RawExprs};
 pub use expr::{Expr, Exprs, choices, longest_side, nodes};
 pub use formula::Formula;
-pub use label::Label;
+pub use label::{Label, capitals};
 pub use linkage::{Link, Linkage, Links};
 pub use listing::{Bound, Page, PageItem, PageItems, Stats, Token, Tokens, Violation};
 pub use macros::Macros;

@@ -9,7 +9,7 @@ ghost use Rattle.lg_gram.specs.RawTrees.{raw_tree_of, raw_trees_in, raw_items, m
 ghost use Rattle.lg_gram.specs.Filled.{filled, filled_in, put_in, macro_names, is_unknown, FirstUnknown, level_within, level_reached, highest, filled_level};
 
 use crate::entry::{RawEntry, RawExpr, RawExprs};
-use crate::expr::{Expr, Exprs, choices, nodes, side_length};
+use crate::expr::{Expr, Exprs, choices, side_length};
 use crate::formula::Formula;
 use lg_base::{NoMemory, Text};
 use std::alloc::Global;
@@ -64,7 +64,7 @@ fn macro_nodes<M: Macros>(name: &Text, macros: &M) -> u64
 {
     match macros.named(name.bytes()) {
         None => 1,
-        Some((formula, _)) => nodes(formula.expr()),
+        Some((formula, _)) => formula.nodes(),
     }
 }
 

@@ -161,10 +161,16 @@ fn formula_counts(rt: HostRuntime) -> Result<(), Fail> {
 }
 
 #[test]
+fn capitals_stand_at_the_front(rt: HostRuntime) {
+    assert_eq!(rt; capitals(b"ABcD"), 2);
+}
+
+#[test]
 fn formula_copied(rt: HostRuntime) -> Result<(), Fail> {
     let alloc = rt.alloc();
     let whole = Formula::of(bracketed(alloc, 2, Cost::of(0))?).ok_or("refused")?;
-    assert_eq!(rt; nodes(whole.copied(alloc)?.expr()), 3);
+    let copy = whole.copied(alloc)?;
+    assert_eq!(rt; (copy.nodes(), nodes(copy.expr())), (3, 3));
     Ok(())
 }
 

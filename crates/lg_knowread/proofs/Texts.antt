@@ -4,26 +4,26 @@ use Rattle.std.specs.Str.{IsUtf8, IsValidUpTo}
 use Rattle.lg_lex.specs.declared.marks.Marks.TheVariants as marks
 use Rattle.lg_lex.specs.Lexing.{between, lex}
 use Rattle.lg_lex.specs.Marked.{without_mark}
-use Rattle.lg_lex.specs.Tokens.{AreTokens}
+use Rattle.lg_lex.specs.Tokens.{AreTokens, Token, IsText}
 use Rattle.lg_knowread.specs.declared.fault.KnowError.{KnowError}
 use Rattle.lg_knowread.specs.declared.fault.KnowError.TheVariants.{NoMemory, NotUtf8, Syntax, UnknownSection, BadPattern, BadType}
 use Rattle.lg_knowread.specs.declared.knowledge.Knowledge.{Knowledge}
 use Rattle.lg_knowread.specs.Statements.{knowledge_of}
-use Rattle.lg_knowread.specs.Reading.{Token, IsText, KnowledgeIs, not_utf8, stands, refused, TellsKnowledge}
+use Rattle.lg_knowread.specs.Reading.{KnowledgeIs, not_utf8, stands, refused, TellsKnowledge}
 use Rattle.lg_knowread.specs.Automaton.{Answer, read, stopped, answer_of}
 use Rattle.lg_knowread.specs.View.{result_of, TellsAnswer}
 use Rattle.lg_knowread.proofs.Tokens.{AnswerIs, answer_is, one_answer}
 
 -- ---- what an answer of the tokens makes of the text
 
-text_is : (bytes : List ℕ) (ts : List Token) (a : Answer) → IsText bytes ts → AnswerIs ts a → KnowledgeIs bytes (result_of (without_mark bytes) a)
+text_is : (bytes : List ℕ) (ts : List Token) (a : Answer) → IsText marks.Knowledge bytes ts → AnswerIs ts a → KnowledgeIs bytes (result_of (without_mark bytes) a)
 text_is bytes ts (read k) is (ss, written, says) = subst (λ (x : Knowledge). KnowledgeIs bytes (Ok x)) (sym says) (stands ts ss is written)
 text_is bytes ts (stopped fault left) is h = refused ts fault left is h
 
 -- the text is at fault before all else, or an answer of its tokens leads to the result
 abbrev Led : List ℕ → Result Knowledge KnowError → Type 0
 Led bytes x = ((n : ℕ) × IsValidUpTo bytes n × (x ≡ Err (NotUtf8 n)))
-    ⊎ ((ts : List Token) × (a : Answer) × IsText bytes ts × AnswerIs ts a × (x ≡ result_of (without_mark bytes) a))
+    ⊎ ((ts : List Token) × (a : Answer) × IsText marks.Knowledge bytes ts × AnswerIs ts a × (x ≡ result_of (without_mark bytes) a))
 
 led : (bytes : List ℕ) (x : Result Knowledge KnowError) → KnowledgeIs bytes x → Led bytes x
 led bytes x (not_utf8 n h) = inl (n, h, refl)
@@ -32,7 +32,7 @@ led bytes x (refused ts fault left is h) = inr (ts, stopped fault left, is, h, r
 
 -- ---- what the reader tells
 
-pub told_text : (bytes : List ℕ) (ts : List Token) (x : Result Knowledge KnowError) → IsText bytes ts → TellsAnswer (without_mark bytes) (answer_of ts) x → TellsKnowledge bytes x
+pub told_text : (bytes : List ℕ) (ts : List Token) (x : Result Knowledge KnowError) → IsText marks.Knowledge bytes ts → TellsAnswer (without_mark bytes) (answer_of ts) x → TellsKnowledge bytes x
 told_text bytes ts (Err NoMemory) is h = tt
 told_text bytes ts (Ok k) is h = subst (KnowledgeIs bytes) (sym h) (text_is bytes ts (answer_of ts) is (answer_is ts))
 told_text bytes ts (Err (NotUtf8 n)) is h = subst (KnowledgeIs bytes) (sym h) (text_is bytes ts (answer_of ts) is (answer_is ts))

@@ -1,7 +1,7 @@
 -- Over tokens: what the reader answers they stand for, or it is their first fault, and each of these is its answer.
 use Rattle.std.proofs.Common.{◌≡◌, List, [], ◌∷◌, ◌++◌, map, Result, Ok, Err, refl, sym, ap, subst, ◌∙◌, append_assoc}
 use Rattle.std.proofs.lemmas.List.{append-nil, map-append}
-use Rattle.lg_lex.specs.Tokens.{Lexeme}
+use Rattle.lg_lex.specs.Tokens.{Lexeme, Token}
 use Rattle.lg_knowread.specs.declared.fault.Fault.{Fault}
 use Rattle.lg_knowread.specs.declared.fault.Fault.TheVariants.{UnknownSection, BadPattern, BadType, Syntax}
 use Rattle.lg_knowread.specs.declared.knowledge.Knowledge.{Knowledge}
@@ -9,7 +9,7 @@ use Rattle.lg_knowread.specs.declared.reading.State.{State}
 use Rattle.lg_knowread.specs.declared.reading.State.TheVariants.{Name, Colon, First, Brace, Further, End}
 use Rattle.lg_knowread.specs.declared.reading.Reading.{Reading}
 use Rattle.lg_knowread.specs.Statements.{Statement, all_spelled, knowledge_of}
-use Rattle.lg_knowread.specs.Reading.{Token, lexeme, AreWritten, StopsAtEnd, Stops, FirstFault}
+use Rattle.lg_knowread.specs.Reading.{lexeme, AreWritten, StopsAtEnd, Stops, FirstFault}
 use Rattle.lg_knowread.specs.Automaton.{nothing, at, advance, Answer, read, stopped, follow, finish, run, answer_of}
 use Rattle.lg_knowread.proofs.Complete.{reach_on, reach, complete}
 use Rattle.lg_knowread.proofs.Fronts.{Reached, reached_start, reached_step, reached_begins, begun}

@@ -3,7 +3,7 @@ use Rattle.std.proofs.Common.{◌≡◌, ℕ, ◌+◌, ◌≤◌, Bool, true, fa
 use Rattle.lg_lex.specs.declared.token.Token as code_token
 use Rattle.lg_lex.specs.declared.token.Token.TheVariants as tokens
 use Rattle.lg_lex.specs.Found.{lexeme_of, following}
-use Rattle.lg_lex.specs.Tokens.{Lexeme, sign, quoted, plain, broken}
+use Rattle.lg_lex.specs.Tokens.{Lexeme, sign, quoted, plain, broken, Token}
 use Rattle.lg_knowread.specs.declared.fault.Fault.{Fault}
 use Rattle.lg_knowread.specs.declared.fault.Fault.TheVariants as faults
 use Rattle.lg_knowread.specs.declared.knowledge.Knowledge.{Knowledge}
@@ -14,7 +14,6 @@ use Rattle.lg_knowread.specs.declared.reading.State.{State}
 use Rattle.lg_knowread.specs.declared.reading.State.TheVariants.{Name, Colon, First, Brace, Further, End}
 use Rattle.lg_knowread.specs.declared.reading.Reading.{Reading}
 use Rattle.lg_knowread.specs.Statements.{Statement, starts, ignores, forbids, demands, bounds, cycles, rules_of}
-use Rattle.lg_knowread.specs.Reading.{Token}
 use Rattle.lg_knowread.specs.Automaton.{ruled, at, leads, with_word, with_list, with_sign, advance, follow, run}
 
 -- a token that is taken is not broken, so the tokens go on after it

@@ -6,8 +6,9 @@ use Rattle.std.specs.Cmp.Lexicographic.{same_text}
 use Rattle.std.proofs.lemmas.Bool.{false≢true, and_parts}
 use Rattle.std.proofs.lemmas.Bool.Decides.{nat_tests}
 use Rattle.std.proofs.lemmas.List.{take_at, drop_at, take-append-drop}
+use Rattle.lg_lex.specs.Tokens.{is_text}
 use Rattle.lg_gram.specs.Names.{is_capital, is_subscript, is_written}
-use Rattle.lg_gram.proofs.Names.{written_parts}
+use Rattle.lg_gram.proofs.Names.{written_parts, prefix_len-caps}
 use Rattle.lg_knowread.specs.declared.fault.Fault.{Fault}
 use Rattle.lg_knowread.specs.declared.fault.Fault.TheVariants.{UnknownSection, BadPattern, BadType}
 use Rattle.lg_knowread.specs.declared.knowledge.Pattern.{Pattern}
@@ -16,7 +17,7 @@ use Rattle.lg_knowread.specs.declared.words.Test.TheVariants.{NoneOf, OneOf, Non
 use Rattle.lg_knowread.specs.declared.words.Section.{Section}
 use Rattle.lg_knowread.specs.declared.words.Section.TheVariants.{Start, Ignore, Test, Bounded, Cycle}
 use Rattle.lg_knowread.specs.Statements.{is_kind, IsPattern}
-use Rattle.lg_knowread.specs.Words.{is_text, section_of, kind_of, pattern_of}
+use Rattle.lg_knowread.specs.Words.{section_of, kind_of, pattern_of}
 
 -- ---- names of sections
 
@@ -93,16 +94,6 @@ pattern_tested w n false is = refl
 
 pub pattern_is : (w : List ℕ) → PatternIs w (pattern_of w)
 pattern_is w = pattern_tested w (prefix_len is_capital w) _ refl
-
-prefix_len-caps : (caps subs : List ℕ) → list_all is_capital caps ≡ true → list_all is_subscript subs ≡ true → prefix_len is_capital (caps ++ subs) ≡ length caps
-prefix_len-caps [] [] all rest = refl
-prefix_len-caps [] (b ∷ subs) all rest =
-    let small = (and_parts (is_subscript b) (list_all is_subscript subs) rest).0 in
-    let none : is_capital b ≡ false = grind (arith, nat_tests) in
-    ap (λ (x : Bool). cond x (1 + prefix_len is_capital subs) 0) none
-prefix_len-caps (b ∷ caps) subs all rest =
-    let parts = and_parts (is_capital b) (list_all is_capital caps) all in
-    ap (λ (x : Bool). cond x (1 + prefix_len is_capital (caps ++ subs)) 0) parts.0 ∙ omega (arith, prefix_len-caps caps subs parts.1 rest)
 
 pub pattern_found : (p : Pattern) → IsPattern p → pattern_of (p.caps ++ p.subs) ≡ Ok p
 pattern_found p h =

@@ -1,6 +1,6 @@
 -- The same a token at a time: what may come next, with what is read of a statement.
 use Rattle.std.specs.Prelude.{ℕ, List, [], ◌∷◌, ◌++◌, true, false, ◌==◌, if◌then◌else◌, Result, Ok, Err}
-use Rattle.lg_lex.specs.Tokens.{Lexeme, sign, quoted, plain, broken}
+use Rattle.lg_lex.specs.Tokens.{Lexeme, sign, quoted, plain, broken, Token}
 use Rattle.lg_knowread.specs.declared.fault.Fault.{Fault}
 use Rattle.lg_knowread.specs.declared.fault.Fault.TheVariants.{UnknownSection, Syntax}
 use Rattle.lg_knowread.specs.declared.knowledge.Knowledge.{Knowledge}
@@ -18,7 +18,6 @@ use Rattle.lg_knowread.specs.declared.reading.State.TheVariants.{Name, Colon, Fi
 use Rattle.lg_knowread.specs.declared.reading.Reading.{Reading}
 use Rattle.lg_knowread.specs.Statements.{Statement, starts, ignores, forbids, demands, bounds, cycles, starts_of, ignored_of, rules_of}
 use Rattle.lg_knowread.specs.Words.{section_of, kind_of, pattern_of}
-use Rattle.lg_knowread.specs.Reading.{Token}
 
 abbrev pub nothing : Knowledge
 nothing = record { starts = []; ignored = []; rules = [] }

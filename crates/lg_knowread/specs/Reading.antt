@@ -1,11 +1,11 @@
 -- What the tokens of a knowledge text stand for, or the first of them at fault; and the same of a whole text.
-use Rattle.std.specs.Prelude.{◌≡◌, ℕ, List, [], ◌∷◌, ◌++◌, map, length, true, Result, Ok, Err}
-use Rattle.std.specs.Str.{IsUtf8, IsValidUpTo}
+use Rattle.std.specs.Prelude.{◌≡◌, ℕ, List, [], ◌∷◌, ◌++◌, map, true, Result, Ok, Err}
+use Rattle.std.specs.Str.{IsValidUpTo}
 use Rattle.lg_lex.specs.declared.marks.Marks.TheVariants as marks
 use Rattle.lg_lex.specs.declared.place.Place.{Place}
 use Rattle.lg_lex.specs.Marked.{without_mark}
-use Rattle.lg_lex.specs.Places.{place_of}
-use Rattle.lg_lex.specs.Tokens.{Lexeme, plain, AreTokens}
+use Rattle.lg_lex.specs.Spots.{place_left}
+use Rattle.lg_lex.specs.Tokens.{Lexeme, Token, plain, IsText}
 use Rattle.lg_knowread.specs.declared.fault.Fault.{Fault}
 use Rattle.lg_knowread.specs.declared.fault.Fault.TheVariants as faults
 use Rattle.lg_knowread.specs.declared.fault.KnowError.{KnowError}
@@ -13,10 +13,6 @@ use Rattle.lg_knowread.specs.declared.fault.KnowError.TheVariants.{NoMemory, Not
 use Rattle.lg_knowread.specs.declared.knowledge.Pattern.{Pattern}
 use Rattle.lg_knowread.specs.declared.knowledge.Knowledge.{Knowledge}
 use Rattle.lg_knowread.specs.Statements.{Statement, is_kind, IsPattern, AreStatements, pattern_token, kind_token, all_spelled, knowledge_of}
-
--- a token, and the number of bytes before it
-abbrev pub Token : Type 0
-Token = Lexeme × ℕ
 
 abbrev pub lexeme : Token → Lexeme
 lexeme t = t.0
@@ -83,19 +79,6 @@ pub record FirstFault (ts : List Token) (fault : Fault) (rest : List Token) : Ty
 
 -- ---- texts
 
--- the text is UTF-8, and has these tokens after a byte order mark, from which places count
-pub record IsText (bytes : List ℕ) (ts : List Token) : Type 0 where
-  pub utf8 : IsUtf8 bytes
-  pub tokens : AreTokens marks.Knowledge ts 0 (without_mark bytes)
-
--- where the first of the tokens that are left starts, or the end of the text
-abbrev pub offset_left : List ℕ → List Token → ℕ
-offset_left text [] = length text
-offset_left text (t ∷ ts) = t.1
-
-abbrev pub place_left : List ℕ → List Token → Place
-place_left text left = place_of text (offset_left text left)
-
 -- the error that tells a fault at this place
 abbrev pub error_at : Fault → Place → KnowError
 error_at faults.Syntax p = Syntax p.line p.column
@@ -106,8 +89,8 @@ error_at faults.BadType p = BadType p.line
 -- The text is some statements, or this error tells its first fault.
 pub data KnowledgeIs (bytes : List ℕ) : Result Knowledge KnowError → Type 0 where
   not_utf8 : (n : ℕ) → IsValidUpTo bytes n → KnowledgeIs bytes (Err (NotUtf8 n))
-  stands : (ts : List Token) (ss : List Statement) → IsText bytes ts → AreWritten ts ss → KnowledgeIs bytes (Ok (knowledge_of ss))
-  refused : (ts : List Token) (fault : Fault) (left : List Token) → IsText bytes ts → FirstFault ts fault left
+  stands : (ts : List Token) (ss : List Statement) → IsText marks.Knowledge bytes ts → AreWritten ts ss → KnowledgeIs bytes (Ok (knowledge_of ss))
+  refused : (ts : List Token) (fault : Fault) (left : List Token) → IsText marks.Knowledge bytes ts → FirstFault ts fault left
       → KnowledgeIs bytes (Err (error_at fault (place_left (without_mark bytes) left)))
 
 -- what the reader answers, unless memory ran out

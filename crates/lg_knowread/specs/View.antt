@@ -1,13 +1,14 @@
 -- What the reader tells of what its definitions say.
 use Rattle.std.specs.Prelude.{◌≡◌, List, ℕ, Result, Ok, Err}
 use Rattle.lg_lex.specs.declared.place.Place.{Place}
+use Rattle.lg_lex.specs.Spots.{place_left}
 use Rattle.lg_knowread.specs.declared.fault.Fault.{Fault}
 use Rattle.lg_knowread.specs.declared.fault.Refusal as refusal
 use Rattle.lg_knowread.specs.declared.fault.Refusal.TheVariants as refusals
 use Rattle.lg_knowread.specs.declared.fault.KnowError.{KnowError}
 use Rattle.lg_knowread.specs.declared.fault.KnowError.TheVariants.{NoMemory}
 use Rattle.lg_knowread.specs.declared.knowledge.Knowledge.{Knowledge}
-use Rattle.lg_knowread.specs.Reading.{place_left, error_at}
+use Rattle.lg_knowread.specs.Reading.{error_at}
 use Rattle.lg_knowread.specs.Automaton.{Answer, read, stopped}
 
 -- the result is as defined, unless memory ran out

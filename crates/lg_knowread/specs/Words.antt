@@ -1,8 +1,8 @@
 -- What a plain token writes, as a function.
-use Rattle.std.specs.Prelude.{ℕ, List, [], ◌∷◌, Bool, take, drop, ◌==◌, codes, if◌then◌else◌, Result, Ok, Err}
+use Rattle.std.specs.Prelude.{ℕ, List, [], ◌∷◌, take, drop, codes, if◌then◌else◌, Result, Ok, Err}
 use Rattle.std.specs.List.{prefix_len}
-use Rattle.std.specs.Cmp.Lexicographic.{pointwise}
 use Rattle.lg_gram.specs.Names.{is_capital, is_written}
+use Rattle.lg_lex.specs.Tokens.{is_text}
 use Rattle.lg_knowread.specs.declared.fault.Fault.{Fault}
 use Rattle.lg_knowread.specs.declared.fault.Fault.TheVariants.{UnknownSection, BadPattern, BadType}
 use Rattle.lg_knowread.specs.declared.knowledge.Pattern.{Pattern}
@@ -10,9 +10,6 @@ use Rattle.lg_knowread.specs.declared.words.Test.TheVariants.{NoneOf, OneOf, Non
 use Rattle.lg_knowread.specs.declared.words.Section.{Section}
 use Rattle.lg_knowread.specs.declared.words.Section.TheVariants.{Start, Ignore, Test, Bounded, Cycle}
 use Rattle.lg_knowread.specs.Statements.{is_kind}
-
-abbrev pub is_text : List ℕ → List ℕ → Bool
-is_text text w = pointwise ◌==◌ w text
 
 -- the section of this name
 abbrev pub section_of : List ℕ → Result Section Fault

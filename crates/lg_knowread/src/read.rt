@@ -10,7 +10,7 @@ ghost use Rattle.lg_knowread.specs.View.{TellsAnswer, TellsRefusal};
 use crate::fault::{Fault, KnowError, Refusal};
 use crate::knowledge::Knowledge;
 use crate::reading::{Reading, State};
-use lg_lex::{Marks, Place, next_token, tokens_are_one_list, utf8_fault, without_mark};
+use lg_lex::{Marks, Place, Spot, next_spotted, tokens_are_one_list, utf8_fault, without_mark};
 use std::alloc::Global;
 
 /// The knowledge of a text: its statements one after another, each a section's name, a colon, what it says and a
@@ -39,20 +39,17 @@ fn read_text(alloc: Global, text: &[u8]) -> Result<Knowledge, KnowError>
         knowledge: Knowledge::new(alloc),
         state: State::Name,
     };
-    let mut at = 0;
-    let mut place = Place::START;
-    while let Some(found) = next_token(Marks::Knowledge, text, at) {
-        let start = place.past(&text[at..found.start]);
+    let mut spot = Spot::START;
+    while let Some(found) = next_spotted(Marks::Knowledge, text, spot) {
         match reading.advance(alloc, &found.token) {
             Ok(next) => reading = next,
-            Err(refusal) => return Err(error_of(refusal, start)),
+            Err(refusal) => return Err(error_of(refusal, found.start.place)),
         }
-        place = start.past(&text[found.start..found.end]);
-        at = found.end;
+        spot = found.end;
     }
     match reading.state {
         State::Name => Ok(reading.knowledge),
-        _ => Err(error_at(Fault::Syntax, place.past(&text[at..]))),
+        _ => Err(error_at(Fault::Syntax, spot.on_to(text, text.len()).place)),
     }
 }
 

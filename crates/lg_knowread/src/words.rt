@@ -1,15 +1,13 @@
 //! What the plain tokens of a knowledge text write: names of sections, kinds of domains and patterns.
 
-ghost use Rattle.std.specs.Prelude.{◌≡◌, ◌≤◌, length};
-ghost use Rattle.std.specs.List.{prefix_len};
-ghost use Rattle.lg_gram.specs.Names.{is_capital};
+ghost use Rattle.std.specs.Prelude.{◌≡◌};
 ghost use Rattle.lg_knowread.specs.Words.{section_of, kind_of, pattern_of};
 ghost use Rattle.lg_knowread.specs.View.{Gives};
 
 use crate::fault::{Fault, Refusal};
 use crate::knowledge::Pattern;
 use lg_base::Text;
-use lg_gram::Label;
+use lg_gram::{Label, capitals};
 use std::alloc::Global;
 
 /// A rule that looks for other links where one matches its trigger.
@@ -80,12 +78,4 @@ pub(crate) fn pattern_of(alloc: Global, word: &[u8]) -> Result<Pattern, Refusal>
         }),
         None => Err(Refusal::Fault(Fault::BadPattern)),
     }
-}
-
-/// How many capital letters stand at the front.
-fn capitals(word: &[u8]) -> usize
-    ensures within { result ≤ length word.now }
-    ensures count { result ≡ prefix_len is_capital word.now }
-{
-    word.iter().take_while(|b| b.is_ascii_uppercase()).count()
 }

@@ -1,10 +1,12 @@
 -- What a text is made of: gaps and tokens in turn.
-use Rattle.std.specs.Prelude.{◌≡◌, ◌≢◌, ℕ, ◌+◌, List, [], ◌∷◌, ◌++◌, length, ◌⊎◌}
+use Rattle.std.specs.Prelude.{◌≡◌, ◌≢◌, ◌==◌, ℕ, ◌+◌, Bool, List, [], ◌∷◌, ◌++◌, length, ◌⊎◌}
+use Rattle.std.specs.Cmp.Lexicographic.{pointwise}
 use Rattle.std.specs.List.{flat_map, AllByRecursion}
 use Rattle.std.specs.Str.{IsUtf8}
 use Rattle.lg_lex.specs.declared.marks.Class.TheVariants.{Blank, LineEnd, Percent, Quote, Sign, Other}
 use Rattle.lg_lex.specs.declared.marks.Marks.{Marks}
 use Rattle.lg_lex.specs.Classes.{line_feed, percent_sign, quotation_mark, class_of}
+use Rattle.lg_lex.specs.Marked.{without_mark}
 
 -- a sign, what stands in quotes, a plain run of bytes, or a quote that is closed at once or not on its line
 pub data Lexeme : Type 0 where
@@ -12,6 +14,14 @@ pub data Lexeme : Type 0 where
   quoted : List ℕ → Lexeme
   plain : List ℕ → Lexeme
   broken : Lexeme
+
+-- a token of a text, and the number of bytes before it
+abbrev pub Token : Type 0
+Token = Lexeme × ℕ
+
+-- the word is this text
+abbrev pub is_text : List ℕ → List ℕ → Bool
+is_text text w = pointwise ◌==◌ w text
 
 -- what stands between tokens: a byte of white space, or a comment with the line feed that ends it
 pub data Skip : Type 0 where
@@ -87,13 +97,18 @@ AfterToken (plain w) ends goes_on = goes_on
 AfterToken broken ends goes_on = ends
 
 -- the tokens of a text, each with the number of bytes before it, where so many bytes stand before the text
-abbrev pub AreTokens : Marks → List (Lexeme × ℕ) → ℕ → List ℕ → Type 0
+abbrev pub AreTokens : Marks → List Token → ℕ → List ℕ → Type 0
 AreTokens marks [] before bytes = (gap : List Skip) × (tail : List ℕ)
     × IsGap marks gap × IsTail marks tail × (bytes ≡ gap_text gap ++ tail)
 AreTokens marks (t ∷ ts) before bytes = (gap : List Skip) × (text : List ℕ) × (rest : List ℕ)
     × IsGap marks gap × Spells marks t.0 text rest
     × (bytes ≡ gap_text gap ++ (text ++ rest)) × (t.1 ≡ before + length (gap_text gap))
     × AfterToken t.0 (ts ≡ []) (AreTokens marks ts (t.1 + length text) rest)
+
+-- a text of bytes is UTF-8, and has these tokens after a byte order mark, from which places count
+pub record IsText (marks : Marks) (bytes : List ℕ) (ts : List Token) : Type 0 where
+  pub utf8 : IsUtf8 bytes
+  pub tokens : AreTokens marks ts 0 (without_mark bytes)
 
 -- the bytes that the token quotes, or that it is, are UTF-8
 abbrev pub HasUtf8 : Lexeme → Type 0

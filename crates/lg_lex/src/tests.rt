@@ -1,7 +1,7 @@
 use crate::{
-    Class, Marks, Place, Separators, Token, bytes_are_utf8_or_at_fault, class_of, next_run,
-    next_token, place_at, places_add_up, runs_are_one_list, tokens_are_one_list, tokens_are_utf8,
-    utf8_fault, without_mark,
+    Class, Marks, Place, Separators, Spot, Token, bytes_are_utf8_or_at_fault, class_of, next_run,
+    next_spotted, next_token, place_at, places_add_up, runs_are_one_list, tokens_are_one_list,
+    tokens_are_utf8, utf8_fault, without_mark,
 };
 use std::test::Fail;
 
@@ -95,6 +95,19 @@ fn places_count_lines_and_bytes(rt: HostRuntime) {
             column: 2
         }
     );
+}
+
+#[test]
+fn tokens_have_their_spots(rt: HostRuntime) -> Result<(), Fail> {
+    let text = b"% a\n x:".as_slice();
+    let word = next_spotted(Marks::Knowledge, text, Spot::START).ok_or("a token")?;
+    assert_eq!(rt; (word.start.at, word.end.at), (5, 6));
+    assert_eq!(rt; word.start.place, Place { line: 2, column: 2 });
+    assert_eq!(rt; word.end.place, Place { line: 2, column: 3 });
+    let colon = next_spotted(Marks::Knowledge, text, word.end).ok_or("a token")?;
+    assert_eq!(rt; (colon.token, colon.start), (Token::Sign(b':'), word.end));
+    assert_eq!(rt; next_spotted(Marks::Knowledge, text, colon.end), None);
+    Ok(())
 }
 
 #[test]

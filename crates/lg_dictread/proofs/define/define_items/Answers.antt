@@ -6,8 +6,9 @@ use Rattle.std.specs.Slice.Iter.{iter_rest}
 use Rattle.lg_gram.specs.declared.entry.Item.{Item}
 use Rattle.lg_lex.specs.declared.run.Separators.TheVariants.{WhiteSpace}
 use Rattle.lg_base.specs.Contents.{Contents}
+use Rattle.lg_base.specs.Files.{AsksWithin}
 use Rattle.lg_dictread.specs.Definitions.{asked_by, define, refuse_items}
-use Rattle.lg_dictread.specs.Telling.{AsksWithin, Answers, IsMissing, OnError}
+use Rattle.lg_dictread.specs.Telling.{Answers, IsMissing, OnError}
 use Rattle.lg_dictread.specs.Defining.{HasUtf8Name, Listed, defined_in, listed_in, none_listed, ItemIs}
 use Rattle.lg_dictread.proofs.ItemAnswers.{Laws}
 use Rattle.lg_dictread.proofs.ItemsTold.{SoFar, so_far_none, so_far_more, so_far_all, so_far_error, one_pair, no_pair, one_first}

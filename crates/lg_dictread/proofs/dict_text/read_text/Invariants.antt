@@ -1,7 +1,7 @@
 use Rattle.std.proofs.Common.{◌≡◌, ◌≤◌, length, map}
 use Rattle.lg_lex.specs.declared.marks.Marks.TheVariants.{Dictionary}
 use Rattle.lg_lex.specs.Lexing.{tokens_from}
-use Rattle.lg_dictread.specs.Spots.{IsSpot}
+use Rattle.lg_lex.specs.Spots.{IsSpot}
 use Rattle.lg_dictread.specs.DictTexts.{entry_meaning}
 use Rattle.lg_dictread.specs.Reading.{earlier_of, IsKept, ListsAll, AreUtf8}
 use Rattle.lg_dictread.proofs.TextsTold.{Leads}

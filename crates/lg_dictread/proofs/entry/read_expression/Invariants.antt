@@ -1,10 +1,11 @@
 use Rattle.std.proofs.Common.{◌≡◌, ◌-◌, length}
 use Rattle.lg_lex.specs.declared.marks.Marks.TheVariants.{Dictionary}
 use Rattle.lg_lex.specs.Lexing.{tokens_from}
+use Rattle.lg_lex.specs.Tokens.{Token}
+use Rattle.lg_lex.specs.Spots.{IsSpot}
 use Rattle.lg_expr.specs.Automaton.{start, run}
 use Rattle.lg_expr.specs.View.{state_of}
-use Rattle.lg_dictread.specs.Entries.{Token, part}
-use Rattle.lg_dictread.specs.Spots.{IsSpot}
+use Rattle.lg_dictread.specs.Entries.{part}
 use Rattle.lg_dictread.proofs.entry.read_expression.Given as goal
 
 -- what is left leads from the state to the same answer

@@ -2,8 +2,8 @@ use Rattle.std.proofs.Common.{◌≡◌, ◌-◌, ℕ, List, [], length}
 use Rattle.lg_gram.specs.declared.entry.Item.{Item}
 use Rattle.lg_lex.specs.declared.marks.Marks.TheVariants.{Dictionary}
 use Rattle.lg_lex.specs.Lexing.{tokens_from}
+use Rattle.lg_lex.specs.Spots.{IsSpot}
 use Rattle.lg_dictread.specs.Scanning.{scan}
-use Rattle.lg_dictread.specs.Spots.{IsSpot}
 use Rattle.lg_dictread.specs.View.{KeepsItems}
 use Rattle.lg_dictread.proofs.items.read_items.Given as goal
 
