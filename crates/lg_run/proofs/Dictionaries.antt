@@ -92,48 +92,12 @@ pub one_text : OneDictionary → (contents : Contents) (name bytes : List ℕ) �
 one_text law contents name bytes _ _ _ _ (reads asked answer p) (reads other reply q) =
     let same = law contents bytes asked other answer reply p q in (same.0, ap (found_in name) same.1)
 
--- where the answer is known, all that is read for it was asked
-pub asks_answered : OneDictionary → (known : Option Contents) (name bytes : List ℕ) (old new : List (List ℕ)) (answer : TextAnswer) →
-    Answers known (DictionaryOf bytes) old new answer → IfSome known (λ contents. AsksInOrder (DictionaryReads contents name bytes) old new)
-asks_answered law None name bytes old new answer h = tt
-asks_answered law (Some contents) name bytes old new answer h = asks where
-  asks : AsksInOrder (DictionaryReads contents name bytes) old new
-  asks _ _ (reads asked other q) = (asked, [], sym (append-nil asked), h.1 ∙ ap (λ (l : List (List ℕ)). old ++ l) (law contents bytes h.0 asked answer other h.2 q).0)
-
-asks_front : (known : Option Contents) (name bytes : List ℕ) (old new : List (List ℕ)) → AsksFront known (DictionaryOf bytes) old new → IfSome known (λ contents. AsksInOrder (DictionaryReads contents name bytes) old new)
-asks_front None name bytes old new h = tt
-asks_front (Some contents) name bytes old new h = asks where
+-- no more was asked than the format reads
+pub asks_text : (known : Option Contents) (name bytes : List ℕ) (old new : List (List ℕ)) → AsksFront known (DictionaryOf bytes) old new → IfSome known (λ contents. AsksInOrder (DictionaryReads contents name bytes) old new)
+asks_text None name bytes old new h = tt
+asks_text (Some contents) name bytes old new h = asks where
   asks : AsksInOrder (DictionaryReads contents name bytes) old new
   asks _ _ (reads asked answer q) = h asked answer q
-
-module _ (law : OneDictionary) (known : Option Contents) (name bytes : List ℕ) (old new : List (List ℕ)) where
-  abbrev Asks : Type 0
-  Asks = IfSome known (λ contents. AsksInOrder (DictionaryReads contents name bytes) old new)
-
-  abbrev Says : DictError → Type 0
-  Says error = Answers known (DictionaryOf bytes) old new (refuse error)
-
-  abbrev Told : DictError → Type 0
-  Told error = OnError (IsMissing known) (AsksFront known (DictionaryOf bytes) old new) Says error
-
-  said : (error : DictError) → Says error → Asks
-  said error h = asks_answered law known name bytes old new (refuse error) h
-
-  -- whatever the error is, no more was asked than is read
-  pub asks_error : (error : DictError) → Told error → Asks
-  asks_error errors.NoMemory h = asks_front known name bytes old new h
-  asks_error (errors.WordFile line file causes.Failed) h = asks_front known name bytes old new h.0
-  asks_error (errors.WordFile line file causes.TooLong) h = said (errors.WordFile line file causes.TooLong) h
-  asks_error (errors.WordFile line file (causes.NotUtf8 n)) h = said (errors.WordFile line file (causes.NotUtf8 n)) h
-  asks_error (errors.NotUtf8 n) h = said (errors.NotUtf8 n) h
-  asks_error (errors.Syntax line column) h = said (errors.Syntax line column) h
-  asks_error (errors.UnknownMacro line macro) h = said (errors.UnknownMacro line macro) h
-  asks_error (errors.CostForm line) h = said (errors.CostForm line) h
-  asks_error (errors.TooDeep line) h = said (errors.TooDeep line) h
-  asks_error (errors.TooManyNodes line n) h = said (errors.TooManyNodes line n) h
-  asks_error (errors.TooManyChoices line n) h = said (errors.TooManyChoices line n) h
-  asks_error (errors.SideTooLong line n) h = said (errors.SideTooLong line n) h
-  asks_error (errors.DuplicateWord word n m) h = said (errors.DuplicateWord word n m) h
 
 -- an error that is a fault of the input says the line of the first text that is refused
 abbrev pub ErrorTold : Contents → List ℕ → List ℕ → List (List ℕ) → List (List ℕ) → DictError → Type 0

@@ -3,7 +3,7 @@ use Rattle.std.proofs.Common.{◌≡◌, ℕ, ◌≤◌, List, [], ◌∷◌, �
 use Rattle.std.proofs.lemmas.List.{append-nil, append_assoc}
 use Rattle.std.specs.declared.result.Result.{Result}
 use Rattle.std.specs.declared.result.Result.TheVariants.{Ok, Err}
-use Rattle.lg_dictread.specs.Telling.{AsksWithin}
+use Rattle.lg_base.specs.Files.{AsksWithin}
 use Rattle.lg_run.specs.Inputs.{Found, Reading, accepted, refused, missing, HasSome, IsOne, given, Followed, both, ends_refused, ends_missing}
 use Rattle.lg_run.specs.Reads.{AsksInOrder, Comes, TellsStop, Tells}
 use Rattle.lg_run.specs.Stops.{stop_status, stop_line}

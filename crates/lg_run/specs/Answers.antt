@@ -4,11 +4,12 @@ use Rattle.std.specs.declared.option.Option.{Option}
 use Rattle.std.specs.Io.KnownBytes.{Appends, Keeps}
 use Rattle.lg_base.specs.Contents.{Contents}
 use Rattle.lg_base.specs.Faults.{Rose}
+use Rattle.lg_base.specs.Files.{EndsWith}
 use Rattle.lg_base.specs.Sinks.{AppendsFront}
 use Rattle.lg_dictread.specs.declared.dict_error.DictError.{DictError}
 use Rattle.lg_run.specs.Words.{Task, SENTENCE}
 use Rattle.lg_run.specs.Inputs.{Reading, accepted, refused, Given, OneGiven, InputsAre}
-use Rattle.lg_run.specs.Reads.{Comes, EndsWith}
+use Rattle.lg_run.specs.Reads.{Comes}
 use Rattle.lg_run.specs.Documents.{DocumentIs}
 use Rattle.lg_run.specs.Lines.{usage_line, memory_line, output_line, unreadable_line, too_long_line, dict_line}
 use Rattle.lg_run.specs.declared.status.Status.{Status}

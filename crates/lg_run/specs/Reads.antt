@@ -3,7 +3,7 @@ use Rattle.std.specs.Prelude.{◌≡◌, ℕ, ◌≤◌, List, [], ◌∷◌, �
 use Rattle.std.specs.declared.result.Result.{Result}
 use Rattle.std.specs.declared.result.Result.TheVariants.{Ok, Err}
 use Rattle.lg_base.specs.Faults.{Rose}
-use Rattle.lg_dictread.specs.Telling.{AsksWithin}
+use Rattle.lg_base.specs.Files.{AsksWithin, EndsWith}
 use Rattle.lg_run.specs.Inputs.{Found, Reading, accepted, refused, Given, OneGiven}
 use Rattle.lg_run.specs.Lines.{unreadable_line}
 use Rattle.lg_run.specs.Stops.{stop_status, stop_line}
@@ -32,10 +32,6 @@ TellsStop reading old new _ line = ⊤
 abbrev pub Tells : {A T : Type 0} → (T → A) → Reading A → List (List ℕ) → List (List ℕ) → Result T Stop → Type 0
 Tells view reading old new (Ok value) = Comes reading old new (accepted (view value))
 Tells view reading old new (Err stop) = TellsStop reading old new (stop_status stop) (stop_line stop)
-
--- this name was asked last
-abbrev pub EndsWith : List (List ℕ) → List ℕ → Type 0
-EndsWith asked name = (earlier : List (List ℕ)) × (asked ≡ earlier ++ name ∷ [])
 
 -- why a stop is a read fault: the count of faults rose, and its line has the name asked last
 abbrev pub IsFaultOf : List (List ℕ) → ℕ → ℕ → Status → List ℕ → Type 0

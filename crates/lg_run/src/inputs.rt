@@ -103,7 +103,6 @@ fn take_apart<'a, F: Files>(
     ensures told { IfSome (F.contents files.old) (λ known. Tells (λ d. d) (DictionaryReads known name.now bytes.now) (F.asked files.old) (F.asked files.new) result) }
     ensures cause { HasCause (F.asked files.new) (F.faults files.old) (F.faults files.new) result }
 {
-    exactly_one_dictionary();
     match read_dict(alloc, bytes, files) {
         Ok(entries) => match Dict::of(alloc, entries) {
             Ok(dict) => Ok(dict),

@@ -28,8 +28,9 @@ pub(crate) fn document(alloc: Global, dict: &Dict, sentence: &str) -> Result<Vec
 fn first_page(alloc: Global, listing: Listing) -> Result<Vec<u8>, NoMemory>
     ensures { IfOk result (λ text. (page : Page) × IsPage no_knowledge listing.candidates listing.position default_options.want default_options.examine page × (text.items ≡ page_text listing.tokens page)) }
 {
-    let Options { want, examine } = Options::default();
-    let (listing, page) = listing.page(alloc, &no_knowledge(alloc), want, examine)?;
+    let options = Options::default();
+    let know = no_knowledge(alloc);
+    let (listing, page) = listing.page(alloc, &know, options.want, options.examine)?;
     page_text(alloc, listing.tokens(), &page)
 }
 

@@ -4,14 +4,23 @@ use Rattle.lg_dict.specs.Dictionary.{Dictionary}
 use Rattle.lg_dictread.specs.Texts.{stands}
 use Rattle.lg_dictread.specs.DictTexts.{entry_meaning}
 use Rattle.lg_run.specs.Inputs.{accepted, DictionaryReads, reads}
-use Rattle.lg_run.proofs.Dictionaries.{same_dictionary, asks_answered, asks_error, told_error}
+use Rattle.lg_run.proofs.Dictionaries.{same_dictionary, asks_text, told_error}
 use Rattle.lg_run.proofs.inputs.take_apart.Goals as goal
 
--- the dictionary of the entries
+-- no more was asked than the format reads
 pub returns-in-Ok-of-clause-names : goal.returns-in-Ok-of-clause-names
 returns-in-Ok-of-clause-names g c =
-    asks_answered c.exactly_one_dictionary.ensures.one (g.F.Files.contents c.args.files.now) c.args.name.now c.args.bytes.now (g.F.Files.asked c.args.files.now) (g.F.Files.asked c.read_dict.new.files) (stands (map entry_meaning c.in-Ok.entries.items)) c.in-Ok.ensures.value
+    asks_text (g.F.Files.contents c.args.files.now) c.args.name.now c.args.bytes.now (g.F.Files.asked c.args.files.now) (g.F.Files.asked c.read_dict.new.files) c.read_dict.ensures.asks
 
+pub returns-in-Err-of-clause-names : goal.returns-in-Err-of-clause-names
+returns-in-Err-of-clause-names g c =
+    asks_text (g.F.Files.contents c.args.files.now) c.args.name.now c.args.bytes.now (g.F.Files.asked c.args.files.now) (g.F.Files.asked c.read_dict.new.files) c.read_dict.ensures.asks
+
+pub returns-in-Err-clause-names : goal.returns-in-Err-clause-names
+returns-in-Err-clause-names g c =
+    asks_text (g.F.Files.contents c.args.files.now) c.args.name.now c.args.bytes.now (g.F.Files.asked c.args.files.now) (g.F.Files.asked c.read_dict.new.files) c.read_dict.ensures.asks
+
+-- the dictionary of the entries
 pub returns-in-Ok-of-clause-told : goal.returns-in-Ok-of-clause-told
 returns-in-Ok-of-clause-told g c =
     let entries = c.in-Ok.entries.items in
@@ -24,16 +33,7 @@ returns-in-Ok-of-clause-told g c =
       grown = is.1;
     })
 
--- memory runs out, where all is asked
-pub returns-in-Err-of-clause-names : goal.returns-in-Err-of-clause-names
-returns-in-Err-of-clause-names g c =
-    asks_answered c.exactly_one_dictionary.ensures.one (g.F.Files.contents c.args.files.now) c.args.name.now c.args.bytes.now (g.F.Files.asked c.args.files.now) (g.F.Files.asked c.read_dict.new.files) (stands (map entry_meaning c.in-Ok.entries.items)) c.in-Ok.ensures.value
-
 -- an error of the text or of a word file
-pub returns-in-Err-clause-names : goal.returns-in-Err-clause-names
-returns-in-Err-clause-names g c =
-    asks_error c.exactly_one_dictionary.ensures.one (g.F.Files.contents c.args.files.now) c.args.name.now c.args.bytes.now (g.F.Files.asked c.args.files.now) (g.F.Files.asked c.read_dict.new.files) c.in-Err.error c.in-Err.ensures.fault
-
 pub returns-in-Err-clause-told : goal.returns-in-Err-clause-told
 returns-in-Err-clause-told g c =
     told_error (g.F.Files.contents c.args.files.now) c.args.name.now c.args.bytes.now (g.F.Files.asked c.args.files.now) (g.F.Files.asked c.read_dict.new.files) c.in-Err.error c.in-Err.ensures.fault
