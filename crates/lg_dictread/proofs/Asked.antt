@@ -1,5 +1,5 @@
 -- What a call that reads a dictionary file asks for, where a file has one answer.
-use Rattle.std.proofs.Common.{◌≡◌, ℕ, ◌++◌, List, [], Option, None, Some, Result, Ok, Err, IfOk, IfErr, refl, sym, ap, ◌∙◌}
+use Rattle.std.proofs.Common.{◌≡◌, ℕ, List, [], Option, Result, Ok, Err, IfOk, IfErr, sym, ◌∙◌}
 use Rattle.std.proofs.lemmas.List.{append-nil}
 use Rattle.lg_base.specs.Contents.{Contents}
 use Rattle.lg_dictread.specs.declared.dict_error.DictError.{DictError}

@@ -13,7 +13,7 @@ use Rattle.lg_dictread.specs.declared.dict_error.DictError.{DictError}
 use Rattle.lg_dictread.specs.declared.dict_error.DictError.TheVariants.{WordFile}
 use Rattle.lg_dictread.specs.declared.dict_error.WordFileError.{WordFileError}
 use Rattle.lg_dictread.specs.declared.dict_error.WordFileError.TheVariants.{Failed, TooLong, NotUtf8}
-use Rattle.lg_dictread.specs.Definitions.{Lines, IsTwice, Defined, gives, fails, FileGives, runs, asked_by, on_line, refuse_items, ItemsGive, defines, twice, unread}
+use Rattle.lg_dictread.specs.Definitions.{Lines, IsTwice, Defined, gives, fails, FileGives, runs, asked_by, on_line, refuse_items, defines, twice, unread}
 use Rattle.lg_dictread.specs.Telling.{Answers, IsMissing, OnError}
 use Rattle.lg_dictread.specs.Defining.{AddsNames, TellsNames, Listed, AddsDefined, ItemIs, TellsDefined, IsUnread, TellsFile, AsksFile}
 use Rattle.lg_dictread.proofs.ErrorMaps.{if_some, if_some_map, memory_error, memory_both, error_untold}

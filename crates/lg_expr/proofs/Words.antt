@@ -1,11 +1,11 @@
 -- A token is the part that it writes, and wrong where it writes none.
-use Rattle.std.proofs.Common.{◌≡◌, ℕ, suc, ◌+◌, ◌-◌, ◌<◌, Bool, true, false, cond, nat_eq, List, [], ◌∷◌, ◌++◌, length, take, drop, get_or, None, Some, refl, sym, ap, subst, ◌∙◌, append_assoc, length-append, arith}
+use Rattle.std.proofs.Common.{◌≡◌, ℕ, suc, ◌-◌, ◌<◌, Bool, true, false, cond, nat_eq, List, [], ◌∷◌, ◌++◌, length, take, drop, get_or, None, Some, refl, sym, ap, subst, ◌∙◌, append_assoc, length-append, arith}
 use Rattle.std.specs.List.{list_all, prefix_len}
 use Rattle.std.proofs.lemmas.Bool.{eqb-true, and_parts}
 use Rattle.std.proofs.lemmas.Bool.Decides.{nat_tests}
 use Rattle.std.proofs.lemmas.List.{take_at, drop_at, drop_all, take-append-drop}
 use Rattle.std.proofs.Math.Seq.{drop-cons, get_or-append_seam}
-use Rattle.lg_gram.specs.Names.{is_capital, is_subscript, is_written, trimmed}
+use Rattle.lg_gram.specs.Names.{is_capital, is_written, trimmed}
 use Rattle.lg_gram.specs.Connectors.{Connector}
 use Rattle.lg_gram.proofs.Names.{written_parts, prefix_len-caps}
 use Rattle.lg_expr.specs.Words.{at_text, sign_text, WritesConnector, IsMacroName}
