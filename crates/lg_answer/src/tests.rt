@@ -121,20 +121,69 @@ fn expect_count<R: Abort>(rt: &R, page: &Page, count: usize, next: u64, end: boo
     assert!(rt; page.items.items().len() == count && page.next == next && page.end == end);
 }
 
+// The listing of a sentence at its start.
+fn started(alloc: Global, entries: Vec<Entry>, text: &str) -> Result<Listing, Fail>
+    requires entries { AreEntries entries.items }
+    requires short { length text.now < 2 ^ 32 }
+{
+    let dict = Dict::of(alloc, entries)?;
+    Ok(Listing::start(alloc, &View::of(alloc, &dict), text)?)
+}
+
+// The next page, where no rule or the strict one is asked of candidates.
+fn turned(
+    alloc: Global,
+    listing: Listing,
+    strict: bool,
+    options: Options,
+) -> Result<(Listing, Page), Fail> {
+    let know = knowledge(alloc, strict)?;
+    Ok(listing.page(alloc, &know, options.want, options.examine)?)
+}
+
+// Wants that the next page of one is so, and gives the listing after it.
+fn expect_next<R: Abort>(
+    rt: &R,
+    alloc: Global,
+    listing: Listing,
+    number: u32,
+    word: &[u8],
+) -> Result<Listing, Fail> {
+    let options = Options {
+        want: 1,
+        examine: 10,
+    };
+    let (listing, page) = turned(alloc, listing, false, options)?;
+    expect_one(rt, &page, number, word);
+    Ok(listing)
+}
+
+// Wants that the next page has this many candidates, and gives the listing after it.
+fn expect_turn<R: Abort>(
+    rt: &R,
+    alloc: Global,
+    listing: Listing,
+    want: u64,
+    count: usize,
+    next: u64,
+) -> Result<Listing, Fail> {
+    let options = Options {
+        want,
+        examine: 1000,
+    };
+    let (listing, page) = turned(alloc, listing, false, options)?;
+    expect_count(rt, &page, count, next, count == 0);
+    Ok(listing)
+}
+
 #[test]
 fn pages_of_one(rt: HostRuntime) -> Result<(), Fail> {
     let alloc = rt.alloc();
-    let dict = dict(alloc)?;
-    let know = knowledge(alloc, false)?;
-    let listing = Listing::start(alloc, &View::of(alloc, &dict), "x run")?;
-    let (listing, first) = listing.page(alloc, &know, 1, 10)?;
-    expect_one(&rt, &first, 1, b"run.n");
-    let (listing, second) = listing.page(alloc, &know, 1, 10)?;
-    expect_one(&rt, &second, 2, b"run.v");
-    let (listing, third) = listing.page(alloc, &know, 1, 10)?;
-    expect_one(&rt, &third, 3, b"run.n");
-    let (_, last) = listing.page(alloc, &know, 1, 10)?;
-    expect_count(&rt, &last, 0, 4, true);
+    let listing = started(alloc, entries(alloc)?, "x run")?;
+    let listing = expect_next(&rt, alloc, listing, 1, b"run.n")?;
+    let listing = expect_next(&rt, alloc, listing, 2, b"run.v")?;
+    let listing = expect_next(&rt, alloc, listing, 3, b"run.n")?;
+    expect_turn(&rt, alloc, listing, 1, 0, 4)?;
     Ok(())
 }
 
@@ -155,34 +204,23 @@ fn sharing(alloc: Global) -> Result<Vec<Entry>, Fail>
 #[test]
 fn pages_of_one_and_a_long_skip(rt: HostRuntime) -> Result<(), Fail> {
     let alloc = rt.alloc();
-    let dict = Dict::of(alloc, sharing(alloc)?)?;
-    let view = View::of(alloc, &dict);
-    let know = knowledge(alloc, false)?;
-    let listing = Listing::start(alloc, &view, "w z z z")?;
-    let (listing, first) = listing.page(alloc, &know, 1, 1000)?;
-    expect_count(&rt, &first, 1, 2, false);
-    let (listing, second) = listing.page(alloc, &know, 1, 1000)?;
-    expect_count(&rt, &second, 1, 3, false);
-    let (_, third) = listing.page(alloc, &know, 1, 1000)?;
-    expect_count(&rt, &third, 0, 3, true);
-    let listing = Listing::start(alloc, &view, "w z z z")?;
-    let (_, last) = listing.skip(5).page(alloc, &know, 1, 1000)?;
-    expect_count(&rt, &last, 0, 3, true);
+    let listing = started(alloc, sharing(alloc)?, "w z z z")?;
+    let listing = expect_turn(&rt, alloc, listing, 1, 1, 2)?;
+    let listing = expect_turn(&rt, alloc, listing, 1, 1, 3)?;
+    expect_turn(&rt, alloc, listing, 1, 0, 3)?;
+    let listing = started(alloc, sharing(alloc)?, "w z z z")?;
+    expect_turn(&rt, alloc, listing.skip(5), 1, 0, 3)?;
     Ok(())
 }
 
 #[test]
 fn skips(rt: HostRuntime) -> Result<(), Fail> {
     let alloc = rt.alloc();
-    let dict = dict(alloc)?;
-    let know = knowledge(alloc, false)?;
-    let listing = Listing::start(alloc, &View::of(alloc, &dict), "x run")?;
+    let listing = started(alloc, entries(alloc)?, "x run")?;
     assert!(rt; listing.tokens().items().len() == 2 && listing.problem().positions().len() == 2);
     assert!(rt; listing.stats().disjuncts == 6 && listing.stats().kept == 6);
-    let (listing, page) = listing.skip(1).page(alloc, &know, 10, 1)?;
-    expect_one(&rt, &page, 2, b"run.v");
-    let Options { want, examine } = Options::default();
-    let (_, last) = listing.skip(u64::MAX).page(alloc, &know, want, examine)?;
+    let listing = expect_next(&rt, alloc, listing.skip(1), 2, b"run.v")?;
+    let (_, last) = turned(alloc, listing.skip(u64::MAX), false, Options::default())?;
     expect_count(&rt, &last, 0, 4, true);
     Ok(())
 }
@@ -190,10 +228,12 @@ fn skips(rt: HostRuntime) -> Result<(), Fail> {
 #[test]
 fn first_is_broken(rt: HostRuntime) -> Result<(), Fail> {
     let alloc = rt.alloc();
-    let dict = dict(alloc)?;
-    let know = knowledge(alloc, true)?;
-    let listing = Listing::start(alloc, &View::of(alloc, &dict), "x run")?;
-    let (listing, page) = listing.page(alloc, &know, 1, 10)?;
+    let options = Options {
+        want: 1,
+        examine: 10,
+    };
+    let listing = started(alloc, entries(alloc)?, "x run")?;
+    let (listing, page) = turned(alloc, listing, true, options)?;
     expect_count(&rt, &page, 2, 3, false);
     let broken = Violation {
         rule: 1,
@@ -201,7 +241,7 @@ fn first_is_broken(rt: HostRuntime) -> Result<(), Fail> {
         right: 1,
     };
     expect_first_broken(&rt, &page, broken);
-    let (_, last) = listing.page(alloc, &know, 10, 10)?;
+    let (_, last) = turned(alloc, listing, true, Options::default())?;
     expect_count(&rt, &last, 1, 4, true);
     Ok(())
 }
