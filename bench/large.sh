@@ -14,5 +14,5 @@ repeated() { python3 -c 'import sys; sys.stdout.write(sys.argv[1] * int(sys.argv
 { printf 'a: A+'; repeated ' or A+' 999998; printf ';'; } >"$folder/nodes"
 { printf 'a: '; repeated '(' 200; printf 'A+'; repeated ')' 200; printf ';'; } >"$folder/brackets"
 for name in letters formula nodes brackets; do
-  /usr/bin/time -q -f "$name: %e s, %M kB" "$program" one "$folder/$name" a | tail -n 1
+  /usr/bin/time -q -f "$name: %e s, %M kB" "$program" one "$folder/$name" b | tail -n 1
 done
