@@ -1,6 +1,7 @@
 -- Look-ups by bytes in tables whose keys are bytes.
-use Rattle.std.proofs.Common.{◌≡◌, ◌<◌, ℕ, length, get_or, All, subst, List, [], ◌∷◌, ◌++◌, Bool, true, false, cond, if◌then◌else◌, map, nat_eq, vec_len, Option, Some, None, refl, sym, ap, ◌∙◌}
+use Rattle.std.proofs.Common.{◌≡◌, ◌<◌, ℕ, length, get_or, All, subst, List, [], ◌∷◌, ◌++◌, Bool, true, false, ◌&&◌, not, true≢false, cond, if◌then◌else◌, map, nat_eq, vec_len, Option, Some, None, refl, sym, ap, ◌∙◌}
 use Rattle.std.proofs.lemmas.Bool.{cases_Bool, cond-true, cond-false}
+use Rattle.std.proofs.Math.Bool.{and-true, and-false}
 use mathlib.Core.Logic.{⊎_elim}
 use lib.Pointwise.{pointwise}
 use Rattle.std.specs.declared.vec.Vec.{Vec}
@@ -14,7 +15,8 @@ use Rattle.std.specs.List.{IsAmong}
 use Rattle.std.proofs.lemmas.Option.{slice_get-get_or}
 use Rattle.lg_gram.specs.Trees.{empty, tree_of}
 use Rattle.lg_gram.specs.declared.expr.Expr.{Expr}
-use Rattle.lg_dict.specs.Tables.{text_entries, at_text, listed, same_text, tree_at}
+use Rattle.lg_dict.specs.Subscripts.{stem_of}
+use Rattle.lg_dict.specs.Tables.{text_entries, at_text, listed, same_text, is_under, tree_at}
 
 -- how the keys of a table are compared
 abbrev pub key_eq : {A : Type 0} → Vec ℕ A → Vec ℕ A → Bool
@@ -73,6 +75,22 @@ module _ {A B S : Type 0} where
       (λ other. ap (λ b. option_map_or (λ words. words.items) (cond b (Some list) (at_text old text)) []) other
       ∙ sym (cond-false (same_text text key.items) (listed old text ++ word ∷ []) (listed old text) other))
       (cases_Bool (same_text text key.items))
+
+-- a word that is its own stem is under no stem, and each other word is under its own alone
+module _ (text word : List ℕ) where
+  pub under_none : same_text (stem_of word) word ≡ true → is_under text word ≡ false
+  unfolding is_under
+  under_none own = ap (λ b. same_text text (stem_of word) && not b) own ∙ and-false (same_text text (stem_of word))
+
+  pub under_stem : same_text (stem_of word) word ≡ false → is_under text word ≡ same_text text (stem_of word)
+  unfolding is_under
+  under_stem other = ap (λ b. same_text text (stem_of word) && not b) other ∙ and-true (same_text text (stem_of word))
+
+  pub stem_under : is_under text word ≡ true → stem_of word ≡ text
+  stem_under h = ⊎_elim
+      (λ own. absurd (true≢false (sym h ∙ under_none own)))
+      (λ other. sym ((bytes_decides text (stem_of word)).0 (sym (under_stem other) ∙ h)))
+      (cases_Bool (same_text (stem_of word) word))
 
 -- what holds of all holds of one of them
 pub among_all : {X : Type 0} (P : X → Type 0) (xs : List X) (x : X) → All P xs → IsAmong xs x → P x

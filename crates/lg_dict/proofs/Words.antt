@@ -20,10 +20,10 @@ use Rattle.std.proofs.lemmas.List.Kept.{IsStrictlySortedBy-dedup, Contains-dedup
 use Rattle.std.proofs.lemmas.List.Sorted.{IsPermutation-map, IsPermutation-sym, Contains-permutation}
 use Rattle.lg_dict.specs.Dictionary.{Dictionary, IsWordOf, AreWordsOf}
 use Rattle.lg_dict.specs.Subscripts.{stem_of}
-use Rattle.lg_dict.specs.Tables.{text_keys, at_text, listed, same_text, tree_at}
+use Rattle.lg_dict.specs.Tables.{text_keys, at_text, listed, same_text, is_under, tree_at}
 use Rattle.lg_dict.specs.Layout.{shown, IsKept}
 use Rattle.lg_dict.specs.declared.dict.Dict.TheInside.{Inside}
-use Rattle.lg_dict.proofs.Lookups.{get-shown}
+use Rattle.lg_dict.proofs.Lookups.{get-shown, under_stem, stem_under}
 
 -- `dedup` by what f reads
 dedup_from-map : {X Y : Type 0} (f : X → Y) (same : Y → Y → Bool) (k : X) (xs : List X) → map f (dedup_from (λ a b. same (f a) (f b)) k xs) ≡ dedup_from same (f k) (map f xs)
@@ -121,12 +121,12 @@ module _ (a : Inside) where
 
   module _ (kept : IsKept a) where
     found_test : (text word : List ℕ) → among word (found_in a text)
-        ≡ ((among text (text_keys a.words) && same_text word text) || (among word (text_keys a.words) && same_text text (stem_of word)))
+        ≡ ((among text (text_keys a.words) && same_text word text) || (among word (text_keys a.words) && is_under text word))
     found_test text word =
         list_any-append (same_text word) (if is_some (at_text a.words text) then text ∷ [] else []) (listed a.stems text)
         ∙ ap (λ b. b || among word (listed a.stems text)) (itself text word)
         ∙ ap (λ b. (among text (text_keys a.words) && same_text word text) || b)
-        (ap (among word) (kept.stems text) ∙ among-filter (λ w. same_text text (stem_of w)) word (text_keys a.words))
+        (ap (among word) (kept.stems text) ∙ among-filter (λ w. is_under text w) word (text_keys a.words))
 
     both_true : (b c : Bool) → (b && c) ≡ true → (b ≡ true) × (c ≡ true)
     both_true true c h = (refl, h)
@@ -148,22 +148,30 @@ module _ (a : Inside) where
         let is = text_is word text parts.1 in
         record { kept = known word ∙ ap (λ w. among w (text_keys a.words)) is ∙ parts.0; fits = inl is })
         (λ stem.
-        let parts = both_true (among word (text_keys a.words)) (same_text text (stem_of word)) stem in
-        record { kept = known word ∙ parts.0; fits = inr (sym (text_is text (stem_of word) parts.1)) })
-        (either_true (among text (text_keys a.words) && same_text word text) (among word (text_keys a.words) && same_text text (stem_of word)) (sym (found_test text word) ∙ h))
+        let parts = both_true (among word (text_keys a.words)) (is_under text word) stem in
+        record { kept = known word ∙ parts.0; fits = inr (stem_under text word parts.1) })
+        (either_true (among text (text_keys a.words) && same_text word text) (among word (text_keys a.words) && is_under text word) (sym (found_test text word) ∙ h))
 
+    found_itself : (text word : List ℕ) → among word (text_keys a.words) ≡ true → word ≡ text → among word (found_in a text) ≡ true
+    found_itself text word here is =
+        found_test text word
+        ∙ ap (λ b. (b && same_text word text) || (among word (text_keys a.words) && is_under text word)) (ap (λ t. among t (text_keys a.words)) (sym is) ∙ here)
+        ∙ ap (λ b. b || (among word (text_keys a.words) && is_under text word)) (ap (same_text word) (sym is) ∙ text_is_itself word)
+
+    found_under : (text word : List ℕ) → among word (text_keys a.words) ≡ true → stem_of word ≡ text → same_text (stem_of word) word ≡ false → among word (found_in a text) ≡ true
+    found_under text word here is other =
+        found_test text word
+        ∙ ap (λ b. (among text (text_keys a.words) && same_text word text) || (b && is_under text word)) here
+        ∙ ap (λ b. (among text (text_keys a.words) && same_text word text) || b) (under_stem text word other ∙ ap (same_text text) is ∙ text_is_itself text)
+        ∙ or_true (among text (text_keys a.words) && same_text word text)
+
+    -- a word that is its own stem is found as the text itself
     found_of_word : (text word : List ℕ) → IsWordOf (shown a) text word → among word (found_in a text) ≡ true
     found_of_word text word w =
         let here : among word (text_keys a.words) ≡ true = sym (known word) ∙ w.kept in
-        found_test text word
-        ∙ ⊎_elim
-        (λ is.
-        ap (λ b. (b && same_text word text) || (among word (text_keys a.words) && same_text text (stem_of word))) (ap (λ t. among t (text_keys a.words)) (sym is) ∙ here)
-        ∙ ap (λ b. b || (among word (text_keys a.words) && same_text text (stem_of word))) (ap (same_text word) (sym is) ∙ text_is_itself word))
-        (λ is.
-        ap (λ b. (among text (text_keys a.words) && same_text word text) || (b && same_text text (stem_of word))) here
-        ∙ ap (λ b. (among text (text_keys a.words) && same_text word text) || b) (ap (same_text text) is ∙ text_is_itself text)
-        ∙ or_true (among text (text_keys a.words) && same_text word text))
+        ⊎_elim
+        (found_itself text word here)
+        (λ is. ⊎_elim (λ own. found_itself text word here (sym (text_is (stem_of word) word own) ∙ is)) (found_under text word here is) (cases_Bool (same_text (stem_of word) word)))
         w.fits
 
     -- they are the words that equal the text or have it as stem

@@ -3,8 +3,7 @@ use Rattle.std.specs.Prelude.{◌≡◌, ◌<◌, ℕ, List, length, filter, All
 use Rattle.std.specs.FinMap.{from_entries}
 use Rattle.indexmap.specs.IndexMap.{values}
 use Rattle.lg_dict.specs.Dictionary.{Dictionary, IsLongest}
-use Rattle.lg_dict.specs.Subscripts.{stem_of}
-use Rattle.lg_dict.specs.Tables.{text_entries, text_keys, listed, same_text, with_trees, with_macros, IsMacro}
+use Rattle.lg_dict.specs.Tables.{text_entries, text_keys, listed, is_under, with_trees, with_macros, IsMacro}
 use Rattle.lg_dict.specs.declared.dict.Dict.TheInside.{Inside}
 
 -- the two maps that the tables stand for
@@ -14,9 +13,9 @@ shown a = record {
   macros = from_entries (with_macros a.formulas.items (text_entries a.macros));
 }
 
--- each formula is there, each level fits, each stem lists the words that have it, and the longest word is so long
+-- each formula is there, each level fits, each stem lists the words that have it and a subscript, and the longest word is so long
 pub record IsKept (a : Inside) : Type 0 where
   pub words : All (λ place. place < length a.formulas.items) (values a.words)
   pub macros : All (IsMacro a.formulas.items) (values a.macros)
-  pub stems : (stem : List ℕ) → listed a.stems stem ≡ filter (λ word. same_text stem (stem_of word)) (text_keys a.words)
+  pub stems : (stem : List ℕ) → listed a.stems stem ≡ filter (λ word. is_under stem word) (text_keys a.words)
   pub longest : IsLongest (Contains (text_keys a.words)) a.longest

@@ -1,5 +1,5 @@
 -- Hash tables whose keys are bytes, and what their values stand for.
-use Rattle.std.specs.Prelude.{◌<◌, ℕ, List, [], map, length, slice_get, nat_eq, Bool}
+use Rattle.std.specs.Prelude.{◌<◌, ℕ, List, [], map, length, slice_get, nat_eq, Bool, ◌&&◌, not}
 use Rattle.std.specs.declared.option.Option.{Option}
 use Rattle.std.specs.declared.vec.Vec.{Vec}
 use Rattle.std.specs.Option.{option_map_or}
@@ -8,6 +8,7 @@ use Rattle.indexmap.specs.IndexMap.{IndexMap, get_by}
 use Rattle.lg_gram.specs.Trees.{Tree, empty, tree_of}
 use Rattle.lg_gram.specs.declared.expr.Expr.{Expr}
 use Rattle.lg_gram.specs.Formulas.{LevelFits}
+use Rattle.lg_dict.specs.Subscripts.{stem_of}
 use Rattle.lg_dict.specs.declared.tables.Macro.{Macro}
 
 module _ {A V S : Type 0} where
@@ -27,9 +28,13 @@ module _ {A V S : Type 0} where
 abbrev pub listed : {A B S : Type 0} → IndexMap (Vec ℕ A) (Vec (List ℕ) B) S → List ℕ → List (List ℕ)
 listed stems stem = option_map_or (λ words. words.items) (at_text stems stem) []
 
--- the word has this stem
+-- two texts have the same bytes
 abbrev pub same_text : List ℕ → List ℕ → Bool
 same_text = pointwise nat_eq
+
+-- the word has this stem, and is not its own stem
+unfoldable pub is_under : List ℕ → List ℕ → Bool
+is_under stem word = same_text stem (stem_of word) && not (same_text (stem_of word) word)
 
 -- the tree of the formula at this place
 abbrev pub tree_at : List Expr → ℕ → Tree

@@ -2,9 +2,8 @@
 ghost use Rattle.std.specs.Prelude.{◌≡◌, ◌≢◌, ◌<◌, ◌++◌, [], ◌∷◌, ℕ, List, map, filter, length, All, AllPairs, Contains, IfOk, OnOk, nat_eq, if◌then◌else◌};
 ghost use Rattle.std.specs.List.{IsDistinct};
 ghost use Rattle.indexmap.specs.IndexMap.{values};
-ghost use Rattle.lg_dict.specs.Subscripts.{stem_of};
 ghost use Rattle.lg_dict.specs.Dictionary.{words_in, macros_in, words_with_formulas, macros_with_formulas, AreEntries, IsLongest};
-ghost use Rattle.lg_dict.specs.Tables.{text_entries, text_keys, listed, same_text, with_trees, with_macros, IsMacro};
+ghost use Rattle.lg_dict.specs.Tables.{text_entries, text_keys, listed, same_text, is_under, with_trees, with_macros, IsMacro};
 
 use crate::subscript::stem;
 use indexmap::IndexMap;
@@ -86,9 +85,9 @@ pub(crate) fn longest_word(words: &Table<usize>) -> usize
     longest
 }
 
-/// The words of each stem.
+/// The words of each stem but the stem itself.
 pub(crate) fn stem_table(alloc: Global, words: &Table<usize>) -> Result<Table<Vec<Text>>, NoMemory>
-    ensures { IfOk result (λ stems. (text : List ℕ) → listed stems text ≡ filter (λ word. same_text text (stem_of word)) (text_keys words.now)) }
+    ensures { IfOk result (λ stems. (text : List ℕ) → listed stems text ≡ filter (λ word. is_under text word) (text_keys words.now)) }
 {
     let mut stems = IndexMap::new(alloc);
     for word in words.keys() {
@@ -97,11 +96,15 @@ pub(crate) fn stem_table(alloc: Global, words: &Table<usize>) -> Result<Table<Ve
     Ok(stems)
 }
 
-// Adds a word to those of its stem.
+// Adds a word to those of its stem; a word that is its own stem is not listed.
 fn list_word(alloc: Global, stems: &mut Table<Vec<Text>>, word: &[u8]) -> Result<(), NoMemory>
-    ensures { OnOk result ((text : List ℕ) → listed stems.new text ≡ (if same_text text (stem_of word.now) then listed stems.old text ++ word.now ∷ [] else listed stems.old text)) }
+    ensures { OnOk result ((text : List ℕ) → listed stems.new text ≡ (if is_under text word.now then listed stems.old text ++ word.now ∷ [] else listed stems.old text)) }
 {
-    let key = copied(alloc, stem(word))?;
+    let stem = stem(word);
+    if stem == word {
+        return Ok(());
+    }
+    let key = copied(alloc, stem)?;
     let word = Text::of(alloc, word)?;
     stems.entry(key)?.or_default().push(word)?;
     Ok(())
