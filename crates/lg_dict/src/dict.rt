@@ -54,9 +54,9 @@ impl Dict {
     {
         let words = word_table(alloc, &entries)?;
         let macros = macro_table(alloc, &entries)?;
+        let formulas = formulas_of(alloc, entries)?;
         let stems = stem_table(alloc, &words)?;
         let longest = longest_word(&words);
-        let formulas = formulas_of(alloc, entries)?;
         Ok(Dict {
             formulas,
             words,

@@ -26,7 +26,7 @@ pub(crate) fn word_table(alloc: Global, entries: &[Entry]) -> Result<Table<usize
     ensures kept { IfOk result (λ table. with_trees (map (λ e. e.formula) entries.now) (text_entries table) ≡ words_with_formulas entries.now) }
     ensures within { IfOk result (λ table. All (λ place. place < length entries.now) (values table)) }
 {
-    let mut table = IndexMap::new(alloc);
+    let mut table = IndexMap::with_capacity(alloc, entries.len())?;
     for (place, entry) in entries.iter().enumerate() {
         add_names(alloc, &mut table, entry.words.items(), place)?;
     }
@@ -106,7 +106,18 @@ fn list_word(alloc: Global, stems: &mut Table<Vec<Text>>, word: &[u8]) -> Result
     }
     let key = copied(alloc, stem)?;
     let word = Text::of(alloc, word)?;
-    stems.entry(key)?.or_default().push(word)?;
+    push_tightly(stems.entry(key)?.or_default(), word)?;
+    Ok(())
+}
+
+// Adds a word to a list. Most stems have one word, so the first takes the room of one.
+fn push_tightly(list: &mut Vec<Text>, word: Text) -> Result<(), NoMemory>
+    ensures { OnOk result (list.new.items ≡ list.old.items ++ word ∷ []) }
+{
+    if list.is_empty() {
+        list.reserve_exact(1)?;
+    }
+    list.push(word)?;
     Ok(())
 }
 

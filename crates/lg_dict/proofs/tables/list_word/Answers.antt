@@ -14,8 +14,8 @@ returns-then-eq c = λ text.
 -- the new list of the stem is the old one and the word
 pub returns : goal.returns
 returns c = λ text.
-    let after = listed-push c.args.stems.now (map_with_value c.in_ok-stems.field-0 c.push.new.self) c.in_ok-key.key c.push.new.self c.or_default.result.now (entry_value c.in_ok-stems.field-0) c.in_ok-word.word
-    (c.in_ok-stems.ensures.update.0 c.push.new.self) c.in_ok-stems.ensures.value c.or_default.ensures.value c.in_ok-push.ensures.items text in
+    let after = listed-push c.args.stems.now (map_with_value c.in_ok-stems.field-0 c.push_tightly.new.list) c.in_ok-key.key c.push_tightly.new.list c.or_default.result.now (entry_value c.in_ok-stems.field-0) c.in_ok-word.word
+    (c.in_ok-stems.ensures.update.0 c.push_tightly.new.list) c.in_ok-stems.ensures.value c.or_default.ensures.value c.in_ok-push_tightly.ensures text in
     let key = c.in_ok-key.ensures ∙ c.stem-stem.ensures in
     let word = c.in_ok-word.ensures in
     let other : same_text (stem_of c.args.word.now) c.args.word.now ≡ _ = ap (λ s. same_text s c.args.word.now) (sym c.stem-stem.ensures) ∙ sym c.eq.ensures ∙ c.if-eq.false in
