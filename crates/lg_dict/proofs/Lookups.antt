@@ -1,5 +1,5 @@
 -- Look-ups by bytes in tables whose keys are bytes.
-use Rattle.std.proofs.Common.{◌≡◌, ◌<◌, ℕ, length, get_or, All, subst, List, [], ◌∷◌, ◌++◌, Bool, true, false, ◌&&◌, not, true≢false, cond, if◌then◌else◌, map, nat_eq, vec_len, Option, Some, None, refl, sym, ap, ◌∙◌}
+use Rattle.std.proofs.Common.{◌≡◌, ◌<◌, ◌+◌, ℕ, length, take, filter, get_or, All, subst, List, [], ◌∷◌, ◌++◌, Bool, true, false, ◌&&◌, not, true≢false, cond, if◌then◌else◌, map, nat_eq, vec_len, Option, Some, None, refl, sym, ap, ◌∙◌}
 use Rattle.std.proofs.lemmas.Bool.{cases_Bool, cond-true, cond-false}
 use Rattle.std.proofs.Math.Bool.{and-true, and-false}
 use mathlib.Core.Logic.{⊎_elim}
@@ -12,11 +12,14 @@ use Rattle.std.specs.Cmp.Lexicographic.{slice_cmp, bytes_decides, nat_list_eq_eq
 use Rattle.std.specs.FinMap.{get, find, from_entries, get-from_entries}
 use Rattle.indexmap.specs.IndexMap.{IndexMap, Updates, get as get_in}
 use Rattle.std.specs.List.{IsAmong}
-use Rattle.std.proofs.lemmas.Option.{slice_get-get_or}
+use Rattle.std.proofs.lemmas.Grind.{take_at_read}
+use Rattle.std.proofs.lemmas.List.{append-nil, map-append}
+use Rattle.std.proofs.lemmas.List.Elements.{filter-append}
+use Rattle.std.proofs.lemmas.Option.{slice_get-get_or, unwrap_or-slice_get}
 use Rattle.lg_gram.specs.Trees.{empty, tree_of}
 use Rattle.lg_gram.specs.declared.expr.Expr.{Expr}
 use Rattle.lg_dict.specs.Subscripts.{stem_of}
-use Rattle.lg_dict.specs.Tables.{text_entries, at_text, listed, same_text, is_under, tree_at}
+use Rattle.lg_dict.specs.Tables.{text_entries, at_text, text_at, numbers_at, listed, same_text, is_under, tree_at}
 
 -- how the keys of a table are compared
 abbrev pub key_eq : {A : Type 0} → Vec ℕ A → Vec ℕ A → Bool
@@ -55,26 +58,43 @@ module _ {A V S : Type 0} where
       → get (from_entries {R = slice_cmp nat_cmp} (shown_as g (text_entries table))) text ≡ option_map g (at_text table text)
   get-shown g table text = get-from_entries nat_list_cmp_total _ text ∙ found_shown g text table.entries
 
-unwrapped : {B : Type 0} (found : Option (Vec (List ℕ) B)) (start : Vec (List ℕ) B) → UnwrapsOrElse found (λ x. (x.items ≡ []) × (vec_len x ≡ 0)) start
-    → start.items ≡ option_map_or (λ words. words.items) found []
+unwrapped : {B : Type 0} (found : Option (Vec ℕ B)) (start : Vec ℕ B) → UnwrapsOrElse found (λ x. (x.items ≡ []) × (vec_len x ≡ 0)) start
+    → start.items ≡ option_map_or (λ numbers. numbers.items) found []
 unwrapped None start h = h.0
-unwrapped (Some words) start h = ap (λ words. words.items) h
+unwrapped (Some numbers) start h = ap (λ numbers. numbers.items) h
 
 module _ {A B S : Type 0} where
-  -- one more word at a key
-  pub listed-push : (old new : IndexMap (Vec ℕ A) (Vec (List ℕ) B) S) (key : Vec ℕ A) (list start : Vec (List ℕ) B) (found : Option (Vec (List ℕ) B)) (word : List ℕ)
-      → Updates key_eq old new key (Some list) → found ≡ get_in key_eq old key → UnwrapsOrElse found (λ x. (x.items ≡ []) × (vec_len x ≡ 0)) start → list.items ≡ start.items ++ word ∷ []
-      → (text : List ℕ) → listed new text ≡ (if same_text text key.items then listed old text ++ word ∷ [] else listed old text)
-  listed-push old new key list start found word h is from more text =
-      let items : list.items ≡ listed old key.items ++ word ∷ [] = more ∙ ap (λ l. l ++ word ∷ []) (unwrapped found start from ∙ ap (λ o. option_map_or (λ words. words.items) o []) is) in
-      ap (λ o. option_map_or (λ words. words.items) o []) (at_text-updates old new key (Some list) h text)
+  -- one more number at a key
+  pub numbers-push : (old new : IndexMap (Vec ℕ A) (Vec ℕ B) S) (key : Vec ℕ A) (list start : Vec ℕ B) (found : Option (Vec ℕ B)) (number : ℕ)
+      → Updates key_eq old new key (Some list) → found ≡ get_in key_eq old key → UnwrapsOrElse found (λ x. (x.items ≡ []) × (vec_len x ≡ 0)) start → list.items ≡ start.items ++ number ∷ []
+      → (text : List ℕ) → numbers_at new text ≡ (if same_text text key.items then numbers_at old text ++ number ∷ [] else numbers_at old text)
+  numbers-push old new key list start found number h is from more text =
+      let items : list.items ≡ numbers_at old key.items ++ number ∷ [] = more ∙ ap (λ l. l ++ number ∷ []) (unwrapped found start from ∙ ap (λ o. option_map_or (λ numbers. numbers.items) o []) is) in
+      ap (λ o. option_map_or (λ numbers. numbers.items) o []) (at_text-updates old new key (Some list) h text)
       ∙ ⊎_elim
-      (λ same. ap (λ b. option_map_or (λ words. words.items) (cond b (Some list) (at_text old text)) []) same ∙ items
-      ∙ ap (λ t. listed old t ++ word ∷ []) (sym ((bytes_decides text key.items).0 same))
-      ∙ sym (cond-true (same_text text key.items) (listed old text ++ word ∷ []) (listed old text) same))
-      (λ other. ap (λ b. option_map_or (λ words. words.items) (cond b (Some list) (at_text old text)) []) other
-      ∙ sym (cond-false (same_text text key.items) (listed old text ++ word ∷ []) (listed old text) other))
+      (λ same. ap (λ b. option_map_or (λ numbers. numbers.items) (cond b (Some list) (at_text old text)) []) same ∙ items
+      ∙ ap (λ t. numbers_at old t ++ number ∷ []) (sym ((bytes_decides text key.items).0 same))
+      ∙ sym (cond-true (same_text text key.items) (numbers_at old text ++ number ∷ []) (numbers_at old text) same))
+      (λ other. ap (λ b. option_map_or (λ numbers. numbers.items) (cond b (Some list) (at_text old text)) []) other
+      ∙ sym (cond-false (same_text text key.items) (numbers_at old text ++ number ∷ []) (numbers_at old text) other))
       (cases_Bool (same_text text key.items))
+
+-- one more word under its stem
+module _ (words : List (List ℕ)) (text : List ℕ) (number : ℕ) where
+  pushed : (numbers : List ℕ) (b : Bool) → map (λ n. text_at words n) (if b then numbers ++ number ∷ [] else numbers)
+      ≡ map (λ n. text_at words n) numbers ++ (if b then get_or words number [] ∷ [] else [])
+  pushed numbers true = map-append (λ n. text_at words n) numbers (number ∷ []) ∙ ap (λ word. map (λ n. text_at words n) numbers ++ word ∷ []) (unwrap_or-slice_get words number [])
+  pushed numbers false = sym (append-nil (map (λ n. text_at words n) numbers))
+
+  pub listed-more : {A B S : Type 0} (old new : IndexMap (Vec ℕ A) (Vec ℕ B) S) (word : List ℕ) → number < length words → word ≡ text_at words number
+      → numbers_at new text ≡ (if is_under text word then numbers_at old text ++ number ∷ [] else numbers_at old text)
+      → listed words old text ≡ filter (λ w. is_under text w) (take number words) → listed words new text ≡ filter (λ w. is_under text w) (take (number + 1) words)
+  listed-more old new word within is step so_far =
+      let here = get_or words number [] in
+      ap (map (λ n. text_at words n)) (step ∙ ap (λ w. if is_under text w then numbers_at old text ++ number ∷ [] else numbers_at old text) (is ∙ unwrap_or-slice_get words number []))
+      ∙ pushed (numbers_at old text) (is_under text here)
+      ∙ ap (λ l. l ++ (if is_under text here then here ∷ [] else [])) so_far
+      ∙ sym (ap (filter (λ w. is_under text w)) ((take_at_read words number [] within).1) ∙ filter-append (λ w. is_under text w) (take number words) (here ∷ []))
 
 -- a word that is its own stem is under no stem, and each other word is under its own alone
 module _ (text word : List ℕ) where

@@ -104,7 +104,7 @@ no_length n false h = ap not h
 
 -- the words of a text as they are found: the text itself where it is a word, and those of its stem
 abbrev pub found_in : Inside → List ℕ → List (List ℕ)
-found_in a text = (if is_some (at_text a.words text) then text ∷ [] else []) ++ listed a.stems text
+found_in a text = (if is_some (at_text a.words text) then text ∷ [] else []) ++ listed (text_keys a.words) a.stems text
 
 module _ (a : Inside) where
   pub known : (word : List ℕ) → is_some (get (shown a).words word) ≡ among word (text_keys a.words)
@@ -123,8 +123,8 @@ module _ (a : Inside) where
     found_test : (text word : List ℕ) → among word (found_in a text)
         ≡ ((among text (text_keys a.words) && same_text word text) || (among word (text_keys a.words) && is_under text word))
     found_test text word =
-        list_any-append (same_text word) (if is_some (at_text a.words text) then text ∷ [] else []) (listed a.stems text)
-        ∙ ap (λ b. b || among word (listed a.stems text)) (itself text word)
+        list_any-append (same_text word) (if is_some (at_text a.words text) then text ∷ [] else []) (listed (text_keys a.words) a.stems text)
+        ∙ ap (λ b. b || among word (listed (text_keys a.words) a.stems text)) (itself text word)
         ∙ ap (λ b. (among text (text_keys a.words) && same_text word text) || b)
         (ap (among word) (kept.stems text) ∙ among-filter (λ w. is_under text w) word (text_keys a.words))
 
@@ -187,16 +187,16 @@ module _ (a : Inside) where
     some_word text word [] is w = absurd (true≢false (sym (sym (ap (among word) is) ∙ found_of_word text word w)))
     some_word text word (x ∷ xs) is w = no_length (length xs) _ refl
 
-    tested : (text : List ℕ) → (is_some (at_text a.words text) || not (length (listed a.stems text) == 0)) ≡ not (length (found_in a text) == 0)
-    tested text = elim (is_some (at_text a.words text)) as (λ b. (b || not (length (listed a.stems text) == 0)) ≡ not (length ((if b then text ∷ [] else []) ++ listed a.stems text) == 0)) [ true ↦ sym (no_length (length (listed a.stems text)) _ refl) | false ↦ refl ]
+    tested : (text : List ℕ) → (is_some (at_text a.words text) || not (length (listed (text_keys a.words) a.stems text) == 0)) ≡ not (length (found_in a text) == 0)
+    tested text = elim (is_some (at_text a.words text)) as (λ b. (b || not (length (listed (text_keys a.words) a.stems text) == 0)) ≡ not (length ((if b then text ∷ [] else []) ++ listed (text_keys a.words) a.stems text) == 0)) [ true ↦ sym (no_length (length (listed (text_keys a.words) a.stems text)) _ refl) | false ↦ refl ]
 
     -- there is such a word
-    pub has_found : (text : List ℕ) → ((is_some (at_text a.words text) || not (length (listed a.stems text) == 0)) ≡ true) ↔ ((word : List ℕ) × IsWordOf (shown a) text word)
+    pub has_found : (text : List ℕ) → ((is_some (at_text a.words text) || not (length (listed (text_keys a.words) a.stems text) == 0)) ≡ true) ↔ ((word : List ℕ) × IsWordOf (shown a) text word)
     has_found text =
         (λ h. first_word text (found_in a text) refl (sym (tested text) ∙ h), λ w. tested text ∙ some_word text w.0 (found_in a text) refl w.1)
 
 -- the same of the maps that are seen
-pub has_seen : (a : Inside) (dict : Dictionary) → shown a ≡ dict → IsKept a → (text : List ℕ) (b : Bool) → (is_some (at_text a.words text) || not (length (listed a.stems text) == 0)) ≡ b
+pub has_seen : (a : Inside) (dict : Dictionary) → shown a ≡ dict → IsKept a → (text : List ℕ) (b : Bool) → (is_some (at_text a.words text) || not (length (listed (text_keys a.words) a.stems text) == 0)) ≡ b
     → (b ≡ true) ↔ ((word : List ℕ) × IsWordOf dict text word)
 has_seen a dict seen kept text b test = (
   λ h. subst (λ d. (word : List ℕ) × IsWordOf d text word) seen ((has_found a kept text).0 (test ∙ h)),

@@ -17,5 +17,5 @@ shown a = record {
 pub record IsKept (a : Inside) : Type 0 where
   pub words : All (λ place. place < length a.formulas.items) (values a.words)
   pub macros : All (IsMacro a.formulas.items) (values a.macros)
-  pub stems : (stem : List ℕ) → listed a.stems stem ≡ filter (λ word. is_under stem word) (text_keys a.words)
+  pub stems : (stem : List ℕ) → listed (text_keys a.words) a.stems stem ≡ filter (λ word. is_under stem word) (text_keys a.words)
   pub longest : IsLongest (Contains (text_keys a.words)) a.longest

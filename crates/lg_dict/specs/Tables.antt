@@ -2,7 +2,7 @@
 use Rattle.std.specs.Prelude.{◌<◌, ℕ, List, [], map, length, slice_get, nat_eq, Bool, ◌&&◌, not}
 use Rattle.std.specs.declared.option.Option.{Option}
 use Rattle.std.specs.declared.vec.Vec.{Vec}
-use Rattle.std.specs.Option.{option_map_or}
+use Rattle.std.specs.Option.{option_map_or, unwrap_or}
 use Rattle.std.specs.Cmp.Lexicographic.{pointwise}
 use Rattle.indexmap.specs.IndexMap.{IndexMap, get_by}
 use Rattle.lg_gram.specs.Trees.{Tree, empty, tree_of}
@@ -24,9 +24,18 @@ module _ {A V S : Type 0} where
   abbrev pub at_text : IndexMap (Vec ℕ A) V S → List ℕ → Option V
   at_text table text = get_by (λ key. pointwise nat_eq text key.items) table
 
--- the words that a table of stems lists for a stem
-abbrev pub listed : {A B S : Type 0} → IndexMap (Vec ℕ A) (Vec (List ℕ) B) S → List ℕ → List (List ℕ)
-listed stems stem = option_map_or (λ words. words.items) (at_text stems stem) []
+-- the text of this number; where there is none, no bytes
+abbrev pub text_at : List (List ℕ) → ℕ → List ℕ
+text_at texts number = unwrap_or (slice_get texts number) []
+
+module _ {A B S : Type 0} where
+  -- the numbers that a table of stems has for a stem
+  abbrev pub numbers_at : IndexMap (Vec ℕ A) (Vec ℕ B) S → List ℕ → List ℕ
+  numbers_at stems stem = option_map_or (λ numbers. numbers.items) (at_text stems stem) []
+
+  -- the words of these numbers
+  abbrev pub listed : List (List ℕ) → IndexMap (Vec ℕ A) (Vec ℕ B) S → List ℕ → List (List ℕ)
+  listed words stems stem = map (λ number. text_at words number) (numbers_at stems stem)
 
 -- two texts have the same bytes
 abbrev pub same_text : List ℕ → List ℕ → Bool

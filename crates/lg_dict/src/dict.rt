@@ -8,9 +8,11 @@ ghost use Rattle.std.specs.Cmp.Lexicographic.{slice_cmp};
 ghost use Rattle.lg_gram.specs.Trees.{tree_of};
 ghost use Rattle.lg_gram.specs.Formulas.{LevelFits};
 ghost use Rattle.lg_dict.specs.Dictionary.{dictionary_of, AreEntries, IsWordOf, AreWordsOf, IsLongestWord};
-ghost use Rattle.lg_dict.specs.Tables.{at_text, listed};
+ghost use Rattle.lg_dict.specs.Tables.{at_text, text_keys, listed};
 
-use crate::tables::{Macro, Table, longest_word, macro_table, stem_table, with_stem, word_table};
+use crate::tables::{
+    Macro, Table, longest_word, macro_table, stem_table, with_stem, word_at, word_table,
+};
 use lg_base::{NoMemory, Text, Texts};
 use lg_gram::{Entry, Formula};
 use std::alloc::Global;
@@ -26,7 +28,7 @@ pub struct Dict {
     formulas: Vec<Formula>,
     words: Table<usize>,
     macros: Table<Macro>,
-    stems: Table<Vec<Text>>,
+    stems: Table<Vec<usize>>,
     longest: usize,
 }
 
@@ -118,18 +120,18 @@ impl Dict {
 // The text itself where it is a word, and the words that have it as stem.
 fn found_words<'a>(
     alloc: Global,
-    words: &Table<usize>,
-    stems: &'a Table<Vec<Text>>,
+    words: &'a Table<usize>,
+    stems: &Table<Vec<usize>>,
     text: &'a [u8],
 ) -> Result<Vec<&'a [u8]>, NoMemory>
-    ensures { IfOk result (λ found. map (λ word. word.now) found.items ≡ (if is_some (at_text words.now text.now) then text.now ∷ [] else []) ++ listed stems.now text.now) }
+    ensures { IfOk result (λ found. map (λ word. word.now) found.items ≡ (if is_some (at_text words.now text.now) then text.now ∷ [] else []) ++ listed (text_keys words.now) stems.now text.now) }
 {
     let mut found = Vec::new(alloc);
     if words.contains_key(text) {
         found.push(text)?;
     }
-    for word in with_stem(stems, text) {
-        found.push(word.bytes())?;
+    for number in with_stem(stems, text) {
+        found.push(word_at(words, *number))?;
     }
     Ok(found)
 }

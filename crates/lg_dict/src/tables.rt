@@ -3,7 +3,7 @@ ghost use Rattle.std.specs.Prelude.{◌≡◌, ◌≢◌, ◌<◌, ◌++◌, [],
 ghost use Rattle.std.specs.List.{IsDistinct};
 ghost use Rattle.indexmap.specs.IndexMap.{values};
 ghost use Rattle.lg_dict.specs.Dictionary.{words_in, macros_in, words_with_formulas, macros_with_formulas, AreEntries, IsLongest};
-ghost use Rattle.lg_dict.specs.Tables.{text_entries, text_keys, listed, same_text, is_under, with_trees, with_macros, IsMacro};
+ghost use Rattle.lg_dict.specs.Tables.{text_entries, text_keys, text_at, numbers_at, listed, same_text, is_under, with_trees, with_macros, IsMacro};
 
 use crate::subscript::stem;
 use indexmap::IndexMap;
@@ -85,48 +85,62 @@ pub(crate) fn longest_word(words: &Table<usize>) -> usize
     longest
 }
 
-/// The words of each stem but the stem itself.
-pub(crate) fn stem_table(alloc: Global, words: &Table<usize>) -> Result<Table<Vec<Text>>, NoMemory>
-    ensures { IfOk result (λ stems. (text : List ℕ) → listed stems text ≡ filter (λ word. is_under text word) (text_keys words.now)) }
+/// The numbers of the words of each stem but the stem itself.
+pub(crate) fn stem_table(alloc: Global, words: &Table<usize>) -> Result<Table<Vec<usize>>, NoMemory>
+    ensures { IfOk result (λ stems. (text : List ℕ) → listed (text_keys words.now) stems text ≡ filter (λ word. is_under text word) (text_keys words.now)) }
 {
     let mut stems = IndexMap::new(alloc);
-    for word in words.keys() {
-        list_word(alloc, &mut stems, word.as_slice())?;
+    for number in 0..words.len() {
+        list_word(alloc, &mut stems, word_at(words, number), number)?;
     }
     Ok(stems)
 }
 
-// Adds a word to those of its stem; a word that is its own stem is not listed.
-fn list_word(alloc: Global, stems: &mut Table<Vec<Text>>, word: &[u8]) -> Result<(), NoMemory>
-    ensures { OnOk result ((text : List ℕ) → listed stems.new text ≡ (if is_under text word.now then listed stems.old text ++ word.now ∷ [] else listed stems.old text)) }
+/// The word of this number in a table of words; where there is none, no bytes. No memory.
+pub(crate) fn word_at(words: &Table<usize>, number: usize) -> &[u8]
+    ensures { result.now ≡ text_at (text_keys words.now) number }
+{
+    match words.get_index(number) {
+        Some((word, _)) => word.as_slice(),
+        None => &[],
+    }
+}
+
+// Adds a word's number to those of its stem; a word that is its own stem is not listed.
+fn list_word(
+    alloc: Global,
+    stems: &mut Table<Vec<usize>>,
+    word: &[u8],
+    number: usize,
+) -> Result<(), NoMemory>
+    ensures { OnOk result ((text : List ℕ) → numbers_at stems.new text ≡ (if is_under text word.now then numbers_at stems.old text ++ number ∷ [] else numbers_at stems.old text)) }
 {
     let stem = stem(word);
     if stem == word {
         return Ok(());
     }
     let key = copied(alloc, stem)?;
-    let word = Text::of(alloc, word)?;
-    push_tightly(stems.entry(key)?.or_default(), word)?;
+    push_tightly(stems.entry(key)?.or_default(), number)?;
     Ok(())
 }
 
-// Adds a word to a list. Most stems have one word, so the first takes the room of one.
-fn push_tightly(list: &mut Vec<Text>, word: Text) -> Result<(), NoMemory>
-    ensures { OnOk result (list.new.items ≡ list.old.items ++ word ∷ []) }
+// Adds a number to a list. Most stems have one word, so the first takes the room of one.
+fn push_tightly(list: &mut Vec<usize>, number: usize) -> Result<(), NoMemory>
+    ensures { OnOk result (list.new.items ≡ list.old.items ++ number ∷ []) }
 {
     if list.is_empty() {
         list.reserve_exact(1)?;
     }
-    list.push(word)?;
+    list.push(number)?;
     Ok(())
 }
 
-/// The words that a table of stems lists for a stem. No memory.
-pub(crate) fn with_stem<'a>(stems: &'a Table<Vec<Text>>, stem: &[u8]) -> &'a [Text]
-    ensures { result.now ≡ listed stems.now stem.now }
+/// The numbers that a table of stems has for a stem. No memory.
+pub(crate) fn with_stem<'a>(stems: &'a Table<Vec<usize>>, stem: &[u8]) -> &'a [usize]
+    ensures { result.now ≡ numbers_at stems.now stem.now }
 {
     match stems.get(stem) {
-        Some(words) => words.as_slice(),
+        Some(numbers) => numbers.as_slice(),
         None => &[],
     }
 }

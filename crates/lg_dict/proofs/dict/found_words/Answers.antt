@@ -1,5 +1,5 @@
 use Rattle.std.proofs.Common.{◌≡◌, ◌++◌, ◌∷◌, [], List, ℕ, map, is_some, if◌then◌else◌, Bor, ap, sym, ◌∙◌, take, take_all}
-use Rattle.lg_dict.specs.Tables.{at_text}
+use Rattle.lg_dict.specs.Tables.{at_text, text_keys, text_at}
 use Rattle.lg_dict.proofs.dict.found_words.Goals as goal
 use Rattle.lg_dict.proofs.dict.found_words.Goals.{then-contains_key+in_ok-push, else-contains_key}
 
@@ -18,6 +18,7 @@ returns c =
           ∙ ap (map (λ (word : Bor (List ℕ)). word.now)) c.new-found.ensures.items
           ∙ ap (λ b. if b then text ∷ [] else []) (sym w.if-contains_key.false ∙ c.contains_key.ensures)
     ] in
-    c.loop-word.invariant
-    ∙ ap (λ l. l ++ take c.loop-word.word-index c.with_stem-word-items.result.now) first
-    ∙ ap (λ l. (if is_some (at_text c.args.words.now text) then text ∷ [] else []) ++ l) (take_all c.loop-word.word-index c.with_stem-word-items.result.now c.loop-word-test.false ∙ c.with_stem-word-items.ensures)
+    let read = map (λ number. text_at (text_keys c.args.words.now) number) in
+    c.loop-number.invariant
+    ∙ ap (λ l. l ++ read (take c.loop-number.number-index c.with_stem-number-items.result.now)) first
+    ∙ ap (λ l. (if is_some (at_text c.args.words.now text) then text ∷ [] else []) ++ read l) (take_all c.loop-number.number-index c.with_stem-number-items.result.now c.loop-number-test.false ∙ c.with_stem-number-items.ensures)

@@ -1,6 +1,6 @@
-use Rattle.std.proofs.Common.{◌≡◌, ℕ, List, filter, map}
-use Rattle.lg_dict.specs.Tables.{listed, is_under}
+use Rattle.std.proofs.Common.{◌≡◌, ℕ, List, filter, take}
+use Rattle.lg_dict.specs.Tables.{text_keys, listed, is_under}
 use Rattle.lg_dict.proofs.tables.stem_table.Given as goal
 
-abbrev pub invariant-loop-word : goal.invariant-loop-word
-invariant-loop-word l = (text : List ℕ) → listed l.stems text ≡ filter (λ word. is_under text word) (map (λ key. key.now.items) l.yielded)
+abbrev pub invariant-loop-number : goal.invariant-loop-number
+invariant-loop-number l = (text : List ℕ) → listed (text_keys l.words) l.stems text ≡ filter (λ word. is_under text word) (take l.number (text_keys l.words))
