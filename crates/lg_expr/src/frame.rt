@@ -42,7 +42,7 @@ fn joined(operator: Operator, members: Vec<RawExpr>) -> RawExpr
 pub(crate) fn optional(alloc: Global, e: RawExpr) -> Result<RawExpr, NoMemory>
     ensures { IfOk result (λ o. raw_tree_of o ≡ optional (raw_tree_of e)) }
 {
-    let mut members = Vec::new(alloc);
+    let mut members = Vec::with_capacity(alloc, 2)?;
     members.push(RawExpr::Empty)?;
     members.push(e)?;
     Ok(RawExpr::Or(RawExprs::of(members)))
@@ -83,7 +83,16 @@ impl Frame {
         ensures { IfOk result (λ f. frame_of f ≡ with_alternative (frame_of self)) }
     {
         let mut alternatives = self.alternatives;
-        alternatives.push(joined(Operator::And, self.factors))?;
+        let mut factors = self.factors;
+        if factors.len() == 1 {
+            // the room of the one factor is kept for the next
+            alternatives.push(factors.remove(0))?;
+            return Ok(Frame {
+                alternatives,
+                factors,
+            });
+        }
+        alternatives.push(joined(Operator::And, factors))?;
         Ok(Frame {
             alternatives,
             factors: Vec::new(alloc),
@@ -94,8 +103,12 @@ impl Frame {
     pub(crate) fn value(self) -> Result<RawExpr, NoMemory>
         ensures { IfOk result (λ e. raw_tree_of e ≡ value (frame_of self)) }
     {
+        let last = joined(Operator::And, self.factors);
+        if self.alternatives.is_empty() {
+            return Ok(last);
+        }
         let mut alternatives = self.alternatives;
-        alternatives.push(joined(Operator::And, self.factors))?;
+        alternatives.push(last)?;
         Ok(joined(Operator::Or, alternatives))
     }
 }
