@@ -45,6 +45,10 @@ fn define(
     if let Some(first) = add(alloc, table, name, line)? {
         return Err(DictError::DuplicateWord(Text::of(alloc, name)?, first, line));
     }
+    if names.is_empty() {
+        // most entries define one word
+        names.reserve_exact(1)?;
+    }
     names.push(Text::of(alloc, name)?)?;
     Ok(())
 }

@@ -10,7 +10,7 @@ ghost use Rattle.lg_dictread.specs.Texts.{IsSmall, IsLarge};
 use crate::dict_error::DictError;
 use crate::limits::{CHOICES, NODES, SIDE};
 use lg_base::NoMemory;
-use lg_gram::macros::{fill, filled_choices, filled_longest_side, filled_nodes};
+use lg_gram::macros::{fill, filled_sizes};
 use lg_gram::{Formula, Macros, RawExpr};
 use std::alloc::Global;
 
@@ -19,15 +19,16 @@ pub(crate) fn measure<M: Macros>(macros: &M, expr: &RawExpr, line: u32) -> Resul
     ensures { let t = filled (M.formulas macros.now) (raw_tree_of expr.now) in
         MatchResult result (λ _. IsSmall t) (IsLarge t line) }
 {
-    let nodes = filled_nodes(expr, macros);
+    let sizes = filled_sizes(expr, macros);
+    let nodes = sizes.nodes;
     if nodes > NODES {
         return Err(DictError::TooManyNodes(line, nodes));
     }
-    let choices = filled_choices(expr, macros);
+    let choices = sizes.choices;
     if choices > CHOICES {
         return Err(DictError::TooManyChoices(line, choices));
     }
-    let side = filled_longest_side(expr, macros);
+    let side = sizes.left.max(sizes.right);
     if side > SIDE {
         return Err(DictError::SideTooLong(line, side));
     }
@@ -43,8 +44,5 @@ pub(crate) fn formula_of<M: Macros>(
     requires { IsFormula (filled (M.formulas macros.now) (raw_tree_of expr.now)) }
     ensures { IfOk result (λ f. tree_of f ≡ filled (M.formulas macros.now) (raw_tree_of expr.now)) }
 {
-    match Formula::of(fill(alloc, expr, macros)?) {
-        Some(formula) => Ok(formula),
-        None => unreachable!(),
-    }
+    Ok(Formula::of_small(fill(alloc, expr, macros)?))
 }

@@ -252,7 +252,7 @@ impl Exprs {
     pub fn copied(&self, alloc: Global) -> Result<Exprs, NoMemory>
         ensures { IfOk result (λ copy. trees_in (expr_items copy) ≡ trees_in (expr_items self.now)) }
     {
-        let mut copies = Vec::new(alloc);
+        let mut copies = Vec::with_capacity(alloc, self.items().len())?;
         for member in self.items() {
             copies.push(member.copied(alloc)?)?;
         }

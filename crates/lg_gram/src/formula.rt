@@ -63,6 +63,15 @@ impl Formula {
         }
     }
 
+    /// The formula of an expression that is known to be within the limits.
+    pub fn of_small(expr: Expr) -> Formula
+        requires { IsFormula (tree_of expr) }
+        ensures { result ≡ expr }
+    {
+        let nodes = nodes(&expr);
+        Formula { expr, nodes }
+    }
+
     /// The expression.
     pub fn expr(&self) -> &Expr
         ensures value { result.now ≡ self.now }

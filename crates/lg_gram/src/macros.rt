@@ -1,5 +1,5 @@
 //! Macros put into expressions.
-ghost use Rattle.std.specs.Prelude.{◌≡◌, ◌+◌, ◌<◌, ◌^◌, ◌-◌, min, max, true, false, length, map, IfOk, IfSome, MatchOption, Some, None};
+ghost use Rattle.std.specs.Prelude.{◌≡◌, ◌+◌, ◌*◌, ◌<◌, ◌^◌, ◌-◌, min, max, true, false, length, map, IfOk, IfSome, MatchOption, Some, None};
 ghost use Rattle.std.specs.List.{position};
 ghost use Rattle.std.specs.Option.{option_map};
 ghost use Rattle.lg_gram.specs.Limits.{COUNTED, SIDE_COUNTED, REFERENCES_COUNTED, LEVEL_COUNTED};
@@ -33,87 +33,158 @@ pub trait Macros {
 // Where the counts of nodes and of choices stop.
 const COUNTED: u64 = 1 << 40;
 
+/// The measures of an expression with its macros put in: its nodes, its choices, and the connectors that it has on each
+/// side where it has the most. Counting stops at 2^40, and at 2^32 - 1 for a side.
+#[derive(Clone, Copy, Debug)]
+pub struct Sizes {
+    pub nodes: u64,
+    pub choices: u64,
+    pub left: u32,
+    pub right: u32,
+}
+
+impl Sizes {
+    /// Of no members, joined by `&`.
+    fn of_all() -> Sizes
+        ensures { result ≡ record { nodes = 1; choices = 1; left = 0; right = 0 } }
+    {
+        Sizes {
+            nodes: 1,
+            choices: 1,
+            left: 0,
+            right: 0,
+        }
+    }
+
+    /// Of no members, joined by `or`.
+    fn of_any() -> Sizes
+        ensures { result ≡ record { nodes = 1; choices = 0; left = 0; right = 0 } }
+    {
+        Sizes {
+            nodes: 1,
+            choices: 0,
+            left: 0,
+            right: 0,
+        }
+    }
+
+    /// With one more member, joined by `&`.
+    fn and(self, member: Sizes) -> Sizes
+        ensures nodes { result.nodes ≡ min (self.nodes + member.nodes) COUNTED }
+        ensures choices { result.choices ≡ min (self.choices * member.choices) COUNTED }
+        ensures left { result.left ≡ min (self.left + member.left) SIDE_COUNTED }
+        ensures right { result.right ≡ min (self.right + member.right) SIDE_COUNTED }
+    {
+        Sizes {
+            nodes: self.nodes.saturating_add(member.nodes).min(COUNTED),
+            choices: self.choices.saturating_mul(member.choices).min(COUNTED),
+            left: self.left.saturating_add(member.left),
+            right: self.right.saturating_add(member.right),
+        }
+    }
+
+    /// With one more member, joined by `or`.
+    fn or(self, member: Sizes) -> Sizes
+        ensures nodes { result.nodes ≡ min (self.nodes + member.nodes) COUNTED }
+        ensures choices { result.choices ≡ min (self.choices + member.choices) COUNTED }
+        ensures left { result.left ≡ max self.left member.left }
+        ensures right { result.right ≡ max self.right member.right }
+    {
+        Sizes {
+            nodes: self.nodes.saturating_add(member.nodes).min(COUNTED),
+            choices: self.choices.saturating_add(member.choices).min(COUNTED),
+            left: self.left.max(member.left),
+            right: self.right.max(member.right),
+        }
+    }
+}
+
+/// The measures of an expression with its macros put in, in one pass.
+#[cycle(filled_sizes)]
+pub fn filled_sizes<M: Macros>(raw: &RawExpr, macros: &M) -> Sizes
+    ensures nodes { result.nodes ≡ min (node_count (filled (M.formulas macros.now) (raw_tree_of raw.now))) COUNTED }
+    ensures choices { result.choices ≡ min (choice_count (filled (M.formulas macros.now) (raw_tree_of raw.now))) COUNTED }
+    ensures left { result.left ≡ min (side_count false (filled (M.formulas macros.now) (raw_tree_of raw.now))) SIDE_COUNTED }
+    ensures right { result.right ≡ min (side_count true (filled (M.formulas macros.now) (raw_tree_of raw.now))) SIDE_COUNTED }
+{
+    match raw {
+        RawExpr::Empty => Sizes::of_all(),
+        RawExpr::Conn(c) => Sizes {
+            nodes: 1,
+            choices: 1,
+            left: u32::from(!c.is_right()),
+            right: u32::from(c.is_right()),
+        },
+        RawExpr::Named(name, _) => macro_sizes(name, macros),
+        RawExpr::And(members) => sizes_of_all(members, macros),
+        RawExpr::Or(members) => sizes_of_any(members, macros),
+        RawExpr::Priced(inner, _) => {
+            let sizes = filled_sizes(inner, macros);
+            Sizes {
+                nodes: (1 + sizes.nodes).min(COUNTED),
+                ..sizes
+            }
+        }
+    }
+}
+
+#[cycle(filled_sizes)]
+fn sizes_of_all<M: Macros>(members: &RawExprs, macros: &M) -> Sizes
+    ensures nodes { result.nodes ≡ min (1 + nodes_in (filled_in (M.formulas macros.now) (raw_trees_in (raw_items members.now)))) COUNTED }
+    ensures choices { result.choices ≡ min (product_in (filled_in (M.formulas macros.now) (raw_trees_in (raw_items members.now)))) COUNTED }
+    ensures left { result.left ≡ min (side_in false (filled_in (M.formulas macros.now) (raw_trees_in (raw_items members.now)))) SIDE_COUNTED }
+    ensures right { result.right ≡ min (side_in true (filled_in (M.formulas macros.now) (raw_trees_in (raw_items members.now)))) SIDE_COUNTED }
+{
+    let mut sizes = Sizes::of_all();
+    for member in members.items() {
+        sizes = sizes.and(filled_sizes(member, macros));
+    }
+    sizes
+}
+
+#[cycle(filled_sizes)]
+fn sizes_of_any<M: Macros>(members: &RawExprs, macros: &M) -> Sizes
+    ensures nodes { result.nodes ≡ min (1 + nodes_in (filled_in (M.formulas macros.now) (raw_trees_in (raw_items members.now)))) COUNTED }
+    ensures choices { result.choices ≡ min (choices_in (filled_in (M.formulas macros.now) (raw_trees_in (raw_items members.now)))) COUNTED }
+    ensures left { result.left ≡ min (longest_in false (filled_in (M.formulas macros.now) (raw_trees_in (raw_items members.now)))) SIDE_COUNTED }
+    ensures right { result.right ≡ min (longest_in true (filled_in (M.formulas macros.now) (raw_trees_in (raw_items members.now)))) SIDE_COUNTED }
+{
+    let mut sizes = Sizes::of_any();
+    for member in members.items() {
+        sizes = sizes.or(filled_sizes(member, macros));
+    }
+    sizes
+}
+
+fn macro_sizes<M: Macros>(name: &Text, macros: &M) -> Sizes
+    ensures nodes { result.nodes ≡ min (node_count (put_in (M.formulas macros.now name.now))) COUNTED }
+    ensures choices { result.choices ≡ min (choice_count (put_in (M.formulas macros.now name.now))) COUNTED }
+    ensures left { result.left ≡ min (side_count false (put_in (M.formulas macros.now name.now))) SIDE_COUNTED }
+    ensures right { result.right ≡ min (side_count true (put_in (M.formulas macros.now name.now))) SIDE_COUNTED }
+{
+    match macros.named(name.bytes()) {
+        None => Sizes::of_all(),
+        Some((formula, _)) => Sizes {
+            nodes: formula.nodes(),
+            choices: choices(formula.expr()),
+            left: side_length(formula.expr(), false),
+            right: side_length(formula.expr(), true),
+        },
+    }
+}
+
 /// How many nodes an expression has with its macros put in. Counting stops at 2^40.
-#[cycle(filled_nodes)]
 pub fn filled_nodes<M: Macros>(raw: &RawExpr, macros: &M) -> u64
     ensures { result ≡ min (node_count (filled (M.formulas macros.now) (raw_tree_of raw.now))) COUNTED }
 {
-    match raw {
-        RawExpr::Empty => 1,
-        RawExpr::Conn(_) => 1,
-        RawExpr::Named(name, _) => macro_nodes(name, macros),
-        RawExpr::And(members) => filled_nodes_above(members, macros),
-        RawExpr::Or(members) => filled_nodes_above(members, macros),
-        RawExpr::Priced(inner, _) => (1 + filled_nodes(inner, macros)).min(COUNTED),
-    }
-}
-
-#[cycle(filled_nodes)]
-fn filled_nodes_above<M: Macros>(members: &RawExprs, macros: &M) -> u64
-    ensures { result ≡ min (1 + nodes_in (filled_in (M.formulas macros.now) (raw_trees_in (raw_items members.now)))) COUNTED }
-{
-    let mut sum: u64 = 1;
-    for member in members.items() {
-        sum = (sum + filled_nodes(member, macros)).min(COUNTED);
-    }
-    sum
-}
-
-fn macro_nodes<M: Macros>(name: &Text, macros: &M) -> u64
-    ensures { result ≡ min (node_count (put_in (M.formulas macros.now name.now))) COUNTED }
-{
-    match macros.named(name.bytes()) {
-        None => 1,
-        Some((formula, _)) => formula.nodes(),
-    }
+    filled_sizes(raw, macros).nodes
 }
 
 /// How many choices an expression has with its macros put in. Counting stops at 2^40.
-#[cycle(filled_choices)]
 pub fn filled_choices<M: Macros>(raw: &RawExpr, macros: &M) -> u64
     ensures { result ≡ min (choice_count (filled (M.formulas macros.now) (raw_tree_of raw.now))) COUNTED }
 {
-    match raw {
-        RawExpr::Empty => 1,
-        RawExpr::Conn(_) => 1,
-        RawExpr::Named(name, _) => macro_choices(name, macros),
-        RawExpr::And(members) => filled_choices_multiplied(members, macros),
-        RawExpr::Or(members) => filled_choices_added(members, macros),
-        RawExpr::Priced(inner, _) => filled_choices(inner, macros),
-    }
-}
-
-#[cycle(filled_choices)]
-fn filled_choices_multiplied<M: Macros>(members: &RawExprs, macros: &M) -> u64
-    ensures { result ≡ min (product_in (filled_in (M.formulas macros.now) (raw_trees_in (raw_items members.now)))) COUNTED }
-{
-    let mut product: u64 = 1;
-    for member in members.items() {
-        product = product
-            .saturating_mul(filled_choices(member, macros))
-            .min(COUNTED);
-    }
-    product
-}
-
-#[cycle(filled_choices)]
-fn filled_choices_added<M: Macros>(members: &RawExprs, macros: &M) -> u64
-    ensures { result ≡ min (choices_in (filled_in (M.formulas macros.now) (raw_trees_in (raw_items members.now)))) COUNTED }
-{
-    let mut sum: u64 = 0;
-    for member in members.items() {
-        sum = (sum + filled_choices(member, macros)).min(COUNTED);
-    }
-    sum
-}
-
-fn macro_choices<M: Macros>(name: &Text, macros: &M) -> u64
-    ensures { result ≡ min (choice_count (put_in (M.formulas macros.now name.now))) COUNTED }
-{
-    match macros.named(name.bytes()) {
-        None => 1,
-        Some((formula, _)) => choices(formula.expr()),
-    }
+    filled_sizes(raw, macros).choices
 }
 
 /// The greater of the numbers of connectors that an expression has on its two sides, each where it has the most, with
@@ -122,52 +193,8 @@ pub fn filled_longest_side<M: Macros>(raw: &RawExpr, macros: &M) -> u32
     ensures { let t = filled (M.formulas macros.now) (raw_tree_of raw.now) in
         result ≡ min (max (side_count false t) (side_count true t)) SIDE_COUNTED }
 {
-    filled_side(raw, macros, false).max(filled_side(raw, macros, true))
-}
-
-#[cycle(filled_sides)]
-fn filled_side<M: Macros>(raw: &RawExpr, macros: &M, right: bool) -> u32
-    ensures { result ≡ min (side_count right (filled (M.formulas macros.now) (raw_tree_of raw.now))) SIDE_COUNTED }
-{
-    match raw {
-        RawExpr::Empty => 0,
-        RawExpr::Conn(c) => u32::from(c.is_right() == right),
-        RawExpr::Named(name, _) => macro_side(name, macros, right),
-        RawExpr::And(members) => filled_side_added(members, macros, right),
-        RawExpr::Or(members) => filled_side_longest(members, macros, right),
-        RawExpr::Priced(inner, _) => filled_side(inner, macros, right),
-    }
-}
-
-#[cycle(filled_sides)]
-fn filled_side_added<M: Macros>(members: &RawExprs, macros: &M, right: bool) -> u32
-    ensures { result ≡ min (side_in right (filled_in (M.formulas macros.now) (raw_trees_in (raw_items members.now)))) SIDE_COUNTED }
-{
-    let mut sum: u32 = 0;
-    for member in members.items() {
-        sum = sum.saturating_add(filled_side(member, macros, right));
-    }
-    sum
-}
-
-#[cycle(filled_sides)]
-fn filled_side_longest<M: Macros>(members: &RawExprs, macros: &M, right: bool) -> u32
-    ensures { result ≡ min (longest_in right (filled_in (M.formulas macros.now) (raw_trees_in (raw_items members.now)))) SIDE_COUNTED }
-{
-    let mut longest: u32 = 0;
-    for member in members.items() {
-        longest = longest.max(filled_side(member, macros, right));
-    }
-    longest
-}
-
-fn macro_side<M: Macros>(name: &Text, macros: &M, right: bool) -> u32
-    ensures { result ≡ min (side_count right (put_in (M.formulas macros.now name.now))) SIDE_COUNTED }
-{
-    match macros.named(name.bytes()) {
-        None => 0,
-        Some((formula, _)) => side_length(formula.expr(), right),
-    }
+    let sizes = filled_sizes(raw, macros);
+    sizes.left.max(sizes.right)
 }
 
 /// The expression with its macros put in. A macro that is not known becomes `()`.
@@ -192,7 +219,7 @@ pub fn fill<M: Macros>(alloc: Global, raw: &RawExpr, macros: &M) -> Result<Expr,
 fn fill_members<M: Macros>(alloc: Global, members: &RawExprs, macros: &M) -> Result<Exprs, NoMemory>
     ensures { IfOk result (λ es. trees_in (expr_items es) ≡ filled_in (M.formulas macros.now) (raw_trees_in (raw_items members.now))) }
 {
-    let mut exprs = Vec::new(alloc);
+    let mut exprs = Vec::with_capacity(alloc, members.items().len())?;
     for member in members.items() {
         exprs.push(fill(alloc, member, macros)?)?;
     }
