@@ -19,8 +19,8 @@ pub const LETTERS: usize = 16;
 #[derive(Clone, Copy, Debug)]
 pub struct Label {
     letters: [u8; LETTERS],
-    caps_len: usize,
-    len: usize,
+    caps_len: u8,
+    len: u8,
 }
 
 impl Model for Label {
@@ -65,8 +65,8 @@ impl Label {
         let kept = without_stars(subs);
         Some(Label {
             letters: packed(caps, kept),
-            caps_len: caps.len(),
-            len: caps.len() + kept.len(),
+            caps_len: caps.len() as u8,
+            len: (caps.len() + kept.len()) as u8,
         })
     }
 
@@ -75,7 +75,7 @@ impl Label {
         ensures value { result.now ≡ self.now.caps }
         ensures named { IsName self.now }
     {
-        &self.letters[..self.caps_len]
+        &self.letters[..usize::from(self.caps_len)]
     }
 
     /// The subscripts.
@@ -83,7 +83,7 @@ impl Label {
         ensures value { result.now ≡ self.now.subs }
         ensures named { IsName self.now }
     {
-        &self.letters[self.caps_len..self.len]
+        &self.letters[usize::from(self.caps_len)..usize::from(self.len)]
     }
 
     /// All letters.
@@ -92,7 +92,7 @@ impl Label {
         ensures value { result.now ≡ self.now.caps ++ self.now.subs }
         ensures named { IsName self.now }
     {
-        &self.letters[..self.len]
+        &self.letters[..usize::from(self.len)]
     }
 }
 
