@@ -5,6 +5,7 @@ pub mod Connectors
 pub mod Trees
 pub mod Measures
 pub mod Formulas
+pub mod Bodies
 pub mod Disjuncts
 pub mod Problems
 pub mod Linkages

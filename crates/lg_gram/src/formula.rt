@@ -8,6 +8,7 @@ use crate::expr::{Expr, are_prices_small, choices, depth, longest_side, nodes};
 use lg_base::NoMemory;
 use std::alloc::Global;
 use std::marker::Model;
+use std::sync::Arc;
 
 // The limits of a formula.
 const NODES: u64 = 1_000_000;
@@ -20,10 +21,21 @@ const DEPTH: u32 = 602;
 
 /// An expression within the limits: at most 1,000,000 nodes, 1,000,000 choices and 255 connectors on a side, no leaf
 /// more than 602 steps below the root, and no bracket's cost more than 10,000,000 thousandths from zero.
+///
+/// Formulas may share their expression, so that as many words as have it hold it once.
 #[derive(Debug, Drop)]
 pub struct Formula {
-    expr: Expr,
+    body: Body,
     nodes: u64,
+}
+
+/// Where the expression of a formula is held.
+#[derive(Debug, Drop)]
+enum Body {
+    /// By this formula alone.
+    Own(Expr),
+    /// By every formula that shares it.
+    Shared(Arc<Expr>),
 }
 
 impl Model for Formula {
@@ -32,6 +44,7 @@ impl Model for Formula {
     ghost use Rattle.lg_gram.specs.Trees.{tree_of};
     ghost use Rattle.lg_gram.specs.Measures.{node_count};
     ghost use Rattle.lg_gram.specs.Formulas.{IsFormula};
+    ghost use Rattle.lg_gram.specs.Bodies.{held_in};
 
     ghost Value = { Seen };
 
@@ -40,9 +53,9 @@ impl Model for Formula {
 
     ghost coded = { Prim.hlevel (codes, e.the_row.coded) };
 
-    ghost view = { λ f. f.expr };
+    ghost view = { λ f. held_in f.body };
 
-    ghost invariant = { λ f. IsFormula (tree_of f.expr) × (f.nodes ≡ node_count (tree_of f.expr)) };
+    ghost invariant = { λ f. IsFormula (tree_of (held_in f.body)) × (f.nodes ≡ node_count (tree_of (held_in f.body))) };
 }
 
 impl Formula {
@@ -57,7 +70,8 @@ impl Formula {
             && depth(&expr) <= DEPTH
             && are_prices_small(&expr);
         if fits {
-            Some(Formula { expr, nodes })
+            let body = Body::Own(expr);
+            Some(Formula { body, nodes })
         } else {
             None
         }
@@ -69,7 +83,8 @@ impl Formula {
         ensures { result ≡ expr }
     {
         let nodes = nodes(&expr);
-        Formula { expr, nodes }
+        let body = Body::Own(expr);
+        Formula { body, nodes }
     }
 
     /// The expression.
@@ -77,7 +92,10 @@ impl Formula {
         ensures value { result.now ≡ self.now }
         ensures limits { IsFormula (tree_of self.now) }
     {
-        &self.expr
+        match &self.body {
+            Body::Own(expr) => expr,
+            Body::Shared(expr) => expr,
+        }
     }
 
     /// How many nodes the expression has. The time is constant.
@@ -87,13 +105,28 @@ impl Formula {
         self.nodes
     }
 
+    /// The same formula, whose copies share its expression with it and take a constant time.
+    pub fn shared(self, alloc: Global) -> Result<Formula, NoMemory>
+        ensures { IfOk result (λ shared. shared ≡ self) }
+    {
+        let Formula { body, nodes } = self;
+        let body = match body {
+            Body::Own(expr) => Body::Shared(Arc::new(alloc, expr)?),
+            Body::Shared(expr) => Body::Shared(expr),
+        };
+        Ok(Formula { body, nodes })
+    }
+
     /// A copy: a formula of the same tree.
     pub fn copied(&self, alloc: Global) -> Result<Formula, NoMemory>
         ensures { IfOk result (λ copy. tree_of copy ≡ tree_of self.now) }
     {
-        let expr = self.expr.copied(alloc)?;
+        let body = match &self.body {
+            Body::Own(expr) => Body::Own(expr.copied(alloc)?),
+            Body::Shared(expr) => Body::Shared(Arc::try_clone(expr)?),
+        };
         Ok(Formula {
-            expr,
+            body,
             nodes: self.nodes,
         })
     }
