@@ -1,12 +1,13 @@
 -- What the text of a dictionary stands for: its entries, or its first fault.
 --   text := entry*
-use Rattle.std.specs.Prelude.{◌≡◌, ◌≢◌, ℕ, ◌<◌, ◌≤◌, min, max, List, [], ◌∷◌, ◌++◌, Some, None, false, true, map, if◌then◌else◌}
+use Rattle.std.specs.Prelude.{◌≡◌, ◌≢◌, ℕ, ◌<◌, ◌≤◌, min, List, [], ◌∷◌, ◌++◌, Some, None, map, if◌then◌else◌}
 use Rattle.std.specs.List.{list_any}
 use Rattle.std.specs.Str.{IsValidUpTo}
 use Rattle.lg_base.specs.Contents.{Contents}
 use Rattle.lg_gram.specs.Filled.{Formulas, filled, filled_level}
 use Rattle.lg_gram.specs.Limits.{FORMULA_NODES, FORMULA_CHOICES, SIDE, COUNTED, SIDE_COUNTED, LEVEL}
-use Rattle.lg_gram.specs.Measures.{node_count, choice_count, side_count}
+use Rattle.lg_gram.specs.Measures.{node_count, choice_count}
+pub use Rattle.lg_gram.specs.Measured.{longest_side, IsSmall}
 use Rattle.lg_gram.specs.Trees.{Tree}
 use Rattle.lg_lex.specs.declared.marks.Marks.TheVariants.{Dictionary}
 use Rattle.lg_lex.specs.declared.place.Place.{Place}
@@ -61,15 +62,6 @@ then_entry earlier new m = record {
   defined = both earlier.defined new;
   formulas = λ name. if list_any (same_text name) m.macros then Some (m.formula, m.level) else earlier.formulas name;
 }
-
-abbrev pub longest_side : Tree → ℕ
-longest_side t = max (side_count false t) (side_count true t)
-
--- the formula is within the measures
-pub record IsSmall (t : Tree) : Type 0 where
-  pub nodes : node_count t ≤ FORMULA_NODES
-  pub choices : choice_count t ≤ FORMULA_CHOICES
-  pub side : longest_side t ≤ SIDE
 
 -- the first measure that the formula of an entry on this line passes, with what was counted
 pub data IsLarge (t : Tree) (line : ℕ) : DictError → Type 0 where

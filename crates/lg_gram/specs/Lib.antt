@@ -16,4 +16,7 @@ pub mod RawTrees
 pub mod Pairs
 pub mod Ground
 pub mod Filled
+pub mod Fits
+pub mod EntryBounds
+pub mod Measured
 pub mod Entries

@@ -11,11 +11,11 @@ use std::marker::Model;
 use std::sync::Arc;
 
 // The limits of a formula.
-const NODES: u64 = 1_000_000;
+pub(crate) const NODES: u64 = 1_000_000;
 
-const CHOICES: u64 = 1_000_000;
+pub(crate) const CHOICES: u64 = 1_000_000;
 
-const SIDE: u32 = 255;
+pub(crate) const SIDE: u32 = 255;
 
 const DEPTH: u32 = 602;
 
@@ -109,12 +109,15 @@ impl Formula {
     pub fn shared(self, alloc: Global) -> Result<Formula, NoMemory>
         ensures { IfOk result (λ shared. shared ≡ self) }
     {
-        let Formula { body, nodes } = self;
-        let body = match body {
-            Body::Own(expr) => Body::Shared(Arc::new(alloc, expr)?),
-            Body::Shared(expr) => Body::Shared(expr),
+        let nodes = self.nodes;
+        let shared = match self.body {
+            Body::Own(expr) => Arc::new(alloc, expr)?,
+            Body::Shared(expr) => expr,
         };
-        Ok(Formula { body, nodes })
+        Ok(Formula {
+            body: Body::Shared(shared),
+            nodes,
+        })
     }
 
     /// A copy: a formula of the same tree.

@@ -3,6 +3,7 @@
 
 pub mod connector;
 pub mod disjunct;
+pub mod edit;
 pub mod entry;
 pub mod expr;
 pub mod formula;
@@ -11,13 +12,16 @@ pub mod law;
 pub mod linkage;
 pub mod listing;
 pub mod macros;
+pub mod measures;
 pub mod order;
 pub mod problem;
+pub mod reply;
 #[cfg(test)]
 mod tests;
 
 pub use connector::{Connector, Connectors, link_label, matches};
 pub use disjunct::{Chosen, Disjunct, Disjuncts, Positions};
+pub use edit::EditRefusal;
 pub use entry::{Entry, Item, ItemKind, Items, RawEntry, RawExpr, RawExprs};
 pub use expr::{Expr, Exprs, choices, longest_side, nodes};
 pub use formula::Formula;
@@ -25,4 +29,6 @@ pub use label::{Label, capitals};
 pub use linkage::{Link, Linkage, Links};
 pub use listing::{Bound, Page, PageItem, PageItems, Stats, Token, Tokens, Violation};
 pub use macros::Macros;
+pub use measures::{Excess, filled_formula, first_excess};
 pub use problem::Problem;
+pub use reply::{CommandKind, Place, Places, Replies, Reply, ReplyLists};

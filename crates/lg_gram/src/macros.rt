@@ -173,30 +173,6 @@ fn macro_sizes<M: Macros>(name: &Text, macros: &M) -> Sizes
     }
 }
 
-/// How many nodes an expression has with its macros put in. Counting stops at 2^40.
-pub fn filled_nodes<M: Macros>(raw: &RawExpr, macros: &M) -> u64
-    ensures { result ≡ min (node_count (filled (M.formulas macros.now) (raw_tree_of raw.now))) COUNTED }
-{
-    filled_sizes(raw, macros).nodes
-}
-
-/// How many choices an expression has with its macros put in. Counting stops at 2^40.
-pub fn filled_choices<M: Macros>(raw: &RawExpr, macros: &M) -> u64
-    ensures { result ≡ min (choice_count (filled (M.formulas macros.now) (raw_tree_of raw.now))) COUNTED }
-{
-    filled_sizes(raw, macros).choices
-}
-
-/// The greater of the numbers of connectors that an expression has on its two sides, each where it has the most, with
-/// its macros put in. Counting stops at 2^32 - 1.
-pub fn filled_longest_side<M: Macros>(raw: &RawExpr, macros: &M) -> u32
-    ensures { let t = filled (M.formulas macros.now) (raw_tree_of raw.now) in
-        result ≡ min (max (side_count false t) (side_count true t)) SIDE_COUNTED }
-{
-    let sizes = filled_sizes(raw, macros);
-    sizes.left.max(sizes.right)
-}
-
 /// The expression with its macros put in. A macro that is not known becomes `()`.
 #[cycle(fill)]
 pub fn fill<M: Macros>(alloc: Global, raw: &RawExpr, macros: &M) -> Result<Expr, NoMemory>

@@ -3,9 +3,7 @@ ghost use Rattle.std.specs.Prelude.{if◌then◌else◌, ◌==◌, Some, None};
 ghost use Rattle.std.specs.Cmp.Lexicographic.{pointwise};
 ghost use Rattle.lg_gram.specs.Trees.{tree_of};
 
-use crate::macros::{
-    fill, filled_choices, filled_level, filled_longest_side, filled_nodes, first_unknown,
-};
+use crate::macros::{fill, filled_level, filled_sizes, first_unknown};
 use crate::problem::{DISJUNCT_COST, POSITIONS, SIDE};
 use crate::*;
 use lg_base::{Cost, Text};
@@ -170,6 +168,8 @@ fn formula_copied(rt: HostRuntime) -> Result<(), Fail> {
     let alloc = rt.alloc();
     let whole = Formula::of(bracketed(alloc, 2, Cost::of(0))?).ok_or("refused")?;
     let copy = whole.copied(alloc)?;
+    assert_eq!(rt; (copy.nodes(), nodes(copy.expr())), (3, 3));
+    let copy = copy.shared(alloc)?.copied(alloc)?;
     assert_eq!(rt; (copy.nodes(), nodes(copy.expr())), (3, 3));
     Ok(())
 }
@@ -374,9 +374,11 @@ fn macros_put_in(rt: HostRuntime) -> Result<(), Fail> {
     let alloc = rt.alloc();
     let entry = entry(alloc)?;
     let one = only_macro(alloc)?;
-    assert_eq!(rt; filled_nodes(&entry.expr, &one), 6);
-    assert_eq!(rt; filled_choices(&entry.expr, &one), 2);
-    assert_eq!(rt; filled_longest_side(&entry.expr, &one), 1);
+    let sizes = filled_sizes(&entry.expr, &one);
+    assert_eq!(rt; sizes.nodes, 6);
+    assert_eq!(rt; sizes.choices, 2);
+    assert_eq!(rt; sizes.left.max(sizes.right), 1);
+    assert!(rt; first_excess(&entry.expr, &one).is_none());
     assert_eq!(rt; nodes(&fill(alloc, &entry.expr, &one)?), 6);
     Ok(())
 }
