@@ -8,7 +8,7 @@ ghost use Rattle.lg_gram.specs.Measures.{node_count, nodes_in, choice_count, pro
 ghost use Rattle.lg_gram.specs.RawTrees.{raw_tree_of, raw_trees_in, raw_items, macros_of, macros_in};
 ghost use Rattle.lg_gram.specs.Filled.{filled, filled_in, put_in, macro_names, is_unknown, FirstUnknown, level_within, level_reached, highest, filled_level};
 
-use crate::entry::{RawEntry, RawExpr, RawExprs};
+use crate::entry::{RawExpr, RawExprs};
 use crate::expr::{Expr, Exprs, choices, side_length};
 use crate::formula::Formula;
 use lg_base::{NoMemory, Text};
@@ -249,12 +249,12 @@ fn unknown_among<M: Macros>(members: &RawExprs, macros: &M, first: u32) -> Contr
     ControlFlow::Continue(next)
 }
 
-/// The greatest number of brackets open at once, with the macros put in: what the entry has of its own and, at each
-/// reference, the brackets open there, one for the macro and the macro's own. Counting stops at 2^32 - 1.
-pub fn filled_level<M: Macros>(entry: &RawEntry, macros: &M) -> u32
-    ensures { result ≡ min (filled_level (M.formulas macros.now) entry.now.level (raw_tree_of entry.now.expr)) LEVEL_COUNTED }
+/// The greatest number of brackets open at once, with the macros put in: so many as are written and, at each reference, the
+/// brackets open there, one for the macro and the macro's own. Counting stops at 2^32 - 1.
+pub fn filled_level<M: Macros>(written: u32, raw: &RawExpr, macros: &M) -> u32
+    ensures { result ≡ min (filled_level (M.formulas macros.now) written (raw_tree_of raw.now)) LEVEL_COUNTED }
 {
-    entry.level.max(level_in(&entry.expr, macros))
+    written.max(level_in(raw, macros))
 }
 
 #[cycle(filled_level)]

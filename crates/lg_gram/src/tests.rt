@@ -365,7 +365,7 @@ fn macros_named(rt: HostRuntime) -> Result<(), Fail> {
     assert!(rt; entry.macro_name(2).is_none());
     let one = only_macro(alloc)?;
     assert_eq!(rt; first_unknown(&entry.expr, &one), Some(1));
-    assert_eq!(rt; filled_level(&entry, &one), 3);
+    assert_eq!(rt; filled_level(entry.level, &entry.expr, &one), 3);
     Ok(())
 }
 

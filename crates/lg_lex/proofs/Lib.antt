@@ -7,3 +7,4 @@ pub mod RunLists
 pub mod ValidFronts
 pub mod TokenTexts
 pub mod AfterMark
+pub mod Sections

@@ -1,6 +1,7 @@
 pub mod Classes
 pub mod Tokens
 pub mod Lexing
+pub mod Sections
 pub mod Found
 pub mod Places
 pub mod Spots

@@ -1,7 +1,7 @@
 //! Facts about what the contracts of this crate cite, each proved of every text. The functions do nothing: a caller
 //! whose proof needs a fact calls its function.
 
-ghost use Rattle.std.specs.Prelude.{◌≡◌, ℕ, ◌+◌, ◌≤◌, false, List, ◌∷◌, ◌++◌, length, take, slice_range, ◌⊎◌};
+ghost use Rattle.std.specs.Prelude.{◌≡◌, ℕ, ◌+◌, ◌≤◌, false, List, ◌∷◌, ◌++◌, length, map, take, drop, slice_range, ◌⊎◌};
 ghost use Rattle.std.specs.List.{list_any, AllByRecursion};
 ghost use Rattle.std.specs.Str.{IsUtf8, IsValidUpTo};
 ghost use Rattle.lg_lex.specs.declared.marks.Marks.{Marks};
@@ -9,7 +9,8 @@ ghost use Rattle.lg_lex.specs.declared.place.Place.{Place};
 ghost use Rattle.lg_lex.specs.declared.run.Separators.{Separators};
 ghost use Rattle.lg_lex.specs.Classes.{line_feed};
 ghost use Rattle.lg_lex.specs.Tokens.{Lexeme, AreTokens, HasUtf8};
-ghost use Rattle.lg_lex.specs.Lexing.{between, lex};
+ghost use Rattle.lg_lex.specs.Lexing.{between, lex, tokens_from};
+ghost use Rattle.lg_lex.specs.Sections.{IsClosed, moved};
 ghost use Rattle.lg_lex.specs.Runs.{AreRuns, outside, runs_of};
 ghost use Rattle.lg_lex.specs.Places.{first_place, capped, is_line_feed, place_of, place_after};
 
@@ -20,6 +21,15 @@ pub fn tokens_are_one_list()
     ensures one { (marks : Marks) (tokens : List (Lexeme × ℕ)) (before : ℕ) (bytes : List ℕ)
         → AreTokens marks tokens before bytes
         → lex marks between before bytes ≡ tokens }
+{}
+
+/// A section without comments and quotes that ends in a sign has the same tokens wherever it stands: those that it has as a
+/// text of its own.
+pub fn sections_keep_their_tokens()
+    ensures { (marks : Marks) (text section : List ℕ) (from : ℕ)
+        → IsClosed marks section
+        → drop from text ≡ section ++ drop (from + length section) text
+        → tokens_from marks text from ≡ map (moved from) (tokens_from marks section 0) ++ tokens_from marks text (from + length section) }
 {}
 
 /// The tokens of a text that is UTF-8 are UTF-8.
