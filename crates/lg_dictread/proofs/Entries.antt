@@ -14,7 +14,7 @@ use Rattle.lg_dictread.specs.Scanning.{Scanned, items_end, items_stop, scan_step
 -- ---- what is scanned is so
 
 -- what a scan of these tokens after some items gives: more items and a colon after one or more, or a token at fault
-abbrev ScanIs : List (Item × ℕ) → List Token → Scanned → Type 0
+abbrev pub ScanIs : List (Item × ℕ) → List Token → Scanned → Type 0
 ScanIs is ts (items_end js body) = (more : List (Item × ℕ)) × (mark : Token) × (js ≡ is ++ more) × (js ≢ []) × AreItems more ts (mark ∷ body) × (head mark ≡ colon)
 ScanIs is ts (items_stop rest) = (more : List (Item × ℕ)) × AreItems more ts rest × HeadStops (is ++ more) rest
 
@@ -29,7 +29,7 @@ step_is colon (i ∷ is) t ts e next = ([], t, sym (append-nil (i ∷ is)), (λ 
 step_is other [] t ts e next = ([], refl, λ i q. cc)
 step_is other (i ∷ is) t ts e next = ([], refl, e)
 
-scan_is : (ts : List Token) (is : List (Item × ℕ)) → ScanIs is ts (scan is ts)
+pub scan_is : (ts : List Token) (is : List (Item × ℕ)) → ScanIs is ts (scan is ts)
 scan_is [] is = ([], refl, tt)
 scan_is (t ∷ ts) is = step_is (head t) is t ts refl (λ js. scan_is ts js)
 

@@ -16,7 +16,7 @@ use Rattle.std.specs.Option.{option_map}
 use Rattle.std.specs.Slice.{IsItemAt}
 use Rattle.indexmap.specs.IndexMap.{IndexMap, get_by}
 use Rattle.lg_gram.specs.declared.entry.Entry.{Entry}
-use Rattle.lg_gram.specs.Trees.{tree_of}
+use Rattle.lg_gram.specs.Trees.{Tree, tree_of}
 use Rattle.lg_dictread.specs.Definitions.{same_text}
 use Rattle.lg_dictread.specs.Tables.{text_entries}
 use Rattle.lg_dictread.specs.Reading.{entry_formula, formula_at, place_of_macro, formulas_of, IsKept}
@@ -47,7 +47,7 @@ slice_within entries e place low =
     ∙ ap Some (get_or_append_left entries (e ∷ []) e place low)
     ∙ sym (slice_get-get_or entries place e low)
 
-formula_within : (entries : List Entry) (e : Entry) (old : Option ℕ) → IfSome old (λ place. place < length entries) → formula_at (entries ++ e ∷ []) old ≡ formula_at entries old
+pub formula_within : (entries : List Entry) (e : Entry) (old : Option ℕ) → IfSome old (λ place. place < length entries) → formula_at (entries ++ e ∷ []) old ≡ formula_at entries old
 formula_within entries e None low = refl
 formula_within entries e (Some place) low = ap (option_map entry_formula) (slice_within entries e place low)
 
@@ -56,7 +56,7 @@ formula_more : (entries : List Entry) (e : Entry) (place : ℕ) (is_new : Bool) 
 formula_more entries e place true old at low = ap (λ (n : ℕ). option_map entry_formula (slice_get (entries ++ e ∷ []) n)) at ∙ ap (option_map entry_formula) (slice_seam entries e)
 formula_more entries e place false old at low = formula_within entries e old low
 
-place_more : (entries : List Entry) (e : Entry) (place : ℕ) (is_new : Bool) (old : Option ℕ) → place ≡ length entries → IfSome old (λ p. p < length entries)
+pub place_more : (entries : List Entry) (e : Entry) (place : ℕ) (is_new : Bool) (old : Option ℕ) → place ≡ length entries → IfSome old (λ p. p < length entries)
     → IfSome (cond is_new (Some place) old) (λ p. p < length (entries ++ e ∷ []))
 place_more entries e place true old at low = omega (arith, length-append entries (e ∷ []))
 place_more entries e place false None at low = tt
@@ -100,3 +100,25 @@ fits_found entries (Some place) h = fit_at entries place (All-from_recursion (λ
 
 pub all_fit : (e : code_earlier.Earlier) → IsKept e → AllFit (formulas_of e)
 all_fit e kept name = fits_found e.entries.items (place_of_macro e name) kept.fits
+
+-- ---- what is recalled
+
+-- a section that is recalled after one more entry writes the formula of its entry
+module _ (entries : List Entry) (e : Entry) (Written : List ℕ → Tree × ℕ → Type 0) (old now : List ℕ → Option ℕ) (place : ℕ) (at : place ≡ length entries)
+    (low : (text : List ℕ) → IfSome (old text) (λ p. p < length entries)) (written : (text : List ℕ) → IfSome (formula_at entries (old text)) (Written text)) where
+  abbrev pub WrittenAt : List ℕ → Type 0
+  WrittenAt text = IfSome (formula_at (entries ++ e ∷ []) (now text)) (Written text)
+
+  pub written_none : (text : List ℕ) → now text ≡ None → WrittenAt text
+  written_none text is = subst (λ (o : Option ℕ). IfSome (formula_at (entries ++ e ∷ []) o) (Written text)) (sym is) tt
+
+  pub written_same : (text : List ℕ) → now text ≡ old text → WrittenAt text
+  written_same text is =
+      subst (λ (o : Option ℕ). IfSome (formula_at (entries ++ e ∷ []) o) (Written text)) (sym is)
+      (subst (λ (m : Option (Tree × ℕ)). IfSome m (Written text)) (sym (formula_within entries e (old text) (low text))) (written text))
+
+  pub written_now : (text : List ℕ) → now text ≡ Some place → Written text (entry_formula e) → WrittenAt text
+  written_now text is h =
+      subst (λ (o : Option ℕ). IfSome (formula_at (entries ++ e ∷ []) o) (Written text)) (sym is)
+      (subst (λ (n : ℕ). IfSome (option_map entry_formula (slice_get (entries ++ e ∷ []) n)) (Written text)) (sym at)
+      (subst (λ (o : Option Entry). IfSome (option_map entry_formula o) (Written text)) (sym (slice_seam entries e)) h))

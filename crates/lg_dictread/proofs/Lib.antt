@@ -13,7 +13,9 @@ pub mod Unread
 pub mod ItemTold
 pub mod ItemsTold
 pub mod Formulas
+pub mod Remembered
 pub mod NextEntry
+pub mod Recalling
 pub mod TextsTold
 pub mod Listing
 pub mod Asked

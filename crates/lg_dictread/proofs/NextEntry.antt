@@ -1,5 +1,5 @@
 -- What the entry at the front of the tokens is told to give.
-use Rattle.std.proofs.Common.{◌≡◌, ℕ, suc, ◌&&◌, ◌==◌, nat_lt, eqb-true, Bool, true, false, cond, if◌then◌else◌, List, [], ◌∷◌, ◌++◌, length, map, drop, slice_index, Option, Some, Ok, refl, sym, ap, subst, ◌∙◌, arith}
+use Rattle.std.proofs.Common.{◌≡◌, ◌≢◌, ℕ, suc, ◌&&◌, ◌==◌, nat_lt, eqb-true, Bool, true, false, cond, if◌then◌else◌, List, [], ◌∷◌, ◌++◌, length, map, drop, slice_index, Option, Some, Ok, Err, refl, sym, ap, subst, ◌∙◌, arith}
 use Rattle.std.proofs.lemmas.List.{append-nil}
 use Rattle.std.proofs.lemmas.Str.{IsCharBoundary-after_ascii, IsUtf8-drop}
 use Rattle.std.proofs.lemmas.List.Concat.{flat_map-append}
@@ -17,13 +17,14 @@ use Rattle.lg_lex.specs.Lexing.{tokens_from}
 use Rattle.lg_dictread.specs.declared.define.Names.{Names}
 use Rattle.lg_dictread.specs.declared.define.Tables.{Tables}
 use Rattle.lg_dictread.specs.declared.earlier.Earlier as code_earlier
-use Rattle.lg_dictread.specs.declared.entry.One.{One}
+use Rattle.lg_dictread.specs.declared.items.PlacedItems.{PlacedItems}
 use Rattle.lg_gram.specs.declared.entry.Item.{Item}
 use Rattle.lg_gram.specs.declared.entry.ItemKind.TheVariants as kinds
 use Rattle.lg_lex.specs.declared.place.Place.{Place}
 use Rattle.lg_lex.specs.Tokens.{Lexeme, sign, quoted, plain, broken, HasUtf8, Token}
 use Rattle.lg_lex.specs.Spots.{place_left}
 use Rattle.lg_expr.specs.declared.fault.Fault as expr_fault
+use Rattle.lg_expr.specs.declared.fault.Fault.TheVariants.{Syntax}
 use Rattle.lg_expr.specs.Grammar.{Rules}
 use Rattle.lg_expr.specs.Classes.{is_macro_name}
 use Rattle.lg_dictread.specs.declared.dict_error.DictError.{DictError}
@@ -31,15 +32,19 @@ use Rattle.lg_dictread.specs.declared.dict_error.DictError.TheVariants as errors
 use Rattle.lg_dictread.specs.declared.stop.Stop.{Stop}
 use Rattle.lg_dictread.specs.declared.stop.Stop.TheVariants as stops
 use Rattle.lg_dictread.specs.Items.{item, colon, other, is_file_name, plain_item, head_of}
-use Rattle.lg_dictread.specs.Entries.{Written, AreItems, EntryStands, EntryAnswer, fault, EntryIs}
+use Rattle.lg_dictread.specs.Entries.{head, Written, AreItems, EntryStands, EntryFault, in_items, in_expression}
+use Rattle.lg_dictread.specs.Scanning.{items_end, items_stop, scan}
+use Rattle.lg_dictread.specs.Recalling.{Means, IsRefused, at_fault, large}
 use Rattle.lg_dictread.specs.Places.{line_of, entry_line, part_left}
-use Rattle.lg_dictread.specs.View.{TellsFault, TellsStop, KeepsItems, Keeps, TellsEntry}
+use Rattle.lg_dictread.specs.View.{TellsFault, TellsStop, KeepsItems, TellsItems}
 use Rattle.lg_dictread.specs.Telling.{Answers, AsksFront, IsMissing, UnlessMemory, OnError}
 use Rattle.lg_dictread.specs.Definitions.{same_text, both, Lines, AreNew, Defined, ItemsAnswer, define, refuse_items, ItemsGive}
 use Rattle.lg_dictread.specs.Defining.{names_in, defined_in, Listed, listed_in, none_listed, AddsDefined, HasUtf8Name, ItemsAre}
-use Rattle.lg_dictread.specs.Texts.{Earlier, rules_after, Meaning, meaning_of, IsSmall, IsLarge, nodes, choices, side, IsErrorOf, EntryOutcome, means, fails, EntryGives, whole, at_fault, large, at_items}
+use Rattle.lg_dictread.specs.Texts.{Earlier, rules_after, Meaning, meaning_of, IsSmall, IsLarge, IsErrorOf, EntryOutcome, means, fails, EntryGives, whole, at_items}
+use Rattle.lg_dictread.specs.Texts as outcomes
 use Rattle.lg_dictread.specs.DictTexts.{entry_meaning}
-use Rattle.lg_dictread.specs.Reading.{formulas_of, written_meaning, AddsEntry, AreListed, ListsAll, TellsStopBy, AreUtf8, NextIs}
+use Rattle.lg_dictread.specs.Reading.{formulas_of, named_meaning, AddsEntry, AreListed, ListsAll, TellsStopBy, AreUtf8, NextIs}
+use Rattle.lg_dictread.proofs.Entries.{ScanIs, scan_is}
 use Rattle.lg_dictread.proofs.ErrorMaps.{if_some, if_some_map, memory_map, memory_error, error_map}
 use Rattle.lg_dictread.proofs.ItemsTold.{new_then, names_then, now_is}
 use Rattle.lg_dictread.proofs.ItemAnswers as item_answers
@@ -126,6 +131,45 @@ module _ (text : List ℕ) (Is : expr_fault.Fault → List Token → Type 0) (To
       subst (UnlessMemory Told) (sym k) (at_place (stops.TooDeep line) (errors.TooDeep line) h
       (λ f left tells. subst (λ (x : expr_fault.Fault). IsErrorOf (place_left text left) (part_left left) x (errors.TooDeep line)) (sym tells.0) (ap errors.TooDeep tells.1)))
 
+-- ---- the items before the colon
+
+pub record HasHead (text : List ℕ) (ts : List Token) (x : PlacedItems) : Type 0 where
+  pub items : List (Item × ℕ)
+  pub mark : Token
+  pub some : items ≢ []
+  pub are_items : AreItems items ts (mark ∷ tokens_from Dictionary text x.end.at)
+  pub is_colon : head mark ≡ colon
+  pub keeps : KeepsItems text items x.items.items x.lines.items
+
+pub has_head : (text : List ℕ) (ts : List Token) (x : PlacedItems) → TellsItems text (scan [] ts) (Ok x) → HasHead text ts x
+has_head text ts x (is, same, keeps, here) =
+    let body = tokens_from Dictionary text x.end.at in
+    let found : ScanIs [] ts (items_end is body) = subst (ScanIs [] ts) same (scan_is ts []) in
+    record {
+      items = is;
+      mark = found.1;
+      some = found.3;
+      are_items = subst (λ (l : List (Item × ℕ)). AreItems l ts (found.1 ∷ body)) (sym found.2) found.4;
+      is_colon = found.5;
+      keeps = keeps;
+    }
+
+-- with an expression after them they are an entry
+pub entry_stands : (earlier : Earlier) (text : List ℕ) (ts rest : List Token) (x : PlacedItems) (h : HasHead text ts x) (t : Tree) (level : ℕ) (m : Means earlier.formulas (tokens_from Dictionary text x.end.at) t level rest)
+    → EntryStands (rules_after earlier) ts (record { items = h.items; expr = m.expr; level = m.written }) rest
+entry_stands earlier text ts rest x h t level m = record {
+  mark = h.mark;
+  body = tokens_from Dictionary text x.end.at;
+  some = h.some;
+  are_items = h.are_items;
+  is_colon = h.is_colon;
+  stands = m.stands;
+}
+
+-- the line of the first item
+pub line_told : (text : List ℕ) (ts : List Token) (x : PlacedItems) (h : HasHead text ts x) (line : ℕ) → line ≡ slice_index x.lines.items 0 → line ≡ entry_line text h.items
+line_told text ts x h line is = is ∙ ap (λ (l : List ℕ). slice_index l 0) h.keeps.lines_are
+
 -- ---- what the entry gives
 
 module _ (known : Option Contents) (asked : List (List ℕ)) (text : List ℕ) (earlier : Earlier) (ts : List Token) where
@@ -139,20 +183,36 @@ module _ (known : Option Contents) (asked : List (List ℕ)) (text : List ℕ) (
   unasked : (o : EntryOutcome) → ((contents : Contents) → Is contents [] o) → Answers known (NextIs text earlier ts) asked asked o
   unasked o h = if_some known _ (λ contents. ([], sym (append-nil asked), h contents))
 
-  -- a fault of the tokens
-  pub fault_gives : (a : EntryAnswer) (stop : Stop) (error : DictError) → EntryIs (rules_after earlier) ts a → TellsStop text (λ f left. a ≡ fault f left) stop → TellsStopBy stop error
+  -- a fault before the colon
+  pub items_stop_gives : (stop : Stop) (error : DictError) → TellsItems text (scan [] ts) (Err stop) → TellsStopBy stop error
       → OnError (IsMissing known) (AsksFront known (NextIs text earlier ts) asked asked) (λ e. Answers known (NextIs text earlier ts) asked asked (fails e)) error
-  fault_gives a stop error is tells by =
+  items_stop_gives stop error tells by =
       let Told : DictError → Type 0 = λ e. Answers known (NextIs text earlier ts) asked asked (fails e) in
       memory_error Told Told (IsMissing known) (AsksFront known (NextIs text earlier ts) asked asked) asks_nothing (λ e h. h) error
-      (stop_told text (λ f left. a ≡ fault f left) Told
-      (λ f left e same at. unasked (fails e) (λ contents. at_fault f left e (subst (EntryIs (rules_after earlier) ts) same is) at)) stop error tells by)
+      (stop_told text (λ f left. (f ≡ Syntax) × (scan [] ts ≡ items_stop left)) Told
+      (λ f left e (is, same) at.
+      let found : ScanIs [] ts (items_stop left) = subst (ScanIs [] ts) same (scan_is ts []) in
+      unasked (fails e) (λ contents. outcomes.at_fault f left e (subst (λ (x : expr_fault.Fault). EntryFault (rules_after earlier) ts x left) (sym is) (in_items found.0 found.1 found.2)) at))
+      stop error tells by)
+
+  -- a fault of the expression, or a formula past a measure
+  refused_told : (head : PlacedItems) (h : HasHead text ts head) (line : ℕ) (error : DictError) → line ≡ entry_line text h.items
+      → IsRefused text earlier.formulas line (tokens_from Dictionary text head.end.at) error → Answers known (NextIs text earlier ts) asked asked (fails error)
+  refused_told head h line error is (at_fault f left first at) =
+      unasked (fails error) (λ contents. outcomes.at_fault f left error (in_expression h.items h.mark (tokens_from Dictionary text head.end.at) h.some h.are_items h.is_colon first) at)
+  refused_told head h line error is (large e n rest stands passed) =
+      unasked (fails error) (λ contents. outcomes.large (record { items = h.items; expr = e; level = n }) rest error
+      (record { mark = h.mark; body = tokens_from Dictionary text head.end.at; some = h.some; are_items = h.are_items; is_colon = h.is_colon; stands = stands })
+      (subst (λ (n : ℕ). IsLarge (filled earlier.formulas e) n error) is passed))
+
+  pub refused_gives : (head : PlacedItems) (h : HasHead text ts head) (line : ℕ) (error : DictError) → line ≡ entry_line text h.items
+      → UnlessMemory (IsRefused text earlier.formulas line (tokens_from Dictionary text head.end.at)) error
+      → OnError (IsMissing known) (AsksFront known (NextIs text earlier ts) asked asked) (λ e. Answers known (NextIs text earlier ts) asked asked (fails e)) error
+  refused_gives head h line error is refused =
+      let Told : DictError → Type 0 = λ e. Answers known (NextIs text earlier ts) asked asked (fails e) in
+      memory_error (IsRefused text earlier.formulas line (tokens_from Dictionary text head.end.at)) Told (IsMissing known) (AsksFront known (NextIs text earlier ts) asked asked) asks_nothing (λ e r. refused_told head h line e is r) error refused
 
   module _ (e : Written) (rest : List Token) (stands : EntryStands (rules_after earlier) ts e rest) where
-    -- a formula past a measure
-    pub large_gives : (error : DictError) → IsLarge (filled earlier.formulas e.expr) (entry_line text e.items) error → Answers known (NextIs text earlier ts) asked asked (fails error)
-    large_gives error h = unasked (fails error) (λ contents. large e rest error stands h)
-
     module _ (small : IsSmall (filled earlier.formulas e.expr)) (lined : List (Item × ℕ)) (are : lined ≡ map (λ i. (i.0, line_of text i)) e.items) (now : List (List ℕ)) where
       at_lines : (contents : Contents) (names : List (List ℕ)) (answer : ItemsAnswer) → ItemsGive contents earlier.defined lined names answer → ItemsGive contents earlier.defined (map (λ i. (i.0, line_of text i)) e.items) names answer
       at_lines contents names answer h = subst (λ (l : List (Item × ℕ)). ItemsGive contents earlier.defined l names answer) are h
@@ -196,38 +256,17 @@ module _ (known : Option Contents) (asked : List (List ℕ)) (text : List ℕ) (
             if_some_map known _ _
             (λ contents (asks, now_is, given) names p is. (asks, [], (one_outcome laws entry_laws contents text earlier ts names asks p o is given).0 ∙ sym (append-nil asks), now_is)) h
 
--- ---- what is read of the entry
+-- ---- what the entry means
 
-pub record IsRead (text : List ℕ) (r : Rules) (ts : List Token) (o : One) : Type 0 where
-  pub written : Written
-  pub stands : EntryStands r ts written (tokens_from Dictionary text o.end.at)
-  pub keeps : Keeps text written o
-
-pub is_read : (text : List ℕ) (r : Rules) (ts : List Token) (a : EntryAnswer) (o : One) → EntryIs r ts a → TellsEntry text a (Ok o) → IsRead text r ts o
-is_read text r ts a o is (e, same, keeps, here) = record { written = e; stands = subst (EntryIs r ts) same is; keeps = keeps }
-
--- the entry's line
-line_same : (text : List ℕ) (e : Written) (o : One) → Keeps text e o → o.entry.line ≡ entry_line text e.items
-line_same text e o keeps = keeps.line ∙ ap (λ (l : List ℕ). slice_index l 0) keeps.items.lines_are
-
-pub large_read : (formulas : Formulas) (text : List ℕ) (e : Written) (o : One) (error : DictError) → Keeps text e o → IsLarge (filled formulas (raw_tree_of o.entry.expr)) o.entry.line error
-    → IsLarge (filled formulas e.expr) (entry_line text e.items) error
-large_read formulas text e o error keeps h = subst (λ (n : ℕ). IsLarge (filled formulas e.expr) n error) (line_same text e o keeps) (subst (λ (t : RawTree). IsLarge (filled formulas t) o.entry.line error) keeps.expr h)
-
--- it is no want of memory
-pub large_told : (t : Tree) (line : ℕ) (error : DictError) (Missing : List ℕ → Type 0) (Stopped : Type 0) (Told : DictError → Type 0) → IsLarge t line error → Told error → OnError Missing Stopped Told error
-large_told t line error Missing Stopped Told (nodes n) told = told
-large_told t line error Missing Stopped Told (choices n k) told = told
-large_told t line error Missing Stopped Told (side n k l) told = told
-
-pub meaning_told : (text : List ℕ) (earlier : Earlier) (e : Written) (o : One) (names : Names) (old now d : Defined) → Keeps text e o → AddsDefined old now none_listed (listed_in names) d
-    → written_meaning earlier.formulas o.entry names ≡ meaning_of text earlier e d
-meaning_told text earlier e o names old now d keeps adds = λ i. record {
+pub meaning_told : (text : List ℕ) (earlier : Earlier) (ts rest : List Token) (is : List (Item × ℕ)) (names : Names) (t : Tree) (level line : ℕ) (m : Means earlier.formulas ts t level rest) (old now d : Defined)
+    → line ≡ entry_line text is → AddsDefined old now none_listed (listed_in names) d
+    → named_meaning names t level line ≡ meaning_of text earlier (record { items = is; expr = m.expr; level = m.written }) d
+meaning_told text earlier ts rest is names t level line m old now d at adds = λ i. record {
   words = adds.words.listed i;
   macros = adds.macros.listed i;
-  formula = filled earlier.formulas (keeps.expr i);
-  level = filled_level earlier.formulas (keeps.level i) (keeps.expr i);
-  line = line_same text e o keeps i;
+  formula = m.formula_is i;
+  level = m.level_is i;
+  line = at i;
 }
 
 -- what is read so far has the entry more

@@ -11,4 +11,5 @@ pub mod Telling
 pub mod Defining
 pub mod Texts
 pub mod DictTexts
+pub mod Recalling
 pub mod Reading

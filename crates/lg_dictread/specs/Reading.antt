@@ -1,12 +1,11 @@
 -- What the reader of a text holds, and how it tells the entries.
-use Rattle.std.specs.Prelude.{◌≡◌, ℕ, ◌<◌, List, [], ◌∷◌, ◌++◌, map, length, Option, Some, None, IfSome, slice_get, Result, Ok, Err}
+use Rattle.std.specs.Prelude.{◌≡◌, ◌⊎◌, ℕ, ◌<◌, List, [], ◌∷◌, ◌++◌, map, length, Option, Some, None, IfSome, IsSomeAnd, slice_get, Result, Ok, Err}
+use Rattle.std.specs.Borrow.{Bor}
 use Rattle.std.specs.List.{AllByRecursion, flat_map}
 use Rattle.std.specs.Map.{lookup}
 use Rattle.std.specs.Option.{option_map}
 use Rattle.lg_gram.specs.declared.entry.Entry.{Entry}
-use Rattle.lg_gram.specs.declared.entry.RawEntry.{RawEntry}
-use Rattle.lg_gram.specs.Filled.{Formulas, filled, filled_level}
-use Rattle.lg_gram.specs.RawTrees.{raw_tree_of}
+use Rattle.lg_gram.specs.Filled.{Formulas}
 use Rattle.lg_gram.specs.Trees.{Tree, tree_of}
 use Rattle.lg_base.specs.Contents.{Contents}
 use Rattle.lg_lex.specs.declared.marks.Marks.TheVariants.{Dictionary}
@@ -25,6 +24,7 @@ use Rattle.lg_dictread.specs.Definitions.{same_text, Lines, AreNew, Defined}
 use Rattle.lg_dictread.specs.Tables.{text_entries}
 use Rattle.lg_dictread.specs.Texts.{Earlier, Meaning, then_entry, EntryOutcome, means, fails, EntryGives}
 use Rattle.lg_dictread.specs.DictTexts.{entry_meaning}
+use Rattle.lg_dictread.specs.Recalling.{Writes}
 use Rattle.lg_dictread.specs.Defining.{names_in, defined_in}
 
 abbrev pub entry_formula : Entry → Tree × ℕ
@@ -38,6 +38,9 @@ formula_at entries (Some place) = option_map entry_formula (slice_get entries pl
 abbrev pub place_of_macro : code_earlier.Earlier → List ℕ → Option ℕ
 place_of_macro e name = lookup (same_text name) (text_entries e.formulas)
 
+abbrev pub place_of_section : code_earlier.Earlier → List ℕ → Option ℕ
+place_of_section e section = lookup (same_text section) (text_entries e.sections)
+
 abbrev pub formulas_of : code_earlier.Earlier → Formulas
 formulas_of e name = formula_at e.entries.items (place_of_macro e name)
 
@@ -45,20 +48,29 @@ formulas_of e name = formula_at e.entries.items (place_of_macro e name)
 abbrev pub earlier_of : code_earlier.Earlier → Earlier
 earlier_of e = record { defined = defined_in e.tables; formulas = formulas_of e }
 
--- what an entry means that is written so and defines these names
-abbrev pub written_meaning : Formulas → RawEntry → Names → Meaning
-written_meaning formulas raw names = record {
+-- what an entry means that defines these names and has this formula
+abbrev pub named_meaning : Names → Tree → ℕ → ℕ → Meaning
+named_meaning names formula level line = record {
   words = names.words.items;
   macros = names.macros.items;
-  formula = filled formulas (raw_tree_of raw.expr);
-  level = filled_level formulas raw.level (raw_tree_of raw.expr);
-  line = raw.line;
+  formula = formula;
+  level = level;
+  line = line;
 }
 
--- each macro's entry is there, and each entry's formula keeps to its level
+-- the text is recalled as before, or it is the section that is recalled from now on
+abbrev pub RecallsAt : Lines → Lines → Option (Bor (List ℕ)) → ℕ → List ℕ → Type 0
+RecallsAt old new section place text =
+    (lookup (same_text text) new ≡ lookup (same_text text) old)
+    ⊎ ((lookup (same_text text) new ≡ Some place) × IsSomeAnd section (λ s. s.now ≡ text))
+
+-- each macro's entry is there, each entry's formula keeps to its level, and each section that is recalled writes the formula
+-- of an entry that is there
 pub record IsKept (e : code_earlier.Earlier) : Type 0 where
   pub places : (name : List ℕ) → IfSome (place_of_macro e name) (λ place. place < length e.entries.items)
   pub fits : AllByRecursion (λ x. Fits x.level (tree_of x.formula)) e.entries.items
+  pub sections : (section : List ℕ) → IfSome (place_of_section e section) (λ place. place < length e.entries.items)
+  pub written : (section : List ℕ) → IfSome (formula_at e.entries.items (place_of_section e section)) (λ m. Writes (formulas_of e) section m.0 m.1)
 
 -- no name is defined twice, and the entries list them all
 pub record AreListed (defined : Lines) (names : List (List ℕ)) : Type 0 where

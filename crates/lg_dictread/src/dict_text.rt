@@ -9,17 +9,15 @@ ghost use Rattle.lg_lex.specs.Spots.{IsSpot};
 ghost use Rattle.lg_dictread.specs.Texts.{nothing, stands, refuse};
 ghost use Rattle.lg_dictread.specs.DictTexts.{entry_meaning, TextOf, DictionaryOf};
 ghost use Rattle.lg_dictread.specs.Telling.{Answers, AsksFront, IsMissing, OnError, HasCause};
-ghost use Rattle.lg_dictread.specs.Reading.{IsKept, ListsAll, TellsStopBy, AreUtf8, TellsNext};
+ghost use Rattle.lg_dictread.specs.Reading.{IsKept, ListsAll, AreUtf8, TellsNext};
 
 use crate::define::define_items;
 use crate::dict_error::DictError;
 use crate::earlier::Earlier;
-use crate::entry::read_one;
+use crate::formula::{fault_error, read_formula};
+use crate::items::read_items;
 use crate::law::{exactly_one_dictionary, exactly_one_entry};
-use crate::limits::BRACKETS;
-use crate::measure::measure;
-use crate::stop::Stop;
-use lg_base::{Files, Text};
+use lg_base::Files;
 use lg_expr::expressions_fit;
 use lg_gram::Entry;
 use lg_lex::{
@@ -27,22 +25,6 @@ use lg_lex::{
     tokens_are_utf8, utf8_fault, without_mark,
 };
 use std::alloc::Global;
-
-/// The error that tells a fault of an entry.
-fn fault_error(alloc: Global, stop: Stop<'_>) -> DictError
-    ensures { TellsStopBy stop.entry result }
-{
-    match stop {
-        Stop::NoMemory => DictError::NoMemory,
-        Stop::Syntax(place) => DictError::Syntax(place.line, place.column),
-        Stop::CostForm(line) => DictError::CostForm(line),
-        Stop::UnknownMacro(line, name) => match Text::of(alloc, name) {
-            Ok(name) => DictError::UnknownMacro(line, name),
-            Err(_) => DictError::NoMemory,
-        },
-        Stop::TooDeep(line) => DictError::TooDeep(line),
-    }
-}
 
 /// Reads the entry at a spot, and answers the spot after it.
 fn read_next<F: Files>(
@@ -69,20 +51,22 @@ fn read_next<F: Files>(
     expressions_fit();
     runs_are_one_list();
     bytes_are_utf8_or_at_fault();
-    let one = match read_one(alloc, earlier, BRACKETS, text, from) {
-        Ok(one) => one,
+    let head = match read_items(alloc, text, from) {
+        Ok(head) => head,
         Err(stop) => return Err(fault_error(alloc, stop)),
     };
-    measure(earlier, &one.entry.expr, one.entry.line)?;
+    let line = head.lines[0];
+    let read = read_formula(alloc, earlier, text, head.end, line)?;
     let names = define_items(
         alloc,
         &mut earlier.tables,
-        one.entry.items.items(),
-        one.lines.items(),
+        head.items.as_slice(),
+        head.lines.as_slice(),
         files,
     )?;
-    earlier.push(alloc, &one.entry, names)?;
-    Ok(one.end)
+    let end = read.end;
+    earlier.push(alloc, names, read, line)?;
+    Ok(end)
 }
 
 /// The entries of a text that is UTF-8 and has no byte order mark.

@@ -1,34 +1,34 @@
 //! What is read of a dictionary text so far.
 
-ghost use Rattle.std.specs.Prelude.{◌≡◌, ℕ, List, [], ◌∷◌, ◌++◌, Some, OnOk, map, if◌then◌else◌};
+ghost use Rattle.std.specs.Prelude.{◌≡◌, ◌<◌, ℕ, List, [], ◌∷◌, ◌++◌, Some, IfOk, IfSome, OnOk, length, map, if◌then◌else◌};
 ghost use Rattle.std.specs.List.{list_any};
 ghost use Rattle.std.specs.Map.{lookup};
 ghost use Rattle.std.specs.Option.{option_map};
-ghost use Rattle.lg_gram.specs.RawTrees.{raw_tree_of};
-ghost use Rattle.lg_gram.specs.Filled.{filled};
-ghost use Rattle.lg_expr.specs.Fits.{FilledFits};
+ghost use Rattle.lg_gram.specs.Trees.{tree_of};
+ghost use Rattle.lg_gram.specs.Fits.{Fits};
 ghost use Rattle.lg_dictread.specs.Definitions.{same_text};
 ghost use Rattle.lg_dictread.specs.Tables.{text_entries};
-ghost use Rattle.lg_dictread.specs.Texts.{nothing, IsSmall};
+ghost use Rattle.lg_dictread.specs.Texts.{nothing};
 ghost use Rattle.lg_dictread.specs.DictTexts.{entry_meaning};
-ghost use Rattle.lg_dictread.specs.Reading.{entry_formula, formulas_of, earlier_of, written_meaning, IsKept};
+ghost use Rattle.lg_dictread.specs.Recalling.{Writes};
+ghost use Rattle.lg_dictread.specs.Reading.{entry_formula, formula_at, place_of_section, formulas_of, earlier_of, named_meaning, RecallsAt, IsKept};
 
 use crate::define::{Names, Tables};
-use crate::measure::formula_of;
+use crate::formula::FormulaRead;
 use crate::table::{Table, add};
 use indexmap::IndexMap;
 use lg_base::{NoMemory, Text, Texts};
 use lg_expr::Known;
-use lg_gram::macros::filled_level;
-use lg_gram::{Entry, Formula, RawEntry};
+use lg_gram::{Entry, Formula};
 use std::alloc::Global;
 
-/// What is read of a text so far: its words and macros with their lines, its entries, and the number of the entry of
-/// each macro.
+/// What is read of a text so far: its words and macros with their lines, its entries, the number of the entry of each macro,
+/// and the number of an entry for each text of an expression that is recalled.
 #[derive(Drop)]
 pub(crate) struct Earlier {
     pub(crate) tables: Tables,
     pub(crate) formulas: Table<usize>,
+    pub(crate) sections: Table<usize>,
     pub(crate) entries: Vec<Entry>,
 }
 
@@ -76,6 +76,7 @@ impl Earlier {
                 macros: IndexMap::new(alloc),
             },
             formulas: IndexMap::new(alloc),
+            sections: IndexMap::new(alloc),
             entries: Vec::new(alloc),
         }
     }
@@ -90,41 +91,86 @@ impl Earlier {
         }
     }
 
-    /// One more entry, whose items define these names.
+    /// The entry whose expression is written so, if it is recalled.
+    pub(crate) fn recalled(&self, section: &[u8]) -> Option<&Entry>
+        ensures { option_map (λ e. entry_formula e.now) result ≡ formula_at self.now.entries.items (place_of_section self.now section.now) }
+    {
+        match self.sections.get(section) {
+            Some(place) => self.entries.get(*place),
+            None => None,
+        }
+    }
+
+    /// One more entry, on this line, whose items define these names and whose expression has this formula.
     pub(crate) fn push(
         &mut self,
         alloc: Global,
-        raw: &RawEntry,
         names: Names,
+        read: FormulaRead<'_>,
+        line: u32,
     ) -> Result<(), NoMemory>
         requires kept { IsKept self.old }
-        requires small { IsSmall (filled (formulas_of self.old) (raw_tree_of raw.now.expr)) }
-        requires fits { FilledFits (formulas_of self.old) raw.now.level (raw_tree_of raw.now.expr) }
+        requires fits { Fits read.level (tree_of read.formula) }
+        requires written { IfSome read.section (λ s. Writes (formulas_of self.old) s.now (tree_of read.formula) read.level) }
         ensures tables { self.new.tables ≡ self.old.tables }
         ensures kept { OnOk result (IsKept self.new) }
         ensures meanings { OnOk result (map entry_meaning self.new.entries.items
-            ≡ map entry_meaning self.old.entries.items ++ written_meaning (formulas_of self.old) raw.now names ∷ []) }
-        ensures formulas { OnOk result (let m = written_meaning (formulas_of self.old) raw.now names in
-            formulas_of self.new ≡ (λ name. if list_any (same_text name) m.macros then Some (m.formula, m.level) else formulas_of self.old name)) }
+            ≡ map entry_meaning self.old.entries.items ++ named_meaning names (tree_of read.entry.formula) read.entry.level line ∷ []) }
+        ensures formulas { OnOk result (formulas_of self.new
+            ≡ (λ name. if list_any (same_text name) names.macros.items then Some (tree_of read.entry.formula, read.entry.level) else formulas_of self.old name)) }
     {
-        let formula = formula_of(alloc, self, &raw.expr)?;
-        let level = filled_level(raw, self);
+        let place = self.entries.len();
         let macros = Texts::of(names.macros);
-        name_entry(
+        let formula = shared(alloc, read.formula, read.section)?;
+        remember(
             alloc,
-            &mut self.formulas,
+            &mut self.sections,
             macros.items(),
-            self.entries.len(),
+            read.section,
+            place,
         )?;
+        name_entry(alloc, &mut self.formulas, macros.items(), place)?;
         self.entries.push(Entry {
             words: Texts::of(names.words),
             macros,
             formula,
-            level,
-            line: raw.line,
+            level: read.level,
+            line,
         })?;
         Ok(())
     }
+}
+
+// The formula, shared where other entries will have it too.
+fn shared(alloc: Global, formula: Formula, section: Option<&[u8]>) -> Result<Formula, NoMemory>
+    ensures { IfOk result (λ f. f ≡ formula) }
+{
+    match section {
+        Some(_) => formula.shared(alloc),
+        None => Ok(formula),
+    }
+}
+
+/// Recalls the entry of this place by its section. What macros stand for decides what an expression means, so an entry that
+/// defines macros ends all that is recalled.
+fn remember(
+    alloc: Global,
+    sections: &mut Table<usize>,
+    macros: &[Text],
+    section: Option<&[u8]>,
+    place: usize,
+) -> Result<(), NoMemory>
+    ensures forgets { OnOk result (0 < length macros.now → text_entries sections.new ≡ []) }
+    ensures recalls { OnOk result (length macros.now ≡ 0 → (text : List ℕ) → RecallsAt (text_entries sections.old) (text_entries sections.new) section.entry place text) }
+{
+    if !macros.is_empty() {
+        *sections = IndexMap::new(alloc);
+        return Ok(());
+    }
+    if let Some(section) = section {
+        add(alloc, sections, section, place)?;
+    }
+    Ok(())
 }
 
 /// Gives the macros the number of their entry.

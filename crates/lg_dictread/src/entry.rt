@@ -53,7 +53,7 @@ fn stop_at<'a>(fault: Fault, place: Place, part: &Part<'a>) -> Stop<'a>
 }
 
 /// The expression at the front of a text, up to the `;`.
-fn read_expression<'a, M: Macros>(
+pub(crate) fn read_expression<'a, M: Macros>(
     alloc: Global,
     macros: &M,
     limit: u32,

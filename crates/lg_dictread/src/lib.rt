@@ -10,6 +10,7 @@ mod dict_text;
 mod earlier;
 mod entry;
 mod entry_text;
+mod formula;
 mod items;
 mod law;
 mod limits;

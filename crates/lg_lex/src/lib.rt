@@ -8,6 +8,7 @@ mod laws;
 mod marks;
 mod place;
 mod run;
+mod section;
 mod spot;
 #[cfg(test)]
 mod tests;
@@ -21,6 +22,7 @@ pub use laws::{
 pub use marks::{Class, Marks, class_of};
 pub use place::{Place, place_at};
 pub use run::{Run, Separators, next_run};
+pub use section::section_to;
 pub use spot::{Spot, Spotted, next_spotted};
 pub use token::{Found, Token, next_token};
 pub use utf8::{utf8_fault, without_mark};
