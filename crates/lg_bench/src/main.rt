@@ -12,7 +12,7 @@ use std::alloc::Global;
 use std::env;
 
 const USAGE: &str =
-    "judge RULES LINKS, tokens KIND BYTES, expand FACTORS, dictionary WORDS, or small";
+    "judge RULES LINKS, tokens KIND BYTES, expand FACTORS, dictionary KIND WORDS, or small";
 
 /// The line that tells what came of the words.
 fn answer(alloc: Global, words: &[String]) -> Result<String> {
@@ -26,8 +26,8 @@ fn answer(alloc: Global, words: &[String]) -> Result<String> {
         [layer, factors] if layer.as_str() == "expand" => {
             expanding::expanded(alloc, number(factors)?)
         }
-        [layer, words] if layer.as_str() == "dictionary" => {
-            loading::loaded(alloc, number(words)?)
+        [layer, kind, words] if layer.as_str() == "dictionary" => {
+            loading::loaded(alloc, kind.as_str(), number(words)?)
         }
         [layer] if layer.as_str() == "small" => small(alloc),
         _ => bail!("{USAGE}"),
@@ -43,7 +43,7 @@ fn small(alloc: Global) -> Result<String> {
     let judged = judging::judged(alloc, 12, 20)?;
     let cut = cutting::cut(alloc, "words", 120)?;
     let expanded = expanding::expanded(alloc, 2)?;
-    let loaded = loading::loaded(alloc, 40)?;
+    let loaded = loading::loaded(alloc, "own", 40)?;
     Ok(format!(in alloc; "{judged}\n{cut}\n{expanded}\n{loaded}")?)
 }
 

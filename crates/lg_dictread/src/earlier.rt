@@ -96,7 +96,7 @@ impl Earlier {
         ensures { option_map (λ e. entry_formula e.now) result ≡ formula_at self.now.entries.items (place_of_section self.now section.now) }
     {
         match self.sections.get(section) {
-            Some(place) => self.entries.get(*place),
+            Some(number) => self.entries.get(*number),
             None => None,
         }
     }

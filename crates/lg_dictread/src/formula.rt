@@ -15,12 +15,12 @@ use crate::dict_error::DictError;
 use crate::earlier::Earlier;
 use crate::entry::read_expression;
 use crate::limits::{BRACKETS, SECTIONS};
-use crate::measure::{formula_of, measure};
+use crate::measure::measure;
 use crate::stop::Stop;
 use lg_base::{NoMemory, Text};
 use lg_expr::{exactly_one, expressions_fit};
-use lg_gram::Formula;
 use lg_gram::macros::filled_level;
+use lg_gram::{Formula, filled_formula};
 use lg_lex::{Marks, Spot, section_to, sections_keep_their_tokens};
 use std::alloc::Global;
 
@@ -130,7 +130,7 @@ fn read_anew<'a>(
         Err(stop) => return Err(fault_error(alloc, stop)),
     };
     measure(earlier, &read.expr, line)?;
-    let formula = formula_of(alloc, earlier, &read.expr)?;
+    let formula = filled_formula(alloc, &read.expr, earlier)?;
     Ok(FormulaRead {
         formula,
         level: filled_level(read.level, &read.expr, earlier),

@@ -44,6 +44,7 @@ fn texts_are_read(rt: HostRuntime) -> Result<(), Fail> {
         (b"/w /empty: A+; y: A-;", "2"),
         (b"/: A+; <>: A+; \":\" \"/gone\" \"<m>\": A+;", "3"),
         (b"a <a>: A+; <b> b: <a>;", "2"),
+        (b"a: A+; b: A+; <m>: A+; c: A+; d: <m>; e: <m>;", "6"),
     ];
     for (text, want) in table {
         assert_eq!(rt; reading(rt.alloc(), text)?.as_str(), want);
@@ -55,6 +56,10 @@ fn texts_are_read(rt: HostRuntime) -> Result<(), Fail> {
 fn the_first_fault_is_told(rt: HostRuntime) -> Result<(), Fail> {
     let table = [
         (b"x: (A+".as_slice(), "line 1 column 7: syntax"),
+        (
+            b"a: A+;\nb: A+; c: A+\n;\nd: (A+;",
+            "line 4 column 7: syntax",
+        ),
         (b"\xEF\xBB\xBFx: (A+", "line 1 column 7: syntax"),
         (b"\xC3\xA9: (A+\n\n", "line 3 column 1: syntax"),
         (b"\xC3\xA9: A+) ;", "line 1 column 7: syntax"),
@@ -182,6 +187,30 @@ fn an_entry_has_its_parts(rt: HostRuntime) -> Result<(), Fail> {
         }
         Err(error) => panic!(rt; "{error}"),
     }
+    Ok(())
+}
+
+// An expression that is recalled has the formula that it was read with, on its own line.
+#[test]
+fn an_expression_is_recalled(rt: HostRuntime) -> Result<(), Fail> {
+    let alloc = rt.alloc();
+    match read_dict(
+        alloc,
+        b"a: {A+} & [B-];\n\nb: {A+} & [B-];",
+        &mut MemFiles::new(alloc),
+    ) {
+        Ok(entries) => {
+            assert_eq!(rt; entries.len(), 2);
+            assert_eq!(rt; (entries[1].level, entries[1].line), (1, 3));
+            assert_eq!(rt; nodes(entries[1].formula.expr()), 6);
+        }
+        Err(error) => panic!(rt; "{error}"),
+    }
+    let unended = b"a: {A+} & [B-];\nb: {A+} & [B-]; c: {A+} & [B-]";
+    assert_eq!(rt;
+        reading(alloc, unended)?.as_str(),
+        "line 2 column 31: syntax"
+    );
     Ok(())
 }
 

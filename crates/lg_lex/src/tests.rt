@@ -1,7 +1,7 @@
 use crate::{
     Class, Marks, Place, Separators, Spot, Token, bytes_are_utf8_or_at_fault, class_of, next_run,
-    next_spotted, next_token, place_at, places_add_up, runs_are_one_list, tokens_are_one_list,
-    tokens_are_utf8, utf8_fault, without_mark,
+    next_spotted, next_token, place_at, places_add_up, runs_are_one_list, section_to,
+    sections_keep_their_tokens, tokens_are_one_list, tokens_are_utf8, utf8_fault, without_mark,
 };
 use std::test::Fail;
 
@@ -156,5 +156,16 @@ fn laws_do_nothing() {
     tokens_are_utf8();
     runs_are_one_list();
     places_add_up();
+    sections_keep_their_tokens();
     bytes_are_utf8_or_at_fault();
+}
+
+#[test]
+fn sections_end_in_their_sign(rt: HostRuntime) {
+    let text = b"x: A+; y: \"a\" ; % z ;";
+    assert!(rt; section_to(Marks::Dictionary, b';', text, 2) == Some(b" A+;".as_slice()));
+    assert!(rt; section_to(Marks::Dictionary, b';', text, 9).is_none());
+    assert!(rt; section_to(Marks::Knowledge, b';', text, 9) == Some(b" \"a\" ;".as_slice()));
+    assert!(rt; section_to(Marks::Dictionary, b';', text, 15).is_none());
+    assert!(rt; section_to(Marks::Dictionary, b';', b"A+", 0).is_none());
 }

@@ -42,8 +42,8 @@ returns-in_err-measure-clause-told c =
     (large e c.in-Ok.read.level (tokens_from Dictionary c.args.text.now c.in-Ok.read.end.at) stands c.in_err-measure.ensures))
 
 -- the formula keeps to its level, and so to the depth and the prices
-pub formula_of-requires : goal.formula_of-requires
-formula_of-requires c =
+pub filled_formula-requires : goal.filled_formula-requires
+filled_formula-requires c =
     let formulas = formulas_of c.args.earlier.now in
     let ts = tokens_from Dictionary c.args.text.now c.args.from.at in
     let r = rules_of formulas LEVEL in

@@ -17,7 +17,7 @@ returns-in_ok-copied-in-Some c =
     let section = c.args.section.now in
     let entry = c.in-Some.entry.now in
     let writes : Writes formulas section (tree_of entry.formula) entry.level =
-        subst (λ (o : Option (Tree × ℕ)). IfSome o (λ m. Writes formulas section m.0 m.1)) (sym c.in-Some.ensures) (c.requires.kept.written section) in
+    subst (λ (o : Option (Tree × ℕ)). IfSome o (λ m. Writes formulas section m.0 m.1)) (sym c.in-Some.ensures) (c.requires.kept.written section) in
     let stands = c.sections_keep_their_tokens.ensures Dictionary text section from writes.closed c.requires.stands in
     let ends = ap (λ (n : ℕ). tokens_from Dictionary text n) c.on_to.ensures.at in
     record {

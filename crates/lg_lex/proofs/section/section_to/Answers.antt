@@ -73,5 +73,5 @@ returns-clause-none c =
     let at = c.loop-last.last in
     let before = slice_range text c.args.from at in
     let whole : drop c.args.from text ≡ before =
-        drop_split text c.args.from at c.loop-last.invariant.from ∙ ap (λ (l : List ℕ). before ++ l) (drop_all at text (omega arith)) ∙ append-nil before in
+    drop_split text c.args.from at c.loop-last.invariant.from ∙ ap (λ (l : List ℕ). before ++ l) (drop_all at text (omega arith)) ∙ append-nil before in
     λ front rest bare is. none_at_all c.args.marks c.args.sign before c.loop-last.invariant.before front rest bare (sym whole ∙ is)

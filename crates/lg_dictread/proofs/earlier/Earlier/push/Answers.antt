@@ -42,8 +42,8 @@ returns-clause-kept c =
     let told : List (List ℕ) → Formulas = λ ms name. if list_any (same_text name) ms then Some (entry_formula pushed) else formulas_of e name in
     let after : Formulas = λ name. formula_at (e.entries.items ++ pushed ∷ []) (now name) in
     let meant : after ≡ (λ name. if list_any (same_text name) c.items.result.now then Some (entry_formula pushed) else formulas_of e name) =
-        formulas_more e.entries.items pushed c.len-place.result c.items-2.result.now now (place_of_macro e) at c.requires.kept.places c.in_ok-name_entry.ensures
-        ∙ ap told macros in
+    formulas_more e.entries.items pushed c.len-place.result c.items-2.result.now now (place_of_macro e) at c.requires.kept.places c.in_ok-name_entry.ensures
+    ∙ ap told macros in
     record {
       places = subst (λ (l : List Entry). (name : List ℕ) → IfSome (now name) (λ p. p < length l)) (sym entries)
           (places_more e.entries.items pushed c.len-place.result c.items-2.result.now now (place_of_macro e) at c.requires.kept.places c.in_ok-name_entry.ensures);
