@@ -163,3 +163,54 @@ fn finds_the_words_of_a_text(rt: HostRuntime) -> Result<(), Fail> {
     expect_words(&rt, alloc, &view, b"sleep", b"")?;
     Ok(())
 }
+
+// The formula of one connector.
+fn letter(caps: &[u8]) -> Result<Formula, Fail>
+    ensures { IfOk result (λ formula. LevelFits 0 (tree_of formula)) }
+{
+    let connector = Connector::of(caps, b"", false, true).ok_or("a name")?;
+    let formula = Formula::of(Expr::Conn(connector)).ok_or("a formula")?;
+    Ok(formula)
+}
+
+#[test]
+fn puts_words(rt: HostRuntime) -> Result<(), Fail> {
+    let alloc = rt.alloc();
+    let dict = sample_dict(alloc)?;
+    let mut view = View::of(alloc, &dict);
+    view.put(&texts(alloc, &[b"walk", b"run.long"])?, &letter(b"C")?)?;
+    expect_word(&rt, &view, b"walk", Some(b'C'));
+    expect_word(&rt, &view, b"run.long", Some(b'C'));
+    expect_word(&rt, &view, b"run.v", Some(b'A'));
+    expect_words(&rt, alloc, &view, b"run", b"run run.long run.n run.v ")?;
+    assert_eq!(rt; view.longest(), 8);
+    expect_word(&rt, &View::of(alloc, &dict), b"walk", Some(b'A'));
+    Ok(())
+}
+
+#[test]
+fn removes_words(rt: HostRuntime) -> Result<(), Fail> {
+    let alloc = rt.alloc();
+    let dict = sample_dict(alloc)?;
+    let mut view = View::of(alloc, &dict);
+    view.remove(b"run.v")?;
+    view.remove(b"sleep")?;
+    expect_word(&rt, &view, b"run.v", None);
+    expect_words(&rt, alloc, &view, b"run", b"run run.n ")?;
+    view.remove(b"run.n")?;
+    view.put(&texts(alloc, &[b"run.v"])?, &letter(b"C")?)?;
+    expect_word(&rt, &view, b"run.v", Some(b'C'));
+    Ok(())
+}
+
+#[test]
+fn sets_macros(rt: HostRuntime) -> Result<(), Fail> {
+    let dict = sample_dict(rt.alloc())?;
+    let mut view = View::of(rt.alloc(), &dict);
+    view.put_named(Text::of(rt.alloc(), b"<m>")?, letter(b"C")?, 0)?;
+    let (formula, level) = view.named(b"<m>").ok_or("a macro")?;
+    assert_eq!(rt; capital(formula), Some(b'C'));
+    assert_eq!(rt; level, 0);
+    assert!(rt; view.named(b"<n>").is_none());
+    Ok(())
+}
