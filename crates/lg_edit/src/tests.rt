@@ -113,14 +113,23 @@ fn set_macro(alloc: Global, name: &[u8], caps: &[u8]) -> Result<Edit, Fail>
     Ok(Edit::Macro(entry))
 }
 
+// Makes an edit that is accepted.
 fn make(alloc: Global, view: &mut View, edit: &Edit) -> Result<(), Fail>
     requires items { DefinesAsItMay edit.now }
     requires bounds { IsEditInBounds edit.now }
 {
-    if check(view, edit).is_err() {
-        return Err("refused")?;
+    match check(view, edit) {
+        Ok(()) => {
+            apply(alloc, view, edit)?;
+            Ok(())
+        }
+        Err(_) => refused(),
     }
-    apply(alloc, view, edit)?;
+}
+
+fn refused() -> Result<(), Fail> {
+    let none: Option<()> = None;
+    none.ok_or("an edit that is accepted")?;
     Ok(())
 }
 
@@ -136,18 +145,39 @@ fn capital(formula: &Formula) -> Option<u8> {
     }
 }
 
+fn make_word(alloc: Global, view: &mut View, word: &[u8]) -> Result<(), Fail> {
+    let edit = put_macro(alloc, word, b"<m>", 0)?;
+    make(alloc, view, &edit)
+}
+
+fn make_macro(alloc: Global, view: &mut View) -> Result<(), Fail> {
+    let edit = set_macro(alloc, b"<m>", b"B")?;
+    make(alloc, view, &edit)
+}
+
 #[test]
 fn macros_are_put_in_as_they_are_now(rt: HostRuntime) -> Result<(), Fail> {
     let alloc = rt.alloc();
     let dict = sample(alloc)?;
     let mut view = View::of(alloc, &dict);
-    make(alloc, &mut view, &put_macro(alloc, b"x", b"<m>", 0)?)?;
-    make(alloc, &mut view, &set_macro(alloc, b"<m>", b"B")?)?;
-    make(alloc, &mut view, &put_macro(alloc, b"y", b"<m>", 0)?)?;
+    make_word(alloc, &mut view, b"x")?;
+    make_macro(alloc, &mut view)?;
+    make_word(alloc, &mut view, b"y")?;
     expect_word(&rt, &view, b"x", Some(b'A'));
     expect_word(&rt, &view, b"y", Some(b'B'));
     expect_word(&rt, &view, b"a", Some(b'A'));
     Ok(())
+}
+
+fn put_and_remove(alloc: Global, view: &mut View) -> Result<(), Fail> {
+    let edit = put(alloc, b"a", b"C")?;
+    make(alloc, view, &edit)?;
+    remove(alloc, view, b"a.v")
+}
+
+fn remove(alloc: Global, view: &mut View, word: &[u8]) -> Result<(), Fail> {
+    let edit = Edit::Del(Text::of(alloc, word)?);
+    make(alloc, view, &edit)
 }
 
 #[test]
@@ -155,9 +185,7 @@ fn words_are_put_and_removed(rt: HostRuntime) -> Result<(), Fail> {
     let alloc = rt.alloc();
     let dict = sample(alloc)?;
     let mut view = View::of(alloc, &dict);
-    make(alloc, &mut view, &put(alloc, b"a", b"C")?)?;
-    expect_word(&rt, &view, b"a", Some(b'C'));
-    make(alloc, &mut view, &Edit::Del(Text::of(alloc, b"a.v")?))?;
+    put_and_remove(alloc, &mut view)?;
     expect_word(&rt, &view, b"a.v", None);
     expect_word(&rt, &view, b"a", Some(b'C'));
     Ok(())
@@ -170,28 +198,32 @@ fn expect_refusal<R: Abort>(rt: &R, view: &View, edit: &Edit, want: EditRefusal)
 }
 
 #[test]
-fn edits_are_refused(rt: HostRuntime) -> Result<(), Fail> {
+fn unknown_macros_are_refused(rt: HostRuntime) -> Result<(), Fail> {
+    let alloc = rt.alloc();
+    let dict = sample(alloc)?;
+    let edit = put_macro(alloc, b"x", b"<n>", 200)?;
+    let want = EditRefusal::UnknownMacro(0);
+    expect_refusal(&rt, &View::of(alloc, &dict), &edit, want);
+    Ok(())
+}
+
+#[test]
+fn deep_expressions_are_refused(rt: HostRuntime) -> Result<(), Fail> {
+    let alloc = rt.alloc();
+    let dict = sample(alloc)?;
+    let edit = put_macro(alloc, b"x", b"<m>", 100)?;
+    let want = EditRefusal::TooDeep(201);
+    expect_refusal(&rt, &View::of(alloc, &dict), &edit, want);
+    Ok(())
+}
+
+#[test]
+fn words_that_are_none_are_refused(rt: HostRuntime) -> Result<(), Fail> {
     let alloc = rt.alloc();
     let dict = sample(alloc)?;
     let mut view = View::of(alloc, &dict);
-    expect_refusal(
-        &rt,
-        &view,
-        &put_macro(alloc, b"x", b"<n>", 0)?,
-        EditRefusal::UnknownMacro(0),
-    );
-    expect_refusal(
-        &rt,
-        &view,
-        &put_macro(alloc, b"x", b"<m>", 100)?,
-        EditRefusal::TooDeep(201),
-    );
-    make(alloc, &mut view, &Edit::Del(Text::of(alloc, b"a")?))?;
-    expect_refusal(
-        &rt,
-        &view,
-        &Edit::Del(Text::of(alloc, b"a")?),
-        EditRefusal::NoSuchWord,
-    );
+    remove(alloc, &mut view, b"a")?;
+    let edit = Edit::Del(Text::of(alloc, b"a")?);
+    expect_refusal(&rt, &view, &edit, EditRefusal::NoSuchWord);
     Ok(())
 }
