@@ -3,3 +3,7 @@ pub mod Lookups
 pub mod Gathered
 pub mod Words
 pub mod Longest
+pub mod Fits
+pub mod Changed
+pub mod Viewed
+pub mod Admitted

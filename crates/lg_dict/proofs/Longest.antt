@@ -12,7 +12,7 @@ use Rattle.std.specs.Cmp.{nat_cmp_is}
 use Rattle.std.specs.Cmp.Lexicographic.{slice_cmp}
 use Rattle.std.specs.FinMap.{get}
 use Rattle.lg_gram.specs.Trees.{Tree}
-use Rattle.lg_dict.specs.Dictionary.{Dictionary, IsWordOf, AreWordsOf, IsLongest, IsLongestWord}
+use Rattle.lg_dict.specs.Dictionary.{Dictionary, IsWordOf, AreWordsOf, IsLongest, IsLongestWord, NoWordIsLonger}
 use Rattle.lg_dict.specs.Subscripts.{is_point, has_subscript}
 use Rattle.lg_dict.specs.Tables.{text_keys}
 use Rattle.lg_dict.specs.Layout.{shown, IsKept}
@@ -78,11 +78,11 @@ word_is_longer dict text word is = elim is.fits [
   | inr stem ↦ subst (λ t. length t ≤ length word) stem (stem_is_short word (has_subscript word))
 ]
 
-module _ (dict : Dictionary) (n : ℕ) (longest : IsLongestWord dict n) (text : List ℕ) (longer : n < length text) where
+module _ (dict : Dictionary) (n : ℕ) (bounds : NoWordIsLonger dict n) (text : List ℕ) (longer : n < length text) where
   pub has_no_word : (word : List ℕ) → IsWordOf dict text word → ⊥
   has_no_word word is =
       let least : length text ≤ length word = word_is_longer dict text word is in
-      let most : length word ≤ n = longest.bounds word is.kept in
+      let most : length word ≤ n = bounds word is.kept in
       omega arith
 
   pub has_none : (false ≡ true) ↔ ((word : List ℕ) × IsWordOf dict text word)
@@ -93,7 +93,7 @@ module _ (dict : Dictionary) (n : ℕ) (longest : IsLongestWord dict n) (text : 
   no_value (Some t) none = absurd (none refl)
 
   pub is_missing : None ≡ get dict.words text
-  is_missing = no_value (get dict.words text) (λ h. let most : length text ≤ n = longest.bounds text h in omega arith)
+  is_missing = no_value (get dict.words text) (λ h. let most : length text ≤ n = bounds text h in omega arith)
 
   none_rise : IsStrictlySortedBy (slice_cmp nat_cmp) []
   unfolding IsStrictlySortedBy

@@ -10,7 +10,7 @@ use Rattle.std.specs.Option.{option_map, option_map_or, UnwrapsOrElse}
 use Rattle.std.specs.Ordering.{nat_cmp}
 use Rattle.std.specs.Cmp.Lexicographic.{slice_cmp, bytes_decides, nat_list_eq_equiv, nat_list_cmp_total, texts_ties}
 use Rattle.std.specs.FinMap.{get, find, from_entries, get-from_entries}
-use Rattle.indexmap.specs.IndexMap.{IndexMap, Updates, get as get_in}
+use Rattle.indexmap.specs.IndexMap.{IndexMap, Updates, UpdatesBy, get as get_in}
 use Rattle.std.specs.List.{IsAmong}
 use Rattle.std.proofs.lemmas.Grind.{take_at_read}
 use Rattle.std.proofs.lemmas.List.{append-nil, map-append}
@@ -19,7 +19,7 @@ use Rattle.std.proofs.lemmas.Option.{slice_get-get_or, unwrap_or-slice_get}
 use Rattle.lg_gram.specs.Trees.{empty, tree_of}
 use Rattle.lg_gram.specs.declared.expr.Expr.{Expr}
 use Rattle.lg_dict.specs.Subscripts.{stem_of}
-use Rattle.lg_dict.specs.Tables.{text_entries, at_text, text_at, numbers_at, listed, same_text, is_under, tree_at}
+use Rattle.lg_dict.specs.Tables.{text_entries, at_text, text_at, numbers_at, texts_at, listed, same_text, is_under, tree_at}
 
 -- how the keys of a table are compared
 abbrev pub key_eq : {A : Type 0} → Vec ℕ A → Vec ℕ A → Bool
@@ -53,6 +53,19 @@ module _ {A V S : Type 0} where
       ∙ sym (cond-false (same_text text key.items) w (at_text old text) other))
       (cases_Bool (same_text text key.items))
 
+  -- and so is a change at a key that is looked up by its bytes
+  pub at_text-written : (old new : IndexMap (Vec ℕ A) V S) (word : List ℕ) (w : Option V) → UpdatesBy key_eq (λ k. pointwise nat_eq word k.items) old new w
+      → (text : List ℕ) → at_text new text ≡ cond (same_text text word) w (at_text old text)
+  unfolding KeepsOthers
+  at_text-written old new word w h text =
+      ⊎_elim
+      (λ same. ap (at_text new) ((bytes_decides text word).0 same) ∙ h.1 ∙ sym (cond-true (same_text text word) w (at_text old text) same))
+      (λ other.
+      h.3 (λ k. pointwise nat_eq text k.items) (λ x y p. nat_list_eq_equiv.congr text x.items y.items p)
+      (λ k p. nat_list_eq_equiv.symm text k.items ∙ sym (nat_list_eq_equiv.congr word k.items text p) ∙ nat_list_eq_equiv.symm word text ∙ other)
+      ∙ sym (cond-false (same_text text word) w (at_text old text) other))
+      (cases_Bool (same_text text word))
+
   -- what the map of the entries has at a text is what the table has there
   pub get-shown : {X : Type 0} (g : V → X) (table : IndexMap (Vec ℕ A) V S) (text : List ℕ)
       → get (from_entries {R = slice_cmp nat_cmp} (shown_as g (text_entries table))) text ≡ option_map g (at_text table text)
@@ -78,6 +91,29 @@ module _ {A B S : Type 0} where
       (λ other. ap (λ b. option_map_or (λ numbers. numbers.items) (cond b (Some list) (at_text old text)) []) other
       ∙ sym (cond-false (same_text text key.items) (numbers_at old text ++ number ∷ []) (numbers_at old text) other))
       (cases_Bool (same_text text key.items))
+
+-- texts that are set at a stem
+module _ {A B S : Type 0} (old new : IndexMap (Vec ℕ A) (Vec (List ℕ) B) S) (stem : List ℕ) (list : Vec (List ℕ) B)
+    (set : (text : List ℕ) → at_text new text ≡ cond (same_text text stem) (Some list) (at_text old text)) where
+  texts-set : (text : List ℕ) (b : Bool) → same_text text stem ≡ b → texts_at new text ≡ cond b list.items (texts_at old text)
+  texts-set text true is = ap (λ o. option_map_or (λ texts. texts.items) o []) (set text ∙ ap (λ b. cond b (Some list) (at_text old text)) is)
+  texts-set text false is = ap (λ o. option_map_or (λ texts. texts.items) o []) (set text ∙ ap (λ b. cond b (Some list) (at_text old text)) is)
+
+  kept_by : list.items ≡ texts_at old stem → (text : List ℕ) (b : Bool) → same_text text stem ≡ b → texts_at new text ≡ texts_at old text
+  kept_by same text true is = texts-set text true is ∙ same ∙ ap (texts_at old) (sym ((bytes_decides text stem).0 is))
+  kept_by same text false is = texts-set text false is
+
+  pub texts-kept : list.items ≡ texts_at old stem → (text : List ℕ) → texts_at new text ≡ texts_at old text
+  texts-kept same text = kept_by same text (same_text text stem) refl
+
+  pushed_by : (word : List ℕ) → list.items ≡ texts_at old stem ++ word ∷ [] → (text : List ℕ) (b : Bool) → same_text text stem ≡ b
+      → texts_at new text ≡ (if b then texts_at old text ++ word ∷ [] else texts_at old text)
+  pushed_by word more text true is = texts-set text true is ∙ more ∙ ap (λ t. texts_at old t ++ word ∷ []) (sym ((bytes_decides text stem).0 is))
+  pushed_by word more text false is = texts-set text false is
+
+  pub texts-pushed : (word : List ℕ) → list.items ≡ texts_at old stem ++ word ∷ [] → (text : List ℕ)
+      → texts_at new text ≡ (if same_text text stem then texts_at old text ++ word ∷ [] else texts_at old text)
+  texts-pushed word more text = pushed_by word more text (same_text text stem) refl
 
 -- one more word under its stem
 module _ (words : List (List ℕ)) (text : List ℕ) (number : ℕ) where

@@ -1,10 +1,11 @@
 -- What contracts see of a dictionary: two finite maps.
-use Rattle.std.specs.Prelude.{◌≡◌, ◌⊎◌, ◌↔◌, ◌≤◌, ℕ, List, length, map, Contains, IsSome}
+use Rattle.std.specs.Prelude.{◌≡◌, ◌⊎◌, ◌↔◌, ◌≤◌, ℕ, List, [], ◌∷◌, length, map, Contains, IsSome}
 use Rattle.std.specs.List.{flat_map}
 use Rattle.std.specs.List.Sorted.{IsStrictlySortedBy}
 use Rattle.std.specs.Ordering.{nat_cmp}
 use Rattle.std.specs.Cmp.Lexicographic.{slice_cmp}
-use Rattle.std.specs.FinMap.{FinMap, get, from_entries}
+use Rattle.std.specs.FinMap.{FinMap, get, insert, from_entries}
+use Rattle.lg_gram.specs.Filled.{Formulas}
 use Rattle.lg_gram.specs.Trees.{Tree, tree_of}
 use Rattle.lg_gram.specs.declared.entry.Entry.{Entry}
 pub use Rattle.lg_gram.specs.Entries.{words_in, macros_in, AreEntries}
@@ -18,6 +19,15 @@ TextMap V = FinMap (slice_cmp nat_cmp) V
 pub record Dictionary : Type 0 where
   pub words : TextMap Tree
   pub macros : TextMap (Tree × ℕ)
+
+-- what the macros stand for, each with its level
+abbrev pub macros_of : Dictionary → Formulas
+macros_of dict name = get dict.macros name
+
+-- each of these keys has the value; all other keys stay
+abbrev pub insert_all : {V : Type 0} → List (List ℕ) → V → TextMap V → TextMap V
+insert_all [] v m = m
+insert_all (k ∷ ks) v m = insert_all ks v (insert m k v)
 
 -- each word of the entries with its formula
 abbrev pub words_with_formulas : List Entry → List (List ℕ × Tree)
@@ -52,3 +62,7 @@ pub record IsLongest (IsOne : List ℕ → Type 0) (n : ℕ) : Type 0 where
 -- the length of the longest word of the dictionary
 abbrev pub IsLongestWord : Dictionary → ℕ → Type 0
 IsLongestWord dict n = IsLongest (λ word. IsSome (get dict.words word)) n
+
+-- no word of the dictionary has more bytes
+abbrev pub NoWordIsLonger : Dictionary → ℕ → Type 0
+NoWordIsLonger dict n = (word : List ℕ) → IsSome (get dict.words word) → length word ≤ n

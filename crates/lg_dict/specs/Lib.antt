@@ -3,3 +3,5 @@ pub mod Dictionary
 pub mod Stored
 pub mod Tables
 pub mod Layout
+pub mod Changed
+pub mod Viewed

@@ -7,7 +7,7 @@ use Rattle.std.specs.Cmp.Lexicographic.{pointwise}
 use Rattle.indexmap.specs.IndexMap.{IndexMap, get_by}
 use Rattle.lg_gram.specs.Trees.{Tree, empty, tree_of}
 use Rattle.lg_gram.specs.declared.expr.Expr.{Expr}
-use Rattle.lg_gram.specs.Formulas.{LevelFits}
+use Rattle.lg_gram.specs.Fits.{Fits}
 use Rattle.lg_dict.specs.Subscripts.{stem_of}
 use Rattle.lg_dict.specs.declared.tables.Macro.{Macro}
 
@@ -37,6 +37,10 @@ module _ {A B S : Type 0} where
   abbrev pub listed : List (List ℕ) → IndexMap (Vec ℕ A) (Vec ℕ B) S → List ℕ → List (List ℕ)
   listed words stems stem = map (λ number. text_at words number) (numbers_at stems stem)
 
+-- the texts that a table of stems has for a stem
+abbrev pub texts_at : {A B S : Type 0} → IndexMap (Vec ℕ A) (Vec (List ℕ) B) S → List ℕ → List (List ℕ)
+texts_at stems stem = option_map_or (λ texts. texts.items) (at_text stems stem) []
+
 -- two texts have the same bytes
 abbrev pub same_text : List ℕ → List ℕ → Bool
 same_text = pointwise nat_eq
@@ -58,7 +62,7 @@ macro_at formulas m = (tree_at formulas m.formula, m.level)
 abbrev pub with_macros : List Expr → List (List ℕ × Macro) → List (List ℕ × (Tree × ℕ))
 with_macros formulas entries = map (λ e. (e.0, macro_at formulas e.1)) entries
 
--- a macro's formula is there, and its level fits it
+-- a macro's formula is there, and keeps to its level
 pub record IsMacro (formulas : List Expr) (m : Macro) : Type 0 where
   pub within : m.formula < length formulas
-  pub level : LevelFits m.level (tree_at formulas m.formula)
+  pub fits : Fits m.level (tree_at formulas m.formula)

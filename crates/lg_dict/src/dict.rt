@@ -1,19 +1,15 @@
 //! A dictionary, made once from its entries.
-ghost use Rattle.std.specs.Prelude.{◌≡◌, ◌↔◌, ◌++◌, [], ◌∷◌, ℕ, List, map, is_some, if◌then◌else◌, Contains, IsTrue, IfOk, IfSome};
+ghost use Rattle.std.specs.Prelude.{◌≡◌, ◌↔◌, ℕ, List, map, true, Contains, IsSome, IfOk, IfSome};
 ghost use Rattle.std.specs.FinMap as finite;
-ghost use Rattle.std.specs.List.Sorted.{IsStrictlySortedBy};
 ghost use Rattle.std.specs.Option.{option_map};
-ghost use Rattle.std.specs.Ordering.{nat_cmp};
-ghost use Rattle.std.specs.Cmp.Lexicographic.{slice_cmp};
 ghost use Rattle.lg_gram.specs.Trees.{tree_of};
+ghost use Rattle.lg_gram.specs.Fits.{AllFit};
 ghost use Rattle.lg_gram.specs.Formulas.{LevelFits};
-ghost use Rattle.lg_dict.specs.Dictionary.{dictionary_of, AreEntries, IsWordOf, AreWordsOf, IsLongestWord};
-ghost use Rattle.lg_dict.specs.Tables.{at_text, text_keys, listed};
+ghost use Rattle.lg_dict.specs.Dictionary.{dictionary_of, macros_of, AreEntries, IsLongestWord};
+ghost use Rattle.lg_dict.specs.Tables.{text_at, text_keys, is_under};
 
-use crate::tables::{
-    Macro, Table, longest_word, macro_table, stem_table, with_stem, word_at, word_table,
-};
-use lg_base::{NoMemory, Text, Texts};
+use crate::tables::{Macro, Table, longest_word, macro_table, stem_table, with_stem, word_table};
+use lg_base::NoMemory;
 use lg_gram::{Entry, Formula};
 use std::alloc::Global;
 use std::marker::Model;
@@ -95,59 +91,19 @@ impl Dict {
         Some((&self.formulas[found.formula], found.level))
     }
 
-    /// Whether some word equals the text or has it as stem. No memory.
-    pub(crate) fn has(&self, text: &[u8]) -> bool
-        ensures { IsTrue result ↔ ((word : List ℕ) × IsWordOf self.now text.now word) }
+    /// Each macro keeps to its level. The function does nothing: a caller whose proof needs the fact calls it.
+    pub(crate) fn macros_fit(&self)
+        ensures { AllFit (macros_of self.now) }
     {
-        if text.len() > self.longest {
-            return false;
-        }
-        self.words.contains_key(text) || !with_stem(&self.stems, text).is_empty()
+        let _macros = &self.macros;
     }
 
-    /// The words that equal the text or have it as stem, increasing by bytes.
-    pub(crate) fn words_of(&self, alloc: Global, text: &[u8]) -> Result<Texts, NoMemory>
-        ensures { IfOk result (AreWordsOf self.now text.now) }
+    /// The words that have this stem and are not their own, as their numbers in a table of words. No memory.
+    pub(crate) fn with_stem(&self, stem: &[u8]) -> (&Table<usize>, &[usize])
+        ensures { (word : List ℕ) → Contains (map (λ number. text_at (text_keys result.0.now) number) result.1.now) word ↔ (IsSome (finite.get self.now.words word) × (is_under stem.now word ≡ true)) }
     {
-        if text.len() > self.longest {
-            return Ok(Texts::of(Vec::new(alloc)));
-        }
-        let found = found_words(alloc, &self.words, &self.stems, text)?;
-        sorted_texts(alloc, found)
+        (&self.words, with_stem(&self.stems, stem))
     }
-}
-
-// The text itself where it is a word, and the words that have it as stem.
-fn found_words<'a>(
-    alloc: Global,
-    words: &'a Table<usize>,
-    stems: &Table<Vec<usize>>,
-    text: &'a [u8],
-) -> Result<Vec<&'a [u8]>, NoMemory>
-    ensures { IfOk result (λ found. map (λ word. word.now) found.items ≡ (if is_some (at_text words.now text.now) then text.now ∷ [] else []) ++ listed (text_keys words.now) stems.now text.now) }
-{
-    let mut found = Vec::new(alloc);
-    if words.contains_key(text) {
-        found.push(text)?;
-    }
-    for number in with_stem(stems, text) {
-        found.push(word_at(words, *number))?;
-    }
-    Ok(found)
-}
-
-// These texts, increasing by bytes, each once.
-fn sorted_texts(alloc: Global, mut found: Vec<&[u8]>) -> Result<Texts, NoMemory>
-    ensures rise { IfOk result (λ texts. IsStrictlySortedBy (slice_cmp nat_cmp) texts) }
-    ensures same { IfOk result (λ texts. (text : List ℕ) → Contains texts text ↔ Contains (map (λ word. word.now) found.entry.items) text) }
-{
-    found.sort_unstable();
-    found.dedup();
-    let mut texts = Vec::new(alloc);
-    for word in &found {
-        texts.push(Text::of(alloc, word)?)?;
-    }
-    Ok(Texts::of(texts))
 }
 
 fn formulas_of(alloc: Global, entries: Vec<Entry>) -> Result<Vec<Formula>, NoMemory>

@@ -1,6 +1,7 @@
 //! The dictionary: words and macros with their formulas, and views of it.
 #![tactic(auto)]
 
+pub mod changes;
 pub mod dict;
 pub mod subscript;
 pub mod tables;

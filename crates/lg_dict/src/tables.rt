@@ -1,9 +1,9 @@
 //! The hash tables of a dictionary, each made once from the entries. Their keys are bytes.
-ghost use Rattle.std.specs.Prelude.{◌≡◌, ◌≢◌, ◌<◌, ◌++◌, [], ◌∷◌, ℕ, List, map, filter, length, All, AllPairs, Contains, IfOk, OnOk, nat_eq, if◌then◌else◌};
+ghost use Rattle.std.specs.Prelude.{◌≡◌, ◌≢◌, ◌<◌, ◌≤◌, ◌++◌, [], ◌∷◌, ℕ, List, map, filter, length, All, AllPairs, Contains, IsSome, IfOk, OnOk, OnErr, nat_eq, if◌then◌else◌};
 ghost use Rattle.std.specs.List.{IsDistinct};
 ghost use Rattle.indexmap.specs.IndexMap.{values};
 ghost use Rattle.lg_dict.specs.Dictionary.{words_in, macros_in, words_with_formulas, macros_with_formulas, AreEntries, IsLongest};
-ghost use Rattle.lg_dict.specs.Tables.{text_entries, text_keys, text_at, numbers_at, listed, same_text, is_under, with_trees, with_macros, IsMacro};
+ghost use Rattle.lg_dict.specs.Tables.{text_entries, text_keys, text_at, at_text, numbers_at, texts_at, listed, same_text, is_under, with_trees, with_macros, IsMacro};
 
 use crate::subscript::stem;
 use indexmap::IndexMap;
@@ -41,6 +41,8 @@ pub(crate) fn macro_table(alloc: Global, entries: &[Entry]) -> Result<Table<Macr
 {
     let mut table = IndexMap::new(alloc);
     for (place, entry) in entries.iter().enumerate() {
+        // the call tells that the formula is within the limits
+        let _expr = entry.formula.expr();
         let found = Macro {
             formula: place,
             level: entry.level,
@@ -67,7 +69,7 @@ fn add_names<V: Copy>(
     Ok(())
 }
 
-fn copied(alloc: Global, bytes: &[u8]) -> Result<Vec<u8>, NoMemory>
+pub(crate) fn copied(alloc: Global, bytes: &[u8]) -> Result<Vec<u8>, NoMemory>
     ensures { IfOk result (λ copy. copy.items ≡ bytes.now) }
 {
     let copy = bytes.to_vec(alloc)?;
@@ -81,6 +83,18 @@ pub(crate) fn longest_word(words: &Table<usize>) -> usize
     let mut longest = 0;
     for word in words.keys() {
         longest = longest.max(word.len());
+    }
+    longest
+}
+
+/// The greatest of a length in bytes and the lengths of these words. No memory.
+pub(crate) fn longest_of(start: usize, words: &[Text]) -> usize
+    ensures above { start ≤ result }
+    ensures bounds { All (λ word. length word ≤ result) words.now }
+{
+    let mut longest = start;
+    for word in words {
+        longest = longest.max(word.bytes().len());
     }
     longest
 }
@@ -141,6 +155,68 @@ pub(crate) fn with_stem<'a>(stems: &'a Table<Vec<usize>>, stem: &[u8]) -> &'a [u
 {
     match stems.get(stem) {
         Some(numbers) => numbers.as_slice(),
+        None => &[],
+    }
+}
+
+/// Adds a word to those that a table of stems has for its stem; a word that is its own stem is not added. Out of memory,
+/// the table has the same for each stem.
+pub(crate) fn list_text(
+    alloc: Global,
+    stems: &mut Table<Vec<Text>>,
+    word: &[u8],
+) -> Result<(), NoMemory>
+    ensures unchanged { OnErr result ((text : List ℕ) → texts_at stems.new text ≡ texts_at stems.old text) }
+    ensures listed { OnOk result ((text : List ℕ) → texts_at stems.new text ≡ (if is_under text word.now then texts_at stems.old text ++ word.now ∷ [] else texts_at stems.old text)) }
+{
+    let stem = stem(word);
+    if stem == word {
+        return Ok(());
+    }
+    let text = Text::of(alloc, word)?;
+    admit_stem(alloc, stems, stem)?;
+    push_text(stems, stem, text)
+}
+
+// Makes room for the words of a stem.
+fn admit_stem(alloc: Global, stems: &mut Table<Vec<Text>>, stem: &[u8]) -> Result<(), NoMemory>
+    ensures same { (text : List ℕ) → texts_at stems.new text ≡ texts_at stems.old text }
+    ensures there { OnOk result (IsSome (at_text stems.new stem.now)) }
+{
+    if stems.contains_key(stem) {
+        return Ok(());
+    }
+    let key = copied(alloc, stem)?;
+    stems.insert(key, Vec::new(alloc))?;
+    Ok(())
+}
+
+// Adds a word to those of a stem, for which there is room.
+fn push_text(stems: &mut Table<Vec<Text>>, stem: &[u8], word: Text) -> Result<(), NoMemory>
+    requires { IsSome (at_text stems.old stem.now) }
+    ensures unchanged { OnErr result ((text : List ℕ) → texts_at stems.new text ≡ texts_at stems.old text) }
+    ensures pushed { OnOk result ((text : List ℕ) → texts_at stems.new text ≡ (if same_text text stem.now then texts_at stems.old text ++ word ∷ [] else texts_at stems.old text)) }
+{
+    match stems.get_mut(stem) {
+        Some(words) => push(words, word),
+        None => unreachable!(),
+    }
+}
+
+fn push(words: &mut Vec<Text>, word: Text) -> Result<(), NoMemory>
+    ensures unchanged { OnErr result (words.new.items ≡ words.old.items) }
+    ensures pushed { OnOk result (words.new.items ≡ words.old.items ++ word ∷ []) }
+{
+    words.push(word)?;
+    Ok(())
+}
+
+/// The words that a table of stems has for a stem. No memory.
+pub(crate) fn texts_with_stem<'a>(stems: &'a Table<Vec<Text>>, stem: &[u8]) -> &'a [Text]
+    ensures { result.now ≡ texts_at stems.now stem.now }
+{
+    match stems.get(stem) {
+        Some(words) => words.as_slice(),
         None => &[],
     }
 }

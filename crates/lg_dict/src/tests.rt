@@ -120,15 +120,19 @@ fn tells_the_longest_word(rt: HostRuntime) -> Result<(), Fail> {
     Ok(())
 }
 
+// Wants the macro of the sample to have a formula of this letter, and this level.
+fn expect_macro<R: Abort>(rt: &R, view: &View, want: u8, want_level: u32) -> Result<(), Fail> {
+    let (formula, level) = view.named(b"<m>").ok_or("a macro")?;
+    assert!(rt; capital(formula) == Some(want));
+    assert!(rt; level == want_level);
+    assert!(rt; view.named(b"run").is_none());
+    Ok(())
+}
+
 #[test]
 fn looks_up_macros(rt: HostRuntime) -> Result<(), Fail> {
     let dict = sample_dict(rt.alloc())?;
-    let view = View::of(rt.alloc(), &dict);
-    let (formula, level) = view.named(b"<m>").ok_or("a macro")?;
-    assert_eq!(rt; capital(formula), Some(b'B'));
-    assert_eq!(rt; level, 7);
-    assert!(rt; view.named(b"run").is_none());
-    Ok(())
+    expect_macro(&rt, &View::of(rt.alloc(), &dict), b'B', 7)
 }
 
 // Wants these words of a text, each before a space.
@@ -162,4 +166,63 @@ fn finds_the_words_of_a_text(rt: HostRuntime) -> Result<(), Fail> {
     expect_words(&rt, alloc, &view, b"run.v", b"run.v ")?;
     expect_words(&rt, alloc, &view, b"sleep", b"")?;
     Ok(())
+}
+
+// The formula of one connector.
+fn letter(caps: &[u8]) -> Result<Formula, Fail>
+    ensures { IfOk result (λ formula. LevelFits 0 (tree_of formula)) }
+{
+    let connector = Connector::of(caps, b"", false, true).ok_or("a name")?;
+    let formula = Formula::of(Expr::Conn(connector)).ok_or("a formula")?;
+    Ok(formula)
+}
+
+// Gives a word of the sample and a new one the formula of this letter.
+fn put_two(alloc: Global, view: &mut View, caps: &[u8]) -> Result<(), Fail> {
+    let words = texts(alloc, &[b"walk", b"run.long"])?;
+    let formula = letter(caps)?;
+    view.put(&words, &formula)?;
+    Ok(())
+}
+
+#[test]
+fn puts_words(rt: HostRuntime) -> Result<(), Fail> {
+    let dict = sample_dict(rt.alloc())?;
+    let mut view = View::of(rt.alloc(), &dict);
+    put_two(rt.alloc(), &mut view, b"C")?;
+    expect_word(&rt, &view, b"walk", Some(b'C'));
+    expect_word(&rt, &view, b"run.long", Some(b'C'));
+    expect_word(&rt, &view, b"run.v", Some(b'A'));
+    expect_words(&rt, rt.alloc(), &view, b"run", b"run run.long run.n run.v ")
+}
+
+// Removes a word of the sample and one that is none.
+fn remove_two(view: &mut View) -> Result<(), Fail> {
+    view.remove(b"run.v")?;
+    view.remove(b"sleep")?;
+    Ok(())
+}
+
+#[test]
+fn removes_words(rt: HostRuntime) -> Result<(), Fail> {
+    let dict = sample_dict(rt.alloc())?;
+    let mut view = View::of(rt.alloc(), &dict);
+    remove_two(&mut view)?;
+    expect_word(&rt, &view, b"run.v", None);
+    expect_words(&rt, rt.alloc(), &view, b"run", b"run run.n ")
+}
+
+fn set_macro(alloc: Global, view: &mut View) -> Result<(), Fail> {
+    let name = Text::of(alloc, b"<m>")?;
+    let formula = letter(b"C")?;
+    view.put_named(name, formula, 0)?;
+    Ok(())
+}
+
+#[test]
+fn sets_macros(rt: HostRuntime) -> Result<(), Fail> {
+    let dict = sample_dict(rt.alloc())?;
+    let mut view = View::of(rt.alloc(), &dict);
+    set_macro(rt.alloc(), &mut view)?;
+    expect_macro(&rt, &view, b'C', 0)
 }

@@ -3,7 +3,8 @@ use Rattle.std.proofs.lemmas.List.{length-map}
 use Rattle.std.specs.List.{IsDistinct, flat_map}
 use Rattle.lg_gram.specs.Trees.{tree_of}
 use Rattle.lg_gram.specs.declared.entry.Entry.{Entry}
-use Rattle.lg_gram.specs.Formulas.{LevelFits}
+use Rattle.lg_gram.specs.Formulas.{LevelFits, prices_are_small}
+use Rattle.lg_gram.specs.Fits.{Fits}
 use Rattle.lg_dict.specs.Tables.{text_entries, text_keys, same_text, tree_at, macro_at, IsMacro}
 use Rattle.lg_dict.specs.declared.tables.Macro.{Macro}
 use Rattle.lg_dict.proofs.Gathered.{distinct_upto, text_keys-gathered, gathered-more, All-values-more, tree_at-map}
@@ -31,13 +32,15 @@ loop-place-preserved c =
     let within : i < length es = omega arith in
     let tree : tree_at formulas i ≡ tree_of (get_or es i item).formula = tree_at-map es i item within in
     let level : item.level ≡ (get_or es i item).level = ap (λ (e : Entry). e.level) c.index-entries-place.is in
-    let fits : LevelFits item.level (tree_at formulas i) =
+    let same : (get_or es i item).formula ≡ item.formula = ap (λ (e : Entry). e.formula) (sym c.index-entries-place.is) in
+    let level_fits : LevelFits item.level (tree_at formulas i) =
     subst (λ n. LevelFits n (tree_at formulas i)) (sym level) (subst (LevelFits (get_or es i item).level) (sym tree) (c.requires.levels i item within)) in
+    let fits : Fits item.level (tree_at formulas i) = record { level_fits = level_fits; prices = ap prices_are_small (tree ∙ ap tree_of same) ∙ c.expr-expr.ensures.limits.prices } in
     let grown : text_entries c.add_names.new.table ≡ text_entries c.loop-place.table ++ map (λ name. (name, found)) (get_or es i item).macros =
     c.in_ok-add_names.ensures ∙ ap (λ names. text_entries c.loop-place.table ++ map (λ name. (name, found)) names) (c.items.ensures ∙ ap (λ (e : Entry). e.macros) c.index-entries-place.is) in
     record {
       kept = gathered-more (λ (e : Entry). e.macros) (λ (e : Entry). (tree_of e.formula, e.level)) (macro_at formulas) c.loop-place.table c.add_names.new.table es i item found within
           c.loop-place.invariant.kept grown (λ j. (tree j, level j));
       fit = All-values-more (IsMacro formulas) c.loop-place.table c.add_names.new.table (get_or es i item).macros found grown
-          (record { within = omega (arith, length-map es (λ (e : Entry). e.formula)); level = fits }) c.loop-place.invariant.fit;
+          (record { within = omega (arith, length-map es (λ (e : Entry). e.formula)); fits = fits }) c.loop-place.invariant.fit;
     }

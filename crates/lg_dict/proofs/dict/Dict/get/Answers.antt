@@ -10,7 +10,7 @@ use Rattle.lg_dict.proofs.Longest.{longest_seen, is_missing}
 use Rattle.lg_dict.proofs.dict.Dict.get.Goals as goal
 
 pub returns-then-word-self : goal.returns-then-word-self
-returns-then-word-self c = is_missing c.args.self.now c.self.inside.longest (longest_seen c.self.inside c.args.self.now c.self.view_is c.self.invariant) c.args.word.now c.if-word-self.true
+returns-then-word-self c = is_missing c.args.self.now c.self.inside.longest (longest_seen c.self.inside c.args.self.now c.self.view_is c.self.invariant).bounds c.args.word.now c.if-word-self.true
 
 pub returns-in_err-place : goal.returns-in_err-place
 returns-in_err-place c =

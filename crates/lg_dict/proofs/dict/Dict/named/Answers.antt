@@ -31,4 +31,4 @@ returns-clause-level c =
     let formulas = c.self.inside.formulas.items in
     let found = c.in_ok-found.field-0.now in
     let kept : IsMacro formulas found = among_all (IsMacro formulas) (values c.self.inside.macros) found c.self.invariant.macros c.in_ok-found.ensures.member in
-    subst (LevelFits found.level) (tree_at-get_or formulas found.formula c.index.result.now kept.within c.index.ensures) kept.level
+    subst (LevelFits found.level) (tree_at-get_or formulas found.formula c.index.result.now kept.within c.index.ensures) kept.fits.level_fits

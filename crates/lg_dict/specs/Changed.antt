@@ -1,0 +1,61 @@
+-- Changes that are laid over a dictionary.
+use Rattle.std.specs.Prelude.{◌≡◌, ◌<◌, ℕ, List, [], ◌∷◌, length, Contains, Option, Some, None, IsSome, IfSome, true}
+use Rattle.std.specs.FinMap.{get, insert, remove}
+use Rattle.std.specs.Option.{unwrap_or}
+use Rattle.lg_gram.specs.Trees.{Tree}
+use Rattle.lg_gram.specs.declared.expr.Expr.{Expr}
+use Rattle.lg_dict.specs.Dictionary.{Dictionary, TextMap}
+use Rattle.lg_dict.specs.Tables.{text_entries, at_text, texts_at, is_under, tree_at, macro_at, IsMacro}
+use Rattle.lg_dict.specs.declared.changes.Change.{Change}
+use Rattle.lg_dict.specs.declared.changes.Change.TheVariants.{Same, Removed, Given}
+use Rattle.lg_dict.specs.declared.changes.Changes.{Changes}
+
+-- at this key the map has this value, or nothing
+abbrev pub set_key : {X : Type 0} → TextMap X → List ℕ → Option X → TextMap X
+set_key m key None = remove m key
+set_key m key (Some x) = insert m key x
+
+-- a map with changes laid over it, each by what it means at its key; the first change of a key counts
+abbrev pub laid_over : {V X : Type 0} → (List ℕ → V → Option X) → List (List ℕ × V) → TextMap X → TextMap X
+laid_over means [] m = m
+laid_over means (e ∷ es) m = set_key (laid_over means es m) e.0 (means e.0 e.1)
+
+-- what a word has by a change, over these words
+abbrev pub word_by : TextMap Tree → List Expr → List ℕ → Change → Option Tree
+word_by words formulas word Same = get words word
+word_by words formulas word Removed = None
+word_by words formulas word (Given place) = Some (tree_at formulas place)
+
+-- a dictionary with changes laid over it
+abbrev pub changed : Dictionary → Changes → Dictionary
+changed dict c = record {
+  words = laid_over (word_by dict.words c.formulas.items) (text_entries c.words) dict.words;
+  macros = laid_over (λ name m. Some (macro_at c.formulas.items m)) (text_entries c.macros) dict.macros;
+}
+
+-- what is changed at a word
+abbrev pub change_at : Changes → List ℕ → Change
+change_at c word = unwrap_or (at_text c.words word) Same
+
+-- there is room for a change of the word
+abbrev pub IsNamed : Changes → List ℕ → Type 0
+IsNamed c word = IsSome (at_text c.words word)
+
+-- the formula that a change gives is there
+abbrev pub IsGiven : List Expr → Change → Type 0
+IsGiven formulas Same = Unit {0}
+IsGiven formulas Removed = Unit {0}
+IsGiven formulas (Given place) = place < length formulas
+
+-- each formula is there, each macro keeps to its level, and each stem lists words that have it, among them each that is named
+pub record IsLaid (c : Changes) : Type 0 where
+  pub words : (word : List ℕ) → IsGiven c.formulas.items (change_at c word)
+  pub macros : (name : List ℕ) → IfSome (at_text c.macros name) (IsMacro c.formulas.items)
+  pub only : (stem word : List ℕ) → Contains (texts_at c.stems stem) word → is_under stem word ≡ true
+  pub all : (stem word : List ℕ) → IsNamed c word → is_under stem word ≡ true → Contains (texts_at c.stems stem) word
+
+-- nothing is changed between the two
+pub record HasSame (old new : Changes) : Type 0 where
+  pub words : (word : List ℕ) → change_at new word ≡ change_at old word
+  pub macros : (name : List ℕ) → at_text new.macros name ≡ at_text old.macros name
+  pub formulas : new.formulas.items ≡ old.formulas.items

@@ -1,0 +1,208 @@
+//! Changes of a dictionary that are laid over it.
+ghost use Rattle.std.specs.Prelude.{◌≡◌, ℕ, List, [], All, IsSome, IfSome, Some, is_some, if◌then◌else◌, OnOk, OnErr};
+ghost use Rattle.std.specs.FinMap as finite;
+ghost use Rattle.std.specs.List.{list_any};
+ghost use Rattle.std.specs.Option.{option_map};
+ghost use Rattle.lg_gram.specs.Fits.{Fits};
+ghost use Rattle.lg_gram.specs.Formulas.{LevelFits};
+ghost use Rattle.lg_gram.specs.Trees.{tree_of};
+ghost use Rattle.lg_dict.specs.Changed.{change_at, changed, HasSame, IsLaid, IsNamed};
+ghost use Rattle.lg_dict.specs.Dictionary.{Dictionary, insert_all};
+ghost use Rattle.lg_dict.specs.Tables.{at_text, same_text};
+
+use crate::dict::Dict;
+use crate::tables::{Macro, Table, copied, list_text};
+use indexmap::IndexMap;
+use lg_base::{NoMemory, Text};
+use lg_gram::Formula;
+use std::alloc::Global;
+
+/// What is changed at a word.
+#[derive(Clone, Copy, Debug, PartialEq, Eq)]
+pub enum Change {
+    /// Nothing.
+    Same,
+    Removed,
+    /// The place of the word's formula among those of the changes.
+    Given(usize),
+}
+
+/// Changes: of words, with the words of each stem, and of macros.
+///
+/// The words that a stem lists may be unchanged, and may stand twice.
+#[derive(Drop)]
+pub(crate) struct Changes {
+    pub(crate) formulas: Vec<Formula>,
+    pub(crate) words: Table<Change>,
+    pub(crate) stems: Table<Vec<Text>>,
+    pub(crate) macros: Table<Macro>,
+}
+
+impl Changes {
+    /// No changes. It takes no memory.
+    pub(crate) fn new(alloc: Global) -> Changes
+        ensures laid { IsLaid result }
+        ensures words { result.words.entries ≡ [] }
+        ensures macros { result.macros.entries ≡ [] }
+    {
+        Changes {
+            formulas: Vec::new(alloc),
+            words: IndexMap::new(alloc),
+            stems: IndexMap::new(alloc),
+            macros: IndexMap::new(alloc),
+        }
+    }
+
+    /// What is changed at a word. No memory.
+    pub(crate) fn at(&self, word: &[u8]) -> Change
+        ensures { result ≡ change_at self.now word.now }
+    {
+        match self.words.get(word) {
+            Some(change) => *change,
+            None => Change::Same,
+        }
+    }
+
+    /// Gives each of these words the formula. Out of memory, nothing is changed.
+    pub(crate) fn put(
+        &mut self,
+        alloc: Global,
+        words: &[Text],
+        formula: Formula,
+    ) -> Result<(), NoMemory>
+        requires { IsLaid self.old }
+        ensures laid { IsLaid self.new }
+        ensures put { OnOk result ((dict : Dictionary) → changed dict self.new ≡ record (changed dict self.old) { words = insert_all words.now (tree_of formula) (changed dict self.old).words }) }
+        ensures unchanged { OnErr result ((dict : Dictionary) → changed dict self.new ≡ changed dict self.old) }
+    {
+        self.admit_all(alloc, words)?;
+        let place = self.formulas.len();
+        self.formulas.push(formula)?;
+        self.set_all(words, Change::Given(place));
+        Ok(())
+    }
+
+    /// Sets a macro. Out of memory, nothing is changed.
+    pub(crate) fn put_named(
+        &mut self,
+        alloc: Global,
+        name: &[u8],
+        formula: Formula,
+        level: u32,
+    ) -> Result<(), NoMemory>
+        requires laid { IsLaid self.old }
+        requires fits { Fits level (tree_of formula) }
+        ensures laid { IsLaid self.new }
+        ensures put { OnOk result ((dict : Dictionary) → changed dict self.new ≡ record (changed dict self.old) { macros = finite.insert (changed dict self.old).macros name.now (tree_of formula, level) }) }
+        ensures unchanged { OnErr result ((dict : Dictionary) → changed dict self.new ≡ changed dict self.old) }
+    {
+        let key = copied(alloc, name)?;
+        let place = self.formulas.len();
+        self.formulas.push(formula)?;
+        let found = Macro {
+            formula: place,
+            level,
+        };
+        self.macros.insert(key, found)?;
+        Ok(())
+    }
+
+    /// Removes a word, if it is one. Out of memory, nothing is changed.
+    pub(crate) fn remove(&mut self, alloc: Global, word: &[u8]) -> Result<(), NoMemory>
+        requires { IsLaid self.old }
+        ensures laid { IsLaid self.new }
+        ensures removed { OnOk result ((dict : Dictionary) → changed dict self.new ≡ record (changed dict self.old) { words = finite.remove (changed dict self.old).words word.now }) }
+        ensures unchanged { OnErr result ((dict : Dictionary) → changed dict self.new ≡ changed dict self.old) }
+    {
+        self.admit(alloc, word)?;
+        set_change(&mut self.words, word, Change::Removed);
+        Ok(())
+    }
+
+    // Makes room for changes of these words. Nothing is changed yet, out of memory too.
+    fn admit_all(&mut self, alloc: Global, words: &[Text]) -> Result<(), NoMemory>
+        requires { IsLaid self.old }
+        ensures laid { IsLaid self.new }
+        ensures same { HasSame self.old self.new }
+        ensures named { OnOk result (All (IsNamed self.new) words.now) }
+    {
+        for word in words {
+            self.admit(alloc, word.bytes())?;
+        }
+        Ok(())
+    }
+
+    // Makes room for a change of this word. Nothing is changed yet, out of memory too.
+    fn admit(&mut self, alloc: Global, word: &[u8]) -> Result<(), NoMemory>
+        requires { IsLaid self.old }
+        ensures laid { IsLaid self.new }
+        ensures same { HasSame self.old self.new }
+        ensures names { (text : List ℕ) → IsNamed self.old text → IsNamed self.new text }
+        ensures named { OnOk result (IsNamed self.new word.now) }
+    {
+        if self.words.contains_key(word) {
+            return Ok(());
+        }
+        let key = copied(alloc, word)?;
+        list_text(alloc, &mut self.stems, word)?;
+        self.words.insert(key, Change::Same)?;
+        Ok(())
+    }
+
+    // Changes each of these words, for which there is room.
+    fn set_all(&mut self, words: &[Text], change: Change)
+        requires named { All (IsNamed self.old) words.now }
+        ensures words { (text : List ℕ) → change_at self.new text ≡ (if list_any (same_text text) words.now then change else change_at self.old text) }
+        ensures names { (text : List ℕ) → is_some (at_text self.new.words text) ≡ is_some (at_text self.old.words text) }
+        ensures stems { self.new.stems ≡ self.old.stems }
+        ensures formulas { self.new.formulas ≡ self.old.formulas }
+        ensures macros { self.new.macros ≡ self.old.macros }
+    {
+        for word in words {
+            set_change(&mut self.words, word.bytes(), change);
+        }
+    }
+}
+
+// Sets the change of a word, for which there is room.
+fn set_change(words: &mut Table<Change>, word: &[u8], change: Change)
+    requires { IsSome (at_text words.old word.now) }
+    ensures { (text : List ℕ) → at_text words.new text ≡ (if same_text text word.now then Some change else at_text words.old text) }
+{
+    match words.get_mut(word) {
+        Some(slot) => *slot = change,
+        None => unreachable!(),
+    }
+}
+
+/// The formula of a word of a dictionary with changes laid over it. No memory.
+pub(crate) fn looked_up<'b>(
+    base: &'b Dict,
+    changes: &'b Changes,
+    word: &[u8],
+) -> Option<&'b Formula>
+    requires { IsLaid changes.now }
+    ensures { option_map (λ formula. tree_of formula.now) result ≡ finite.get (changed base.now changes.now).words word.now }
+{
+    match changes.at(word) {
+        Change::Same => base.get(word),
+        Change::Removed => None,
+        Change::Given(place) => Some(&changes.formulas[place]),
+    }
+}
+
+/// The formula and the level of a macro of a dictionary with changes laid over it. No memory.
+pub(crate) fn named_in<'b>(
+    base: &'b Dict,
+    changes: &'b Changes,
+    name: &[u8],
+) -> Option<(&'b Formula, u32)>
+    requires { IsLaid changes.now }
+    ensures found { option_map (λ found. (tree_of found.0.now, found.1)) result ≡ finite.get (changed base.now changes.now).macros name.now }
+    ensures level { IfSome result (λ found. LevelFits found.1 (tree_of found.0.now)) }
+{
+    match changes.macros.get(name) {
+        Some(found) => Some((&changes.formulas[found.formula], found.level)),
+        None => base.named(name),
+    }
+}
