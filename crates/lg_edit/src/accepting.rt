@@ -47,7 +47,7 @@ fn check_size(view: &View, entry: &RawEntry) -> Result<(), EditRefusal>
     ensures { result_err result ≡ option_or (too_deep view.now entry.now) (too_large view.now entry.now) }
 {
     view.macros_fit();
-    let level = filled_level(entry, view);
+    let level = filled_level(entry.level, &entry.expr, view);
     if level > LEVEL {
         return Err(EditRefusal::TooDeep(level));
     }

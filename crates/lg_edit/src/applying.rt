@@ -46,7 +46,7 @@ fn put_macro(alloc: Global, view: &mut View, entry: &RawEntry) -> Result<(), NoM
     ensures unchanged { OnErr result (view.new ≡ view.old) }
 {
     view.macros_fit();
-    let level = filled_level(entry, view);
+    let level = filled_level(entry.level, &entry.expr, view);
     let formula = entry_formula(alloc, view, entry)?;
     let name = macro_name(alloc, entry)?;
     view.put_named(name, formula, level)
