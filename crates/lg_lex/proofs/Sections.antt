@@ -1,5 +1,5 @@
 -- The tokens of a section that is closed are the same wherever it stands.
-use Rattle.std.proofs.Common.{◌≡◌, ℕ, ◌+◌, ◌≤◌, ◌<◌, suc, List, [], ◌∷◌, ◌++◌, length, map, drop, get_or, slice_range, true, false, refl, sym, ap, subst, ◌∙◌, arith}
+use Rattle.std.proofs.Common.{◌≡◌, ℕ, ◌+◌, List, [], ◌∷◌, ◌++◌, length, map, drop, get_or, true, false, refl, sym, ap, subst, ◌∙◌, arith}
 use Rattle.std.specs.List.{AllByRecursion}
 use Rattle.lg_lex.specs.declared.marks.Class.{Class}
 use Rattle.lg_lex.specs.declared.marks.Class.TheVariants.{Blank, LineEnd, Percent, Quote, Sign, Other}
@@ -7,7 +7,7 @@ use Rattle.lg_lex.specs.declared.marks.Marks.{Marks}
 use Rattle.lg_lex.specs.Classes.{class_of}
 use Rattle.lg_lex.specs.Tokens.{Token, sign, plain}
 use Rattle.lg_lex.specs.Lexing.{Mode, between, in_comment, in_plain, in_quotes, Rest, lex_step, ended, lex, tokens_from}
-use Rattle.lg_lex.specs.Sections.{is_bare, is_bare_class, AreBare, EndsIn, IsClosed, NoSection, moved}
+use Rattle.lg_lex.specs.Sections.{is_bare, is_bare_class, AreBare, IsClosed, NoSection, moved}
 
 -- between two tokens, or in a plain one
 abbrev IsOpen : Mode → Type 0
