@@ -8,8 +8,7 @@ use Rattle.std.specs.List.{AllByRecursion, zip, flat_map, list_any}
 use Rattle.std.specs.Str.{IsUtf8}
 use Rattle.lg_base.specs.Contents.{Contents}
 use Rattle.lg_base.specs.Files.{AsksWithin}
-use Rattle.lg_gram.specs.Filled.{Formulas, filled, filled_level}
-use Rattle.lg_gram.specs.RawTrees.{RawTree, raw_tree_of}
+use Rattle.lg_gram.specs.Filled.{Formulas, filled}
 use Rattle.lg_gram.specs.Trees.{Tree}
 use Rattle.lg_gram.specs.declared.entry.Entry.{Entry}
 use Rattle.lg_lex.specs.declared.marks.Marks.TheVariants.{Dictionary}

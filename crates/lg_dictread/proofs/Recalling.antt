@@ -1,18 +1,12 @@
 -- An expression means the same wherever its text stands.
-use Rattle.std.proofs.Common.{◌≡◌, ℕ, ◌+◌, ◌<◌, List, [], ◌∷◌, ◌++◌, length, map, drop, Option, Some, None, IfSome, Bor, refl, sym, ap, subst, ◌∙◌, arith}
-use Rattle.std.proofs.lemmas.List.{append-nil, append_cancel_right, append_assoc}
-use Rattle.lg_gram.specs.Filled.{Formulas, filled, filled_level}
-use Rattle.lg_gram.specs.Limits.{LEVEL}
-use Rattle.lg_gram.specs.RawTrees.{RawTree}
+use Rattle.std.proofs.Common.{◌≡◌, ℕ, ◌+◌, List, [], ◌∷◌, ◌++◌, length, map, drop, Option, Some, None, IfSome, Bor, refl, sym, ap, subst, ◌∙◌}
+use Rattle.std.proofs.lemmas.List.{append-nil, append_cancel_right}
+use Rattle.lg_gram.specs.Filled.{Formulas}
 use Rattle.lg_gram.specs.Trees.{Tree}
-use Rattle.lg_gram.specs.Fits.{Fits, FilledFits}
 use Rattle.lg_lex.specs.declared.marks.Marks.TheVariants.{Dictionary}
 use Rattle.lg_lex.specs.Lexing.{tokens_from}
 use Rattle.lg_lex.specs.Sections.{IsClosed, moved}
-use Rattle.lg_lex.specs.Spots.{place_left}
 use Rattle.lg_lex.specs.Tokens.{Token}
-use Rattle.lg_expr.specs.Fits.{rules_of}
-use Rattle.lg_expr.specs.Reading.{StandFor}
 use Rattle.lg_dictread.specs.declared.dict_error.DictError.{DictError}
 use Rattle.lg_dictread.specs.declared.dict_error.DictError.TheVariants as errors
 use Rattle.lg_dictread.specs.Entries.{part}

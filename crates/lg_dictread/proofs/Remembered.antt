@@ -1,5 +1,5 @@
 -- What is recalled after one more entry.
-use Rattle.std.proofs.Common.{◌≡◌, ◌⊎◌, ℕ, ◌<◌, suc, false, if◌then◌else◌, List, [], ◌∷◌, ◌++◌, length, Option, None, Some, IfSome, IsSomeAnd, Bor, refl, sym, subst, arith, length-append}
+use Rattle.std.proofs.Common.{◌≡◌, ◌⊎◌, ℕ, ◌<◌, false, if◌then◌else◌, List, [], ◌∷◌, ◌++◌, length, Option, None, Some, IfSome, IsSomeAnd, Bor, refl, sym, subst, arith, length-append}
 use mathlib.Core.Logic.{⊎_elim}
 use Rattle.std.specs.List.{list_any}
 use Rattle.lg_gram.specs.Filled.{Formulas}
@@ -8,7 +8,7 @@ use Rattle.lg_gram.specs.declared.entry.Entry.{Entry}
 use Rattle.lg_dictread.specs.Definitions.{same_text}
 use Rattle.lg_dictread.specs.Reading.{entry_formula, formula_at}
 use Rattle.lg_dictread.specs.Recalling.{Writes}
-use Rattle.lg_dictread.proofs.Formulas.{formula_within, place_more, written_none, written_same, written_now}
+use Rattle.lg_dictread.proofs.Formulas.{place_more, written_same, written_now}
 
 own_at : (formulas : Formulas) (t : Tree) (level : ℕ) (section : Option (Bor (List ℕ))) (text : List ℕ) → IsSomeAnd section (λ s. s.now ≡ text)
     → IfSome section (λ s. Writes formulas s.now t level) → Writes formulas text t level

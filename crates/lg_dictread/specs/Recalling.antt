@@ -1,5 +1,5 @@
 -- The formula of an expression, read or recalled by the text of the expression.
-use Rattle.std.specs.Prelude.{◌≡◌, ℕ, List, [], Option, Some, IfSome, Result, Ok, Err}
+use Rattle.std.specs.Prelude.{◌≡◌, ℕ, List, [], IfSome, Result, Ok, Err}
 use Rattle.lg_gram.specs.Filled.{Formulas, filled, filled_level}
 use Rattle.lg_gram.specs.Limits.{LEVEL}
 use Rattle.lg_gram.specs.RawTrees.{RawTree}

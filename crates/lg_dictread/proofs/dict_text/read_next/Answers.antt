@@ -1,8 +1,7 @@
-use Rattle.std.proofs.Common.{◌≡◌, ℕ, refl, sym, subst, ◌∙◌, arith}
+use Rattle.std.proofs.Common.{ℕ, refl, sym, subst, ◌∙◌, arith}
 use Rattle.std.proofs.lemmas.List.{get_or_read}
 use Rattle.std.proofs.lemmas.Result.{err_from_is_err_and}
 use Rattle.std.specs.List.{AllByRecursion, zip}
-use Rattle.std.specs.Prelude.{slice_index}
 use Rattle.lg_gram.specs.Filled.{filled}
 use Rattle.lg_gram.specs.Fits.{Fits}
 use Rattle.lg_gram.specs.Limits.{LEVEL}
@@ -17,7 +16,6 @@ use Rattle.lg_dictread.specs.Defining.{HasUtf8Name, defined_in, listed_in, none_
 use Rattle.lg_dictread.specs.Reading.{earlier_of, formulas_of, named_meaning}
 use Rattle.lg_dictread.proofs.Formulas.{all_fit}
 use Rattle.lg_dictread.proofs.ItemAnswers.{Laws}
-use Rattle.lg_dictread.proofs.Recalling.{own_cause}
 use Rattle.lg_dictread.proofs.TextAnswers.{EntryLaws, shorter}
 use Rattle.lg_dictread.proofs.NextEntry.{items_zip, stands_utf8, items_stop_gives, refused_gives, has_head, line_told, entry_stands, whole_gives, items_error, all_asked, meaning_told, adds_entry, lists_all}
 use Rattle.lg_dictread.proofs.dict_text.read_next.Goals as goal

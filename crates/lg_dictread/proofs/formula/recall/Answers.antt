@@ -1,4 +1,4 @@
-use Rattle.std.proofs.Common.{◌≡◌, ℕ, Option, IfSome, ap, sym, subst, ◌∙◌}
+use Rattle.std.proofs.Common.{ℕ, Option, IfSome, ap, sym, subst}
 use Rattle.lg_gram.specs.Trees.{Tree, tree_of}
 use Rattle.lg_lex.specs.declared.marks.Marks.TheVariants.{Dictionary}
 use Rattle.lg_lex.specs.Lexing.{tokens_from}
