@@ -13,15 +13,6 @@ use Rattle.lg_dict.proofs.Words.{text_is, text_is_itself}
 
 -- ---- where nothing is changed, and each stem lists as before or one word more
 
-pub unchanged_laid : (old new : Changes) → IsLaid old → HasSame old new → ((word : List ℕ) → IsNamed new word → IsNamed old word)
-    → ((text : List ℕ) → texts_at new.stems text ≡ texts_at old.stems text) → IsLaid new
-unchanged_laid old new laid same named stems = record {
-  words = λ word. subst (λ fs. IsGiven fs (change_at new word)) (sym same.formulas) (subst (IsGiven old.formulas.items) (sym (same.words word)) (laid.words word));
-  macros = λ name. subst (λ fs. IfSome (at_text new.macros name) (IsMacro fs)) (sym same.formulas) (subst (λ o. IfSome o (IsMacro old.formulas.items)) (sym (same.macros name)) (laid.macros name));
-  only = λ stem word h. laid.only stem word (subst (λ l. Contains l word) (stems stem) h);
-  all = λ stem word h under. subst (λ l. Contains l word) (sym (stems stem)) (laid.all stem word (named word h) under);
-}
-
 module _ (old new : Changes) (word : List ℕ) (laid : IsLaid old) (same : HasSame old new)
     (stems : (text : List ℕ) → texts_at new.stems text ≡ (if is_under text word then texts_at old.stems text ++ word ∷ [] else texts_at old.stems text)) where
   listed_now : (text : List ℕ) (b : Bool) → is_under text word ≡ b → texts_at new.stems text ≡ (if b then texts_at old.stems text ++ word ∷ [] else texts_at old.stems text)

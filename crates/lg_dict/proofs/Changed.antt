@@ -189,16 +189,6 @@ module _ (old new : Changes) (e : Expr) (laid : IsLaid old) (grown : new.formula
       ∙ old_macros old.formulas.items e (at_text old.macros name) (get dict.macros name) (laid.macros name)
       ∙ sym (get-macro dict old name))
 
-  pub laid_spare : new.stems ≡ old.stems → IsLaid new
-  laid_spare stems = record {
-    words = λ word. subst (λ fs. IsGiven fs (change_at new word)) (sym grown)
-        (subst (λ o. IsGiven (old.formulas.items ++ e ∷ []) (unwrap_or o Same)) (sym (words word)) (still_given old.formulas.items e (change_at old word) (laid.words word)));
-    macros = λ name. subst (λ fs. IfSome (at_text new.macros name) (IsMacro fs)) (sym grown)
-        (subst (λ o. IfSome o (IsMacro (old.formulas.items ++ e ∷ []))) (sym (macros name)) (still_macros old.formulas.items e (at_text old.macros name) (laid.macros name)));
-    only = λ stem word h. laid.only stem word (subst (λ t. Contains (texts_at t stem) word) stems h);
-    all = λ stem word h under. subst (λ t. Contains (texts_at t stem) word) (sym stems) (laid.all stem word (subst IsSome (words word) h) under);
-  }
-
 -- ---- words that get a formula
 
 module _ (old new : Changes) (e : Expr) (laid : IsLaid old) (grown : new.formulas.items ≡ old.formulas.items ++ e ∷ []) where
@@ -323,23 +313,6 @@ module _ (old new : Changes) (formulas : new.formulas.items ≡ old.formulas.ite
       (λ name. get-macro dict new name
       ∙ (λ i. over (option_map (λ m. Some (macro_at (formulas i) m)) (at_text (macros i) name)) (get dict.macros name))
       ∙ sym (get-macro dict old name))
-
-  module _ (laid : IsLaid old) (there : IsNamed old word) where
-    given_now : (text : List ℕ) (b : Bool) → same_text text word ≡ b → IsGiven old.formulas.items (change_at new text)
-    given_now text true is = subst (IsGiven old.formulas.items) (sym (change_now text true is)) tt
-    given_now text false is = subst (IsGiven old.formulas.items) (sym (change_now text false is)) (laid.words text)
-
-    named_before : (text : List ℕ) (b : Bool) → same_text text word ≡ b → IsNamed new text → IsNamed old text
-    named_before text true is h = subst (IsNamed old) (sym (text_is text word is)) there
-    named_before text false is h = subst IsSome (set text ∙ ap (λ b. if b then Some Removed else at_text old.words text) is) h
-
-    pub laid_gone : new.stems ≡ old.stems → IsLaid new
-    laid_gone stems = record {
-      words = λ text. subst (λ fs. IsGiven fs (change_at new text)) (sym formulas) (given_now text (same_text text word) refl);
-      macros = λ name. subst (λ fs. IfSome (at_text new.macros name) (IsMacro fs)) (sym formulas) (subst (λ ms. IfSome (at_text ms name) (IsMacro old.formulas.items)) (sym macros) (laid.macros name));
-      only = λ stem w h. laid.only stem w (subst (λ t. Contains (texts_at t stem) w) stems h);
-      all = λ stem w h under. subst (λ t. Contains (texts_at t stem) w) (sym stems) (laid.all stem w (named_before w (same_text w word) refl h) under);
-    }
 
 -- ---- macros keep to their levels
 
