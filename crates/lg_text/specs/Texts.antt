@@ -78,14 +78,11 @@ page_line page =
 abbrev pub page_text : List Token → Page → List ℕ
 page_text tokens page = flat_map (item_text tokens) page.items ++ page_line page
 
--- what is printed for a sentence past a limit
-abbrev pub too_many_words_line : ℕ → List ℕ
-too_many_words_line count = line_of (codes "too" ∷ codes "many" ∷ codes "words" ∷ decimal count ∷ [])
-
-abbrev pub too_many_choices_line : ℕ → List ℕ
-too_many_choices_line count = line_of (codes "too" ∷ codes "many" ∷ codes "choices" ∷ decimal count ∷ [])
+-- a sentence past a bound, and how much there is of what it bounds
+abbrev pub bound_pieces : Bound → List (List ℕ)
+bound_pieces (TooManyWords count) = codes "too" ∷ codes "many" ∷ codes "words" ∷ decimal count ∷ []
+bound_pieces (TooWide count) = codes "too" ∷ codes "many" ∷ codes "choices" ∷ decimal count ∷ []
 
 -- the line that names a bound
 abbrev pub bound_line : Bound → List ℕ
-bound_line (TooManyWords count) = too_many_words_line count
-bound_line (TooWide count) = too_many_choices_line count
+bound_line bound = line_of (bound_pieces bound)

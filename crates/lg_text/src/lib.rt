@@ -1,11 +1,15 @@
-//! The texts that are printed of linkages and pages.
+//! The texts that are printed of linkages, pages, answers and the journal.
 #![tactic(auto)]
 
+mod journal;
 mod linkage;
 mod page;
 mod piece;
+mod reply;
 #[cfg(test)]
 mod tests;
 
+pub use journal::journal_text;
 pub use linkage::linkage_text;
 pub use page::{bound_text, page_text};
+pub use reply::reply_text;

@@ -1,7 +1,8 @@
 //! The text of a page, and the lines that name a bound.
-ghost use Rattle.std.specs.Prelude.{◌≡◌, [], ◌∷◌, ◌++◌, OnOk, IfOk, codes, decimal};
+ghost use Rattle.std.specs.Prelude.{◌≡◌, ◌∷◌, ◌++◌, OnOk, IfOk, codes, map};
 ghost use Rattle.std.specs.List.{All};
-ghost use Rattle.lg_text.specs.Texts.{IsPrintable, item_text, page_line, page_text, fail_line, shown, line_of, bound_line};
+ghost use Rattle.lg_text.specs.Texts.{IsPrintable, item_text, page_line, page_text, fail_line, shown, bound_line, bound_pieces};
+ghost use Rattle.lg_text.specs.Pieces.{piece_text};
 
 use crate::linkage::write_linkage;
 use crate::piece::{Piece, write_line};
@@ -24,11 +25,24 @@ pub fn page_text(alloc: Global, tokens: &Tokens, page: &Page) -> Result<Vec<u8>,
     ensures { IfOk result (λ bytes. bytes.items ≡ page_text tokens.now page.now) }
 {
     let mut out = Vec::new(alloc);
-    for item in page.items.items() {
-        write_item(alloc, &mut out, tokens, item)?;
-    }
-    write_page_line(alloc, &mut out, page)?;
+    write_page(alloc, &mut out, tokens, page)?;
     Ok(out)
+}
+
+// Appends the text of a page.
+pub(crate) fn write_page(
+    alloc: Global,
+    out: &mut Vec<u8>,
+    tokens: &Tokens,
+    page: &Page,
+) -> Result<(), NoMemory>
+    requires { All (λ item. IsPrintable tokens.now item.linkage) page.now.items }
+    ensures { OnOk result (out.new.items ≡ out.old.items ++ page_text tokens.now page.now) }
+{
+    for item in page.items.items() {
+        write_item(alloc, out, tokens, item)?;
+    }
+    write_page_line(alloc, out, page)
 }
 
 fn write_item(
@@ -94,24 +108,24 @@ pub fn bound_text(alloc: Global, bound: Bound) -> Result<Vec<u8>, NoMemory>
     ensures { IfOk result (λ bytes. bytes.items ≡ bound_line bound) }
 {
     let mut out = Vec::new(alloc);
-    match bound {
-        Bound::TooManyWords(count) => write_too_many(alloc, &mut out, b"words", count)?,
-        Bound::TooWide(count) => write_too_many(alloc, &mut out, b"choices", count)?,
-    }
+    write_line(alloc, &mut out, b"too", &too_many(bound))?;
     Ok(out)
 }
 
-fn write_too_many(alloc: Global, out: &mut Vec<u8>, what: &[u8], count: u64) -> Result<(), NoMemory>
-    ensures { OnOk result (out.new.items ≡ out.old.items ++ line_of (codes "too" ∷ codes "many" ∷ what.now ∷ decimal count ∷ [])) }
+// What a sentence has too many of, behind the word `too`.
+pub(crate) fn too_many(bound: Bound) -> [Piece<'static>; 3]
+    ensures { codes "too" ∷ map piece_text result ≡ bound_pieces bound }
 {
-    write_line(
-        alloc,
-        out,
-        b"too",
-        &[
+    match bound {
+        Bound::TooManyWords(count) => [
             Piece::Word(b"many"),
-            Piece::Word(what),
+            Piece::Word(b"words"),
             Piece::Number(count),
         ],
-    )
+        Bound::TooWide(count) => [
+            Piece::Word(b"many"),
+            Piece::Word(b"choices"),
+            Piece::Number(count),
+        ],
+    }
 }

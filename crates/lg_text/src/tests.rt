@@ -2,12 +2,13 @@ ghost use Rattle.std.specs.Prelude.{◌≡◌, [], ◌∷◌, List, length, IfOk
 ghost use Rattle.lg_gram.specs.declared.listing.Token.{Token as SeenToken};
 ghost use Rattle.lg_gram.specs.Linkages.{IsLinkage};
 ghost use Rattle.lg_text.specs.Texts.{IsPrintable};
+ghost use Rattle.lg_text.specs.Replies.{IsAnswerTo, IsPrintableReply};
 
-use crate::{bound_text, linkage_text, page_text};
+use crate::{bound_text, journal_text, linkage_text, page_text, reply_text};
 use lg_base::{Cost, Text, Texts};
 use lg_gram::{
-    Bound, Chosen, Connector, Connectors, Disjunct, Link, Linkage, Links, Page, PageItem,
-    PageItems, Token, Tokens, Violation, matches,
+    Bound, Chosen, CommandKind, Connector, Connectors, Disjunct, EditRefusal, Link, Linkage, Links,
+    Page, PageItem, PageItems, Place, Reply, Token, Tokens, Violation, matches,
 };
 use std::alloc::Global;
 use std::process::Abort;
@@ -314,5 +315,143 @@ fn a_bound_is_named(rt: HostRuntime) -> Result<(), Fail> {
         let text = bound_text(rt.alloc(), bound)?;
         assert_eq!(rt; text.as_slice(), line.as_bytes());
     }
+    Ok(())
+}
+
+// Wants this text of the answer to the second command of the first session.
+fn expect_answer<R: Abort>(
+    rt: &R,
+    alloc: Global,
+    kind: CommandKind,
+    reply: Reply,
+    want: &str,
+) -> Result<(), Fail>
+    requires kind { IsAnswerTo kind reply }
+    requires printable { IsPrintableReply reply }
+{
+    let place = Place {
+        session: 1,
+        command: 2,
+    };
+    let text = reply_text(alloc, place, kind, &reply)?;
+    assert_eq!(rt; text.as_slice(), want.as_bytes());
+    Ok(())
+}
+
+#[test]
+fn versions_are_printed(rt: HostRuntime) -> Result<(), Fail> {
+    let alloc = rt.alloc();
+    let published = Reply::Published { version: 3 };
+    expect_answer(
+        &rt,
+        alloc,
+        CommandKind::Set,
+        published,
+        "1.2 set version 3\n",
+    )?;
+    let at = Reply::At { version: 0 };
+    expect_answer(&rt, alloc, CommandKind::Version, at, "1.2 version 0\n")?;
+    let none = Reply::NoListing;
+    expect_answer(
+        &rt,
+        alloc,
+        CommandKind::More,
+        none,
+        "1.2 more nothing held\n",
+    )
+}
+
+#[test]
+fn an_answer_past_a_bound_is_printed(rt: HostRuntime) -> Result<(), Fail> {
+    let beyond = Reply::Beyond {
+        version: 0,
+        bound: Bound::TooManyWords(123),
+    };
+    let line = "1.2 parse version 0 too many words 123\n";
+    expect_answer(&rt, rt.alloc(), CommandKind::Parse, beyond, line)
+}
+
+// Wants this line of an edit that is refused at version 4.
+fn expect_refusal<R: Abort>(
+    rt: &R,
+    alloc: Global,
+    cause: EditRefusal,
+    name: &[u8],
+    want: &str,
+) -> Result<(), Fail> {
+    let refused = Reply::Refused {
+        version: 4,
+        cause,
+        name: Text::of(alloc, name)?,
+    };
+    expect_answer(rt, alloc, CommandKind::Macro, refused, want)
+}
+
+#[test]
+fn refusals_are_printed(rt: HostRuntime) -> Result<(), Fail> {
+    let table = [
+        (
+            EditRefusal::UnknownMacro(2),
+            "1.2 macro refused at 4: unknown macro <none>\n",
+        ),
+        (
+            EditRefusal::TooDeep(201),
+            "1.2 macro refused at 4: too deep 201\n",
+        ),
+        (
+            EditRefusal::TooManyNodes(1_000_001),
+            "1.2 macro refused at 4: too many nodes 1000001\n",
+        ),
+        (
+            EditRefusal::TooManyChoices(1_000_001),
+            "1.2 macro refused at 4: too many choices 1000001\n",
+        ),
+        (
+            EditRefusal::SideTooLong(256),
+            "1.2 macro refused at 4: too many connectors on a side 256\n",
+        ),
+        (
+            EditRefusal::NoSuchWord,
+            "1.2 macro refused at 4: no such word\n",
+        ),
+    ];
+    for (cause, line) in table {
+        expect_refusal(&rt, rt.alloc(), cause, b"<none>", line)?;
+    }
+    Ok(())
+}
+
+#[test]
+fn a_listing_is_printed_behind_its_version(rt: HostRuntime) -> Result<(), Fail> {
+    let alloc = rt.alloc();
+    let listed = Reply::Listed {
+        version: 7,
+        tokens: Tokens::of(Vec::new(alloc)),
+        page: Page {
+            items: PageItems::of(Vec::new(alloc)),
+            next: 1,
+            end: true,
+        },
+        stats: None,
+    };
+    let text = "1.2 more version 7\npage shown 0 examined 0 next 1 end\n";
+    expect_answer(&rt, alloc, CommandKind::More, listed, text)
+}
+
+#[test]
+fn the_journal_is_printed(rt: HostRuntime) -> Result<(), Fail> {
+    let first = Place {
+        session: 1,
+        command: 2,
+    };
+    let second = Place {
+        session: 20,
+        command: 1,
+    };
+    let text = journal_text(rt.alloc(), &[first, second])?;
+    let lines = b"journal 2\nedit 1 1.2\nedit 2 20.1\ndone\n";
+    assert_eq!(rt; text.as_slice(), lines.as_slice());
+    let text = journal_text(rt.alloc(), &[])?;
+    assert_eq!(rt; text.as_slice(), b"journal 0\ndone\n".as_slice());
     Ok(())
 }

@@ -1,7 +1,7 @@
 use Rattle.std.proofs.Common.{◌≡◌, ◌++◌, take}
 use Rattle.std.specs.List.{flat_map}
 use Rattle.lg_text.specs.Texts.{item_text}
-use Rattle.lg_text.proofs.page.page_text.Given as goal
+use Rattle.lg_text.proofs.page.write_page.Given as goal
 
 -- the candidates so far are written
 abbrev pub invariant-loop-item : goal.invariant-loop-item

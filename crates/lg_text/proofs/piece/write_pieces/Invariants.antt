@@ -1,7 +1,7 @@
 use Rattle.std.proofs.Common.{◌≡◌, ◌∷◌, ◌++◌, take}
 use Rattle.std.specs.List.{flat_map}
 use Rattle.lg_text.specs.Pieces.{piece_text}
-use Rattle.lg_text.proofs.piece.write_line.Given as goal
+use Rattle.lg_text.proofs.piece.write_pieces.Given as goal
 
 -- the pieces so far are written, each behind a space
 abbrev pub invariant-loop-piece : goal.invariant-loop-piece
