@@ -1,3 +1,3 @@
 pub mod Texts
-pub mod Pieces
 pub mod Replies
+pub mod Pieces

@@ -1,5 +1,5 @@
 -- What is printed of a session's answers and of the journal.
-use Rattle.std.specs.Prelude.{ℕ, ◌+◌, List, [], ◌∷◌, ◌++◌, length, All, codes}
+use Rattle.std.specs.Prelude.{ℕ, List, [], ◌∷◌, ◌++◌, length, All, codes}
 use Rattle.std.specs.List.{flat_map, enumerate_from}
 use Rattle.std.specs.Fmt.{decimal}
 use Rattle.lg_gram.specs.declared.edit.EditRefusal.{EditRefusal}
@@ -31,23 +31,20 @@ cause_pieces (UnknownMacro number) name = codes "unknown" ∷ codes "macro" ∷ 
 cause_pieces (TooDeep level) name = codes "too" ∷ codes "deep" ∷ decimal level ∷ []
 cause_pieces (TooManyNodes count) name = codes "too" ∷ codes "many" ∷ codes "nodes" ∷ decimal count ∷ []
 cause_pieces (TooManyChoices count) name = codes "too" ∷ codes "many" ∷ codes "choices" ∷ decimal count ∷ []
-cause_pieces (SideTooLong count) name = codes "too" ∷ codes "many" ∷ codes "connectors on a side" ∷ decimal count ∷ []
+cause_pieces (SideTooLong count) name = codes "too" ∷ codes "many" ∷ codes "connectors" ∷ codes "on" ∷ codes "a" ∷ codes "side" ∷ decimal count ∷ []
 cause_pieces NoSuchWord name = codes "no" ∷ codes "such" ∷ codes "word" ∷ []
 
 -- the version of the dictionary that a command was answered by
 abbrev pub version_pieces : Place → CommandKind → ℕ → List (List ℕ)
 version_pieces place kind version = place_text place ∷ kind_word kind ∷ codes "version" ∷ decimal version ∷ []
 
-abbrev pub refusal_line : Place → CommandKind → ℕ → EditRefusal → List ℕ → List ℕ
-refusal_line place kind version cause name =
-    line_of (place_text place ∷ kind_word kind ∷ codes "refused" ∷ codes "at" ∷ (decimal version ++ codes ":") ∷ cause_pieces cause name)
-
 -- what a command of that place and kind was answered
 abbrev pub reply_text : Place → CommandKind → Reply → List ℕ
 reply_text place kind (Listed version tokens page stats) = line_of (version_pieces place kind version) ++ page_text tokens page
 reply_text place kind (Beyond version bound) = line_of (version_pieces place kind version ++ bound_pieces bound)
 reply_text place kind (Published version) = line_of (version_pieces place kind version)
-reply_text place kind (Refused version cause name) = refusal_line place kind version cause name
+reply_text place kind (Refused version cause name) =
+    line_of (place_text place ∷ kind_word kind ∷ codes "refused" ∷ codes "at" ∷ (decimal version ++ codes ":") ∷ cause_pieces cause name)
 reply_text place kind (At version) = line_of (place_text place ∷ kind_word kind ∷ decimal version ∷ [])
 reply_text place kind NoListing = line_of (place_text place ∷ kind_word kind ∷ codes "nothing" ∷ codes "held" ∷ [])
 
@@ -73,11 +70,11 @@ abbrev pub IsPrintableReply : Reply → Type 0
 IsPrintableReply (Listed version tokens page stats) = All (λ item. IsPrintable tokens item.linkage) page.items
 IsPrintableReply _ = Unit {0}
 
--- an edit that was published after so many others, with the version that it made
+-- an edit that was published, with the version that it made
 abbrev pub edit_line : ℕ × Place → List ℕ
-edit_line e = line_of (codes "edit" ∷ decimal (e.0 + 1) ∷ place_text e.1 ∷ [])
+edit_line e = line_of (codes "edit" ∷ decimal e.0 ∷ place_text e.1 ∷ [])
 
 -- the journal: how many edits were published, each in order, and a last line
 abbrev pub journal_text : List Place → List ℕ
 journal_text journal =
-    line_of (codes "journal" ∷ decimal (length journal) ∷ []) ++ (flat_map edit_line (enumerate_from 0 journal) ++ line_of (codes "done" ∷ []))
+    line_of (codes "journal" ∷ decimal (length journal) ∷ []) ++ (flat_map edit_line (enumerate_from 1 journal) ++ line_of (codes "done" ∷ []))

@@ -78,7 +78,7 @@ page_line page =
 abbrev pub page_text : List Token → Page → List ℕ
 page_text tokens page = flat_map (item_text tokens) page.items ++ page_line page
 
--- a sentence past a bound, and how much there is of what it bounds
+-- what is printed for a sentence past a limit
 abbrev pub bound_pieces : Bound → List (List ℕ)
 bound_pieces (TooManyWords count) = codes "too" ∷ codes "many" ∷ codes "words" ∷ decimal count ∷ []
 bound_pieces (TooWide count) = codes "too" ∷ codes "many" ∷ codes "choices" ∷ decimal count ∷ []

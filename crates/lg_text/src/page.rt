@@ -1,7 +1,7 @@
 //! The text of a page, and the lines that name a bound.
 ghost use Rattle.std.specs.Prelude.{◌≡◌, ◌∷◌, ◌++◌, OnOk, IfOk, codes, map};
 ghost use Rattle.std.specs.List.{All};
-ghost use Rattle.lg_text.specs.Texts.{IsPrintable, item_text, page_line, page_text, fail_line, shown, bound_line, bound_pieces};
+ghost use Rattle.lg_text.specs.Texts.{IsPrintable, item_text, page_line, page_text, fail_line, shown, bound_pieces, bound_line};
 ghost use Rattle.lg_text.specs.Pieces.{piece_text};
 
 use crate::linkage::write_linkage;
@@ -108,12 +108,12 @@ pub fn bound_text(alloc: Global, bound: Bound) -> Result<Vec<u8>, NoMemory>
     ensures { IfOk result (λ bytes. bytes.items ≡ bound_line bound) }
 {
     let mut out = Vec::new(alloc);
-    write_line(alloc, &mut out, b"too", &too_many(bound))?;
+    write_line(alloc, &mut out, b"too", &many(bound))?;
     Ok(out)
 }
 
-// What a sentence has too many of, behind the word `too`.
-pub(crate) fn too_many(bound: Bound) -> [Piece<'static>; 3]
+// What a bound's line says behind `too`.
+pub(crate) fn many(bound: Bound) -> [Piece<'static>; 3]
     ensures { codes "too" ∷ map piece_text result ≡ bound_pieces bound }
 {
     match bound {

@@ -1,10 +1,9 @@
 //! Lines of pieces, at the end of a buffer.
-ghost use Rattle.std.specs.Prelude.{◌≡◌, ◌∷◌, ◌++◌, OnOk, map};
-ghost use Rattle.std.specs.List.{flat_map};
+ghost use Rattle.std.specs.Prelude.{◌≡◌, ◌∷◌, ◌++◌, OnOk, codes, decimal, map};
 ghost use Rattle.lg_gram.specs.Connectors.{connector_text};
 ghost use Rattle.lg_text.specs.Texts.{line_of, side_text};
-ghost use Rattle.lg_text.specs.Pieces.{piece_text};
 ghost use Rattle.lg_text.specs.Replies.{place_text};
+ghost use Rattle.lg_text.specs.Pieces.{piece_text, spaced, line_end};
 
 use lg_base::{Cost, NoMemory, write_bytes, write_cost, write_number};
 use lg_gram::{Connector, Place};
@@ -15,13 +14,11 @@ use std::alloc::Global;
 pub(crate) enum Piece<'a> {
     Word(&'a [u8]),
     Number(u64),
+    NumberColon(u64),
     Cost(Cost),
     // The connectors on a side of a disjunct.
     Side(&'a [Connector]),
-    // The numbers of a session and of a command of it.
     Place(Place),
-    // A number before what is told of it.
-    Heading(u64),
 }
 
 // Appends a line that begins with the word and has the pieces behind it, each after a space.
@@ -34,31 +31,29 @@ pub(crate) fn write_line(
     ensures { OnOk result (out.new.items ≡ out.old.items ++ line_of (word.now ∷ map piece_text pieces.now)) }
 {
     write_bytes(out, word)?;
+    write_line_end(alloc, out, pieces)
+}
+
+// Appends the pieces behind a line that has begun, each after a space, and ends the line.
+pub(crate) fn write_line_end(
+    alloc: Global,
+    out: &mut Vec<u8>,
+    pieces: &[Piece<'_>],
+) -> Result<(), NoMemory>
+    ensures { OnOk result (out.new.items ≡ out.old.items ++ line_end (map piece_text pieces.now)) }
+{
     write_pieces(alloc, out, pieces)?;
     write_bytes(out, b"\n")?;
     Ok(())
 }
 
-// Appends a line that begins with the place of a command and has the pieces behind it, each after a space.
-pub(crate) fn write_place_line(
+// Appends the pieces, each after a space.
+pub(crate) fn write_pieces(
     alloc: Global,
     out: &mut Vec<u8>,
-    place: Place,
-    front: &[Piece<'_>],
-    back: &[Piece<'_>],
+    pieces: &[Piece<'_>],
 ) -> Result<(), NoMemory>
-    ensures { OnOk result (out.new.items ≡ out.old.items ++ line_of (place_text place ∷ (map piece_text front.now ++ map piece_text back.now))) }
-{
-    write_place(alloc, out, place)?;
-    write_pieces(alloc, out, front)?;
-    write_pieces(alloc, out, back)?;
-    write_bytes(out, b"\n")?;
-    Ok(())
-}
-
-// Appends the pieces, each after a space.
-fn write_pieces(alloc: Global, out: &mut Vec<u8>, pieces: &[Piece<'_>]) -> Result<(), NoMemory>
-    ensures { OnOk result (out.new.items ≡ out.old.items ++ flat_map (λ piece. 32 ∷ piece_text piece) pieces.now) }
+    ensures { OnOk result (out.new.items ≡ out.old.items ++ spaced (map piece_text pieces.now)) }
 {
     for piece in pieces {
         write_bytes(out, b" ")?;
@@ -67,29 +62,33 @@ fn write_pieces(alloc: Global, out: &mut Vec<u8>, pieces: &[Piece<'_>]) -> Resul
     Ok(())
 }
 
-// Appends the numbers of a session and of a command, with a point between them.
-fn write_place(alloc: Global, out: &mut Vec<u8>, place: Place) -> Result<(), NoMemory>
-    ensures { OnOk result (out.new.items ≡ out.old.items ++ place_text place) }
-{
-    write_number(alloc, out, u64::from(place.session))?;
-    write_bytes(out, b".")?;
-    write_number(alloc, out, u64::from(place.command))
-}
-
 fn write_piece(alloc: Global, out: &mut Vec<u8>, piece: &Piece<'_>) -> Result<(), NoMemory>
     ensures { OnOk result (out.new.items ≡ out.old.items ++ piece_text piece.now) }
 {
     match piece {
         Piece::Word(bytes) => write_bytes(out, bytes),
         Piece::Number(number) => write_number(alloc, out, *number),
+        Piece::NumberColon(number) => write_number_colon(alloc, out, *number),
         Piece::Cost(cost) => write_cost(alloc, out, *cost),
         Piece::Side(connectors) => write_side(out, connectors),
         Piece::Place(place) => write_place(alloc, out, *place),
-        Piece::Heading(number) => {
-            write_number(alloc, out, *number)?;
-            write_bytes(out, b":")
-        }
     }
+}
+
+fn write_number_colon(alloc: Global, out: &mut Vec<u8>, number: u64) -> Result<(), NoMemory>
+    ensures { OnOk result (out.new.items ≡ out.old.items ++ (decimal number ++ codes ":")) }
+{
+    write_number(alloc, out, number)?;
+    write_bytes(out, b":")
+}
+
+// Appends the session and the command, with a point between.
+pub(crate) fn write_place(alloc: Global, out: &mut Vec<u8>, place: Place) -> Result<(), NoMemory>
+    ensures { OnOk result (out.new.items ≡ out.old.items ++ place_text place) }
+{
+    write_number(alloc, out, u64::from(place.session))?;
+    write_bytes(out, b".")?;
+    write_number(alloc, out, u64::from(place.command))
 }
 
 // Appends the connectors of a side, with commas between them, or a dash where there is none.

@@ -1,25 +1,26 @@
-//! The text of a session's answer to a command.
-ghost use Rattle.std.specs.Prelude.{◌≡◌, [], ◌∷◌, ◌++◌, OnOk, IfOk, codes, decimal, map};
-ghost use Rattle.lg_text.specs.Texts.{line_of};
-ghost use Rattle.lg_text.specs.Pieces.{piece_text};
-ghost use Rattle.lg_text.specs.Replies.{IsAnswerTo, IsPrintableReply, cause_pieces, kind_word, place_text, refusal_line, reply_text, version_pieces};
+//! The text of what a session answers to a command.
+ghost use Rattle.std.specs.Prelude.{◌≡◌, [], ◌∷◌, ◌++◌, OnOk, IfOk, All, codes, decimal};
+ghost use Rattle.lg_text.specs.Texts.{IsPrintable, page_text, bound_pieces};
+ghost use Rattle.lg_text.specs.Pieces.{line_end};
+ghost use Rattle.lg_text.specs.Replies.{IsAnswerTo, IsPrintableReply, kind_word, cause_pieces, reply_text};
 
-use crate::page::{too_many, write_page};
-use crate::piece::{Piece, write_place_line};
-use lg_base::{NoMemory, Text};
-use lg_gram::{CommandKind, EditRefusal, Place, Reply};
+use crate::page::{many, write_page};
+use crate::piece::{Piece, write_line_end, write_pieces, write_place};
+use lg_base::NoMemory;
+use lg_gram::{Bound, CommandKind, EditRefusal, Page, Place, Reply, Tokens};
 use std::alloc::Global;
 
-/// What a session answers to a command, in one piece. S.C are the numbers of the session and of the command, KIND is the word
-/// of the command, and V the version of the dictionary.
+/// The text of what the command at the place S.C (its session and its number) is answered. KIND is `parse`, `list`,
+/// `more`, `set`, `macro`, `del` or `version`, and V the version of the dictionary. There is one space between the parts
+/// of a line, and a line feed at its end.
 ///
-/// - `S.C KIND version V`, and then the text of the page (`page_text`), where a sentence is listed.
-/// - `S.C KIND version V too many words N` or `too many choices N`, where the sentence passes a bound.
-/// - `S.C KIND version V`, where an edit is made; V is the version that it made.
-/// - `S.C KIND refused at V: CAUSE`, where it is refused, with CAUSE `unknown macro <name>`, `too deep N`, `too many nodes N`,
-///   `too many choices N`, `too many connectors on a side N` or `no such word`.
-/// - `S.C version V`, where the version is asked for.
-/// - `S.C more nothing held`, where there is no listing to go on with.
+/// - A page of a listing: the line `S.C KIND version V`, and the page's text (`page_text`).
+/// - A sentence past a bound: `S.C KIND version V too many words N`, or `too many choices N`.
+/// - An edit that made a version: `S.C KIND version V`.
+/// - An edit that is refused: `S.C KIND refused at V: CAUSE`. CAUSE is `unknown macro NAME`, `too deep N`,
+///   `too many nodes N`, `too many choices N`, `too many connectors on a side N` or `no such word`.
+/// - The version that the session has come to: `S.C version V`.
+/// - No listing that could go on: `S.C more nothing held`.
 ///
 /// The only error is want of memory.
 pub fn reply_text(
@@ -37,6 +38,7 @@ pub fn reply_text(
     Ok(out)
 }
 
+#[tactic(auto, using(crate::proofs::Joined::line_of_start))]
 fn write_reply(
     alloc: Global,
     out: &mut Vec<u8>,
@@ -44,132 +46,34 @@ fn write_reply(
     kind: CommandKind,
     reply: &Reply,
 ) -> Result<(), NoMemory>
-    requires printable { IsPrintableReply reply.now }
+    requires { IsPrintableReply reply.now }
     ensures { OnOk result (out.new.items ≡ out.old.items ++ reply_text place kind reply.now) }
 {
-    let word = Piece::Word(kind_word(kind));
+    write_place(alloc, out, place)?;
+    write_pieces(alloc, out, &[Piece::Word(kind_name(kind))])?;
     match reply {
         Reply::Listed {
             version,
             tokens,
             page,
             ..
-        } => {
-            write_version(alloc, out, place, kind, *version)?;
-            write_page(alloc, out, tokens, page)
-        }
-        Reply::Beyond { version, bound } => {
-            let front = [
-                word,
-                Piece::Word(b"version"),
-                Piece::Number(*version),
-                Piece::Word(b"too"),
-            ];
-            write_place_line(alloc, out, place, &front, &too_many(*bound))
-        }
-        Reply::Published { version } => write_version(alloc, out, place, kind, *version),
+        } => write_listed(alloc, out, *version, tokens, page),
+        Reply::Beyond { version, bound } => write_beyond(alloc, out, *version, *bound),
+        Reply::Published { version } => write_version(alloc, out, *version),
         Reply::Refused {
             version,
             cause,
             name,
-        } => write_refusal(alloc, out, place, kind, *version, *cause, name),
-        Reply::At { version } => {
-            write_place_line(alloc, out, place, &[word], &[Piece::Number(*version)])
-        }
+        } => write_refused(alloc, out, *version, *cause, name.bytes()),
+        Reply::At { version } => write_line_end(alloc, out, &[Piece::Number(*version)]),
         Reply::NoListing => {
-            let held = [Piece::Word(b"nothing"), Piece::Word(b"held")];
-            write_place_line(alloc, out, place, &[word], &held)
+            let pieces = [Piece::Word(b"nothing"), Piece::Word(b"held")];
+            write_line_end(alloc, out, &pieces)
         }
     }
 }
 
-// The line that a version begins with, or that an edit made it.
-fn write_version(
-    alloc: Global,
-    out: &mut Vec<u8>,
-    place: Place,
-    kind: CommandKind,
-    version: u64,
-) -> Result<(), NoMemory>
-    ensures { OnOk result (out.new.items ≡ out.old.items ++ line_of (version_pieces place kind version)) }
-{
-    let word = Piece::Word(kind_word(kind));
-    let version = [Piece::Word(b"version"), Piece::Number(version)];
-    write_place_line(alloc, out, place, &[word], &version)
-}
-
-// The line of an edit that is refused.
-fn write_refusal(
-    alloc: Global,
-    out: &mut Vec<u8>,
-    place: Place,
-    kind: CommandKind,
-    version: u64,
-    cause: EditRefusal,
-    name: &Text,
-) -> Result<(), NoMemory>
-    ensures { OnOk result (out.new.items ≡ out.old.items ++ refusal_line place kind version cause name.now) }
-{
-    let front = [
-        Piece::Word(kind_word(kind)),
-        Piece::Word(b"refused"),
-        Piece::Word(b"at"),
-        Piece::Heading(version),
-    ];
-    match cause {
-        EditRefusal::UnknownMacro(_) => {
-            let back = [
-                Piece::Word(b"unknown"),
-                Piece::Word(b"macro"),
-                Piece::Word(name.bytes()),
-            ];
-            write_place_line(alloc, out, place, &front, &back)
-        }
-        EditRefusal::TooDeep(level) => {
-            let back = [
-                Piece::Word(b"too"),
-                Piece::Word(b"deep"),
-                Piece::Number(u64::from(level)),
-            ];
-            write_place_line(alloc, out, place, &front, &back)
-        }
-        EditRefusal::TooManyNodes(count) => {
-            let back = counted(b"nodes", count);
-            write_place_line(alloc, out, place, &front, &back)
-        }
-        EditRefusal::TooManyChoices(count) => {
-            let back = counted(b"choices", count);
-            write_place_line(alloc, out, place, &front, &back)
-        }
-        EditRefusal::SideTooLong(count) => {
-            let back = counted(b"connectors on a side", u64::from(count));
-            write_place_line(alloc, out, place, &front, &back)
-        }
-        EditRefusal::NoSuchWord => {
-            let back = [
-                Piece::Word(b"no"),
-                Piece::Word(b"such"),
-                Piece::Word(b"word"),
-            ];
-            write_place_line(alloc, out, place, &front, &back)
-        }
-    }
-}
-
-// Too many of something.
-fn counted(what: &[u8], count: u64) -> [Piece<'_>; 4]
-    ensures { map piece_text result ≡ codes "too" ∷ codes "many" ∷ what.now ∷ decimal count ∷ [] }
-{
-    [
-        Piece::Word(b"too"),
-        Piece::Word(b"many"),
-        Piece::Word(what),
-        Piece::Number(count),
-    ]
-}
-
-// The word of a command.
-fn kind_word(kind: CommandKind) -> &'static [u8]
+fn kind_name(kind: CommandKind) -> &'static [u8]
     ensures { result.now ≡ kind_word kind }
 {
     match kind {
@@ -181,4 +85,130 @@ fn kind_word(kind: CommandKind) -> &'static [u8]
         CommandKind::Del => b"del",
         CommandKind::Version => b"version",
     }
+}
+
+fn write_version(alloc: Global, out: &mut Vec<u8>, version: u64) -> Result<(), NoMemory>
+    ensures { OnOk result (out.new.items ≡ out.old.items ++ line_end (codes "version" ∷ decimal version ∷ [])) }
+{
+    write_line_end(
+        alloc,
+        out,
+        &[Piece::Word(b"version"), Piece::Number(version)],
+    )
+}
+
+fn write_listed(
+    alloc: Global,
+    out: &mut Vec<u8>,
+    version: u64,
+    tokens: &Tokens,
+    page: &Page,
+) -> Result<(), NoMemory>
+    requires { All (λ item. IsPrintable tokens.now item.linkage) page.now.items }
+    ensures { OnOk result (out.new.items ≡ out.old.items ++ (line_end (codes "version" ∷ decimal version ∷ []) ++ page_text tokens.now page.now)) }
+{
+    write_version(alloc, out, version)?;
+    write_page(alloc, out, tokens, page)
+}
+
+fn write_beyond(
+    alloc: Global,
+    out: &mut Vec<u8>,
+    version: u64,
+    bound: Bound,
+) -> Result<(), NoMemory>
+    ensures { OnOk result (out.new.items ≡ out.old.items ++ line_end (codes "version" ∷ decimal version ∷ bound_pieces bound)) }
+{
+    let start = [
+        Piece::Word(b"version"),
+        Piece::Number(version),
+        Piece::Word(b"too"),
+    ];
+    write_pieces(alloc, out, &start)?;
+    write_line_end(alloc, out, &many(bound))
+}
+
+fn write_refused(
+    alloc: Global,
+    out: &mut Vec<u8>,
+    version: u64,
+    cause: EditRefusal,
+    name: &[u8],
+) -> Result<(), NoMemory>
+    ensures { OnOk result (out.new.items ≡ out.old.items ++ line_end (codes "refused" ∷ codes "at" ∷ (decimal version ++ codes ":") ∷ cause_pieces cause name.now)) }
+{
+    let start = [
+        Piece::Word(b"refused"),
+        Piece::Word(b"at"),
+        Piece::NumberColon(version),
+    ];
+    write_pieces(alloc, out, &start)?;
+    write_cause(alloc, out, cause, name)?;
+    Ok(())
+}
+
+fn write_cause(
+    alloc: Global,
+    out: &mut Vec<u8>,
+    cause: EditRefusal,
+    name: &[u8],
+) -> Result<(), NoMemory>
+    ensures { OnOk result (out.new.items ≡ out.old.items ++ line_end (cause_pieces cause name.now)) }
+{
+    match cause {
+        EditRefusal::UnknownMacro(_) => {
+            let pieces = [
+                Piece::Word(b"unknown"),
+                Piece::Word(b"macro"),
+                Piece::Word(name),
+            ];
+            write_line_end(alloc, out, &pieces)
+        }
+        EditRefusal::TooDeep(level) => {
+            let pieces = [
+                Piece::Word(b"too"),
+                Piece::Word(b"deep"),
+                Piece::Number(u64::from(level)),
+            ];
+            write_line_end(alloc, out, &pieces)
+        }
+        EditRefusal::TooManyNodes(count) => write_too_many(alloc, out, b"nodes", count),
+        EditRefusal::TooManyChoices(count) => write_too_many(alloc, out, b"choices", count),
+        EditRefusal::SideTooLong(count) => write_side_too_long(alloc, out, u64::from(count)),
+        EditRefusal::NoSuchWord => {
+            let pieces = [
+                Piece::Word(b"no"),
+                Piece::Word(b"such"),
+                Piece::Word(b"word"),
+            ];
+            write_line_end(alloc, out, &pieces)
+        }
+    }
+}
+
+fn write_too_many(alloc: Global, out: &mut Vec<u8>, what: &[u8], count: u64) -> Result<(), NoMemory>
+    ensures { OnOk result (out.new.items ≡ out.old.items ++ line_end (codes "too" ∷ codes "many" ∷ what.now ∷ decimal count ∷ [])) }
+{
+    let pieces = [
+        Piece::Word(b"too"),
+        Piece::Word(b"many"),
+        Piece::Word(what),
+        Piece::Number(count),
+    ];
+    write_line_end(alloc, out, &pieces)
+}
+
+fn write_side_too_long(alloc: Global, out: &mut Vec<u8>, count: u64) -> Result<(), NoMemory>
+    ensures { OnOk result (out.new.items ≡ out.old.items ++ line_end (codes "too" ∷ codes "many" ∷ codes "connectors" ∷ codes "on" ∷ codes "a" ∷ codes "side" ∷ decimal count ∷ [])) }
+{
+    let pieces = [
+        Piece::Word(b"too"),
+        Piece::Word(b"many"),
+        Piece::Word(b"connectors"),
+        Piece::Word(b"on"),
+        Piece::Word(b"a"),
+        Piece::Word(b"side"),
+        Piece::Number(count),
+    ];
+    write_line_end(alloc, out, &pieces)
 }

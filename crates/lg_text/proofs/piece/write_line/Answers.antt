@@ -1,8 +1,8 @@
 use Rattle.std.proofs.Common.{arith}
 use Rattle.std.proofs.lemmas.Grind.{common_steps}
-use Rattle.lg_text.proofs.Joined.{join_with_byte-cons}
+use Rattle.lg_text.proofs.Joined.{line_of-cons}
 use Rattle.lg_text.proofs.piece.write_line.Goals as goal
 
--- the first part and the others behind it are the joined parts
+-- the word and what stands behind it are the line
 pub returns : goal.returns
-returns c = grind (arith, common_steps, join_with_byte-cons)
+returns c = grind (arith, common_steps, line_of-cons)
