@@ -57,13 +57,16 @@ fn entries(alloc: Global) -> Result<Vec<Entry>, Fail>
     entries.push(entry(alloc, b"x", any_of(alloc, b"ABC", true)?)?)?;
     entries.push(entry(alloc, b"run.v", any_of(alloc, b"B", false)?)?)?;
     entries.push(entry(alloc, b"run.n", any_of(alloc, b"AC", false)?)?)?;
-    entries.push(entry(alloc, b"w", wide(alloc)?)?)?;
     Ok(entries)
 }
 
-fn dict(alloc: Global) -> Result<Dict, Fail> {
-    let dict = Dict::of(alloc, entries(alloc)?)?;
-    Ok(dict)
+// A word of many choices.
+fn wide_entries(alloc: Global) -> Result<Vec<Entry>, Fail>
+    ensures { IfOk result (λ entries. AreEntries entries.items) }
+{
+    let mut entries = Vec::new(alloc);
+    entries.push(entry(alloc, b"w", wide(alloc)?)?)?;
+    Ok(entries)
 }
 
 // No rule, or the one that each link A is part of a cycle.
@@ -249,14 +252,14 @@ fn first_is_broken(rt: HostRuntime) -> Result<(), Fail> {
 fn refusal(alloc: Global, text: &str) -> Result<Option<AnswerRefusal>, Fail>
     requires { length text.now < 2 ^ 32 }
 {
-    let dict = dict(alloc)?;
+    let dict = Dict::of(alloc, wide_entries(alloc)?)?;
     Ok(Listing::start(alloc, &View::of(alloc, &dict), text).err())
 }
 
 #[test]
 fn bounds(rt: HostRuntime) -> Result<(), Fail> {
     let alloc = rt.alloc();
-    let words = refusal(alloc, "x x x x x x x x x")?;
+    let words = refusal(alloc, "w w w w w w w w w")?;
     assert!(rt; words == Some(AnswerRefusal::Beyond(Bound::TooManyWords(9))));
     let choices = refusal(alloc, "w w w w w w w w")?;
     assert!(rt; choices == Some(AnswerRefusal::Beyond(Bound::TooWide(4_194_304))));
