@@ -1,8 +1,8 @@
 #!/usr/bin/env bash
 # Times dictionaries of 1,000 to 1,000,000 words, an entry a word: the text is made and read, the dictionary is made, and
 # each word is looked up. Entries of a shape write the same expression, as those of a lexicon do, or each writes its own.
-# Where link-parser is installed, it then starts with the same entries of 100,000 words and 1,000,000, which it reads from a
-# file and does not look up.
+# Where link-parser is installed, it then starts with the entries of the first kind, which it reads from a file and does not
+# look up.
 cd -P -- "$(dirname -- "$(readlink -f -- "$0")")" || exit 70
 program=../crates/lg_bench/out/lg_bench
 for kind in same own; do
@@ -16,19 +16,12 @@ type link-parser >/dev/null 2>&1 || exit 0
 folder=$(mktemp -d) || exit 70
 trap 'rm -rf -- "$folder"' EXIT
 touch "$folder"/4.0.{regex,affix,knowledge}
-for kind in same own; do
-  for words in 100000 1000000; do
-    printf '#define dictionary-version-number v5v12v0+;\n#define dictionary-locale C;\n' >"$folder/4.0.dict"
-    awk -v words="$words" -v kind="$kind" 'BEGIN {
-      split("D {D S M", fronts, " ")
-      split("+|-} & {@M+} & (S+ or O- or J-)|- & {O+} & {@M+}|- & J+", backs, "|")
-      for (n = 0; n < words; n++) {
-        letters = ""
-        if (kind == "own") for (i = 1; i <= length(n ""); i++) letters = letters substr("abcdefghij", substr(n "", i, 1) + 1, 1)
-        printf "w%d: %s%s%s;\n", n, fronts[n % 4 + 1], letters, backs[n % 4 + 1]
-      }
-    }' >>"$folder/4.0.dict"
-    printf 'link-parser, %s, %s words: ' "$kind" "$words"
-    ./measure link-parser "$folder" -batch
-  done
+for words in 100000 1000000; do
+  printf '#define dictionary-version-number v5v12v0+;\n#define dictionary-locale C;\n' >"$folder/4.0.dict"
+  awk -v words="$words" 'BEGIN {
+    split("D+|{D-} & {@M+} & (S+ or O- or J-)|S- & {O+} & {@M+}|M- & J+", shapes, "|")
+    for (n = 0; n < words; n++) printf "w%d: %s;\n", n, shapes[n % 4 + 1]
+  }' >>"$folder/4.0.dict"
+  printf 'link-parser, same, %s words: ' "$words"
+  ./measure link-parser "$folder" -batch
 done
