@@ -1,0 +1,8 @@
+//! Scripts: the commands of a session, a line each.
+#![tactic(auto)]
+
+pub mod command;
+mod script_error;
+
+pub use command::Command;
+pub use script_error::ScriptError;
