@@ -57,7 +57,7 @@ written_number so_far (b ∷ bs) = written_number (10 * so_far + (b - 48)) bs
 pub record IsNumber (digits : List ℕ) (n : ℕ) : Type 0 where
   pub some : digits ≢ []
   pub few : length digits ≤ 7
-  pub digits : AllByRecursion IsDigit digits
+  pub all_digits : AllByRecursion IsDigit digits
   pub value : n ≡ written_number 0 digits
   pub least : 1 ≤ n
   pub most : n ≤ 1000000

@@ -47,4 +47,4 @@ pub record IsCommand (body word rest : List ℕ) : Type 0 where
   pub inner : AreInner Blanks word
   pub no_comment : (b : List ℕ) → word ≢ percent_sign ∷ b
   pub ends : EndsRun Blanks tail
-  pub rest : Trims tail rest
+  pub trims : Trims tail rest
