@@ -2,6 +2,7 @@
 #![tactic(auto)]
 
 pub mod command;
+mod line;
 mod script_error;
 
 pub use command::Command;
