@@ -3,6 +3,8 @@
 
 pub mod command;
 mod line;
+mod listing;
+mod number;
 mod script_error;
 
 pub use command::Command;
