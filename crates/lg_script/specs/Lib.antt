@@ -2,3 +2,4 @@ pub mod Lines
 pub mod Commands
 pub mod Scripts
 pub mod Parts
+pub mod Telling

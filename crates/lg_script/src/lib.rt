@@ -5,6 +5,7 @@ pub mod command;
 mod line;
 mod listing;
 mod number;
+mod parts;
 mod script_error;
 
 pub use command::Command;

@@ -29,7 +29,7 @@ pub(crate) fn first_line(text: &[u8]) -> (&[u8], Option<&[u8]>)
 pub(crate) fn body_of(line: &[u8]) -> &[u8]
     ensures { Says line.now result.now }
 {
-    match line.strip_suffix(b"\r".as_slice()) {
+    match line.strip_suffix(&[b'\r']) {
         Some(body) => body,
         None => line,
     }

@@ -1,5 +1,4 @@
-use Rattle.std.proofs.Common.{◌≡◌, [], ◌∷◌, Option, Some, None}
-use Rattle.std.specs.Prelude.{Bor}
+use Rattle.std.proofs.Common.{[], ◌∷◌, Some, None}
 use Rattle.std.proofs.lemmas.Bool.Decides.{Decides-eqb}
 use Rattle.std.proofs.lemmas.Slice.Eq.{strip_suffix_is}
 use Rattle.lg_script.specs.Lines.{returned, plain}
