@@ -1,2 +1,4 @@
 pub mod Cuts
 pub mod Listings
+pub mod Commanded
+pub mod Texts

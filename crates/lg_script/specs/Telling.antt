@@ -1,11 +1,12 @@
 -- What the reader's functions tell of a command and of a line, unless memory ran out.
-use Rattle.std.specs.Prelude.{◌≡◌, ℕ, List, Option, Some, None, Result, Ok, Err}
+use Rattle.std.specs.Prelude.{◌≡◌, ℕ, List, Option, Some, None, map, Result, Ok, Err}
 use Rattle.lg_dictread.specs.declared.entry_text.EntryError.{EntryError}
 use Rattle.lg_dictread.specs.declared.entry_text.EntryError.TheVariants as entry_errors
 use Rattle.lg_script.specs.declared.command.Command.{Command}
 use Rattle.lg_script.specs.declared.script_error.ScriptError.{ScriptError}
 use Rattle.lg_script.specs.declared.script_error.ScriptError.TheVariants.{NoMemory, NotUtf8, UnknownCommand, BadNumber, BadEdit}
-use Rattle.lg_script.specs.Lines.{Says, IsPassedOver, IsCommand}
+use Rattle.lg_script.specs.Lines.{AreLines, Says, IsPassedOver, IsCommand}
+use Rattle.lg_script.specs.Scripts.{Outcome, LinesGive}
 use Rattle.lg_script.specs.Commands.{CommandView, command_view, Fault, unknown_command, bad_number, bad_edit, CommandIs}
 
 -- a fault on this line
@@ -39,3 +40,13 @@ TellsLine line text (Err error) = TellsFault line (λ f. LineIs text (Err f)) er
 abbrev pub IsRefusal : ℕ → EntryError → ScriptError → Type 0
 IsRefusal line entry_errors.NoMemory error = error ≡ NoMemory
 IsRefusal line fault error = error ≡ BadEdit line
+
+-- the commands of a text without a mark
+abbrev pub GivesText : ℕ → List ℕ → Outcome → Type 0
+GivesText n text x = (ls : List (List ℕ)) × AreLines ls text × LinesGive n ls x
+
+abbrev pub TellsText : List ℕ → Result (List Command) ScriptError → Type 0
+TellsText text (Ok cs) = GivesText 1 text (Ok (map command_view cs))
+TellsText text (Err NoMemory) = Unit {0}
+TellsText text (Err (NotUtf8 n)) = ⊥
+TellsText text (Err error) = GivesText 1 text (Err error)
