@@ -43,5 +43,5 @@ refused rest line Has (entry_errors.CostForm l) r tells is bad = subst (TellsFau
 refused rest line Has (entry_errors.TooDeep l) r tells is bad = subst (TellsFault line Has) (sym is) (refl, bad tells)
 
 -- a word that was compared, and is another
-pub differs : (w s : List ℕ) (b : Bool) → b ≡ pointwise ◌==◌ w s → b ≡ false → w ≢ s
-differs w s b e h same = let wrong : false ≡ true = sym h ∙ (slice_eq-Decides Decides-eqb w s b e).1 same in absurd cc
+pub differs : (w s t : List ℕ) (b : Bool) → b ≡ pointwise ◌==◌ w s → s ≡ t → b ≡ false → w ≢ t
+differs w s t b e is h same = let wrong : false ≡ true = sym h ∙ (slice_eq-Decides Decides-eqb w s b e).1 (same ∙ sym is) in absurd cc

@@ -2,3 +2,4 @@ pub mod Cuts
 pub mod Listings
 pub mod Commanded
 pub mod Texts
+pub mod LineParts

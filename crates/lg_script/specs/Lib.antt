@@ -3,3 +3,4 @@ pub mod Commands
 pub mod Scripts
 pub mod Parts
 pub mod Telling
+pub mod Kinds

@@ -1,5 +1,5 @@
 -- What a script stands for: its commands, or its first fault.
-use Rattle.std.specs.Prelude.{◌≡◌, ℕ, ◌+◌, min, List, [], ◌∷◌, map, Result, Ok, Err}
+use Rattle.std.specs.Prelude.{◌≡◌, ℕ, ◌+◌, min, List, [], ◌∷◌, map, Vec, Result, Ok, Err}
 use Rattle.std.specs.Str.{IsUtf8, IsValidUpTo}
 use Rattle.lg_lex.specs.Marked.{without_mark}
 use Rattle.lg_script.specs.declared.command.Command.{Command}
@@ -41,7 +41,7 @@ pub data ScriptIs (bytes : List ℕ) : Outcome → Type 0 where
   lines : (ls : List (List ℕ)) (x : Outcome) → IsUtf8 bytes → AreLines ls (without_mark bytes) → LinesGive 1 ls x → ScriptIs bytes x
 
 -- what the reader answers, unless memory ran out
-abbrev pub TellsScript : List ℕ → Result (List Command) ScriptError → Type 0
-TellsScript bytes (Ok cs) = ScriptIs bytes (Ok (map command_view cs))
+abbrev pub TellsScript : {A : Type 0} → List ℕ → Result (Vec Command A) ScriptError → Type 0
+TellsScript bytes (Ok cs) = ScriptIs bytes (Ok (map command_view cs.items))
 TellsScript bytes (Err NoMemory) = Unit {0}
 TellsScript bytes (Err error) = ScriptIs bytes (Err error)

@@ -1,5 +1,5 @@
 -- What the reader's functions tell of a command and of a line, unless memory ran out.
-use Rattle.std.specs.Prelude.{◌≡◌, ℕ, List, Option, Some, None, map, Result, Ok, Err}
+use Rattle.std.specs.Prelude.{◌≡◌, ℕ, List, Option, Some, None, map, Vec, Result, Ok, Err}
 use Rattle.lg_dictread.specs.declared.entry_text.EntryError.{EntryError}
 use Rattle.lg_dictread.specs.declared.entry_text.EntryError.TheVariants as entry_errors
 use Rattle.lg_script.specs.declared.command.Command.{Command}
@@ -45,8 +45,8 @@ IsRefusal line fault error = error ≡ BadEdit line
 abbrev pub GivesText : ℕ → List ℕ → Outcome → Type 0
 GivesText n text x = (ls : List (List ℕ)) × AreLines ls text × LinesGive n ls x
 
-abbrev pub TellsText : List ℕ → Result (List Command) ScriptError → Type 0
-TellsText text (Ok cs) = GivesText 1 text (Ok (map command_view cs))
+abbrev pub TellsText : {A : Type 0} → List ℕ → Result (Vec Command A) ScriptError → Type 0
+TellsText text (Ok cs) = GivesText 1 text (Ok (map command_view cs.items))
 TellsText text (Err NoMemory) = Unit {0}
 TellsText text (Err (NotUtf8 n)) = ⊥
 TellsText text (Err error) = GivesText 1 text (Err error)

@@ -1,5 +1,9 @@
 //! The commands of a script.
 
+ghost use Rattle.std.specs.Prelude.{◌≡◌};
+ghost use Rattle.lg_script.specs.Commands.{command_view};
+ghost use Rattle.lg_script.specs.Kinds.{kind_of};
+
 use lg_base::Text;
 use lg_edit::Edit;
 use lg_gram::CommandKind;
@@ -18,4 +22,21 @@ pub enum Command {
     Edit(Edit),
     /// Asks for the version of the dictionary.
     Version,
+}
+
+impl Command {
+    /// The kind of the command.
+    pub fn kind(&self) -> CommandKind
+        ensures { result ≡ kind_of (command_view self.now) }
+    {
+        match self {
+            Command::Parse(_) => CommandKind::Parse,
+            Command::List(_, _, _) => CommandKind::List,
+            Command::More => CommandKind::More,
+            Command::Edit(Edit::Put(_)) => CommandKind::Set,
+            Command::Edit(Edit::Macro(_)) => CommandKind::Macro,
+            Command::Edit(Edit::Del(_)) => CommandKind::Del,
+            Command::Version => CommandKind::Version,
+        }
+    }
 }

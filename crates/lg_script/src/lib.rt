@@ -2,6 +2,7 @@
 #![tactic(auto)]
 
 pub mod command;
+pub mod commands;
 mod line;
 mod listing;
 mod number;
@@ -10,5 +11,6 @@ mod read;
 mod script_error;
 
 pub use command::Command;
+pub use commands::{Commands, Scripts};
 pub use read::read_script;
 pub use script_error::ScriptError;
