@@ -1,5 +1,6 @@
 -- What the reader's functions tell of a command and of a line, unless memory ran out.
-use Rattle.std.specs.Prelude.{◌≡◌, ℕ, List, Option, Some, None, map, Vec, Result, Ok, Err}
+use Rattle.std.specs.Prelude.{◌≡◌, ℕ, List, ◌++◌, Option, Some, None, map, Vec, Result, Ok, Err}
+use Rattle.std.specs.Option.{option_to_list}
 use Rattle.lg_dictread.specs.declared.entry_text.EntryError.{EntryError}
 use Rattle.lg_dictread.specs.declared.entry_text.EntryError.TheVariants as entry_errors
 use Rattle.lg_script.specs.declared.command.Command.{Command}
@@ -35,6 +36,11 @@ abbrev pub TellsLine : ℕ → List ℕ → Result (Option Command) ScriptError 
 TellsLine line text (Ok None) = (body : List ℕ) × Says text body × IsPassedOver body
 TellsLine line text (Ok (Some c)) = LineIs text (Ok (command_view c))
 TellsLine line text (Err error) = TellsFault line (λ f. LineIs text (Err f)) error
+
+-- the command of a line, if there is one, behind those of the lines before
+abbrev pub AddsLine : {T : Type 0} → ℕ → List ℕ → List Command → List Command → Result T ScriptError → Type 0
+AddsLine line text old new (Ok x) = (c : Option Command) × (new ≡ old ++ option_to_list c) × TellsLine line text (Ok c)
+AddsLine line text old new (Err error) = TellsFault line (λ f. LineIs text (Err f)) error
 
 -- what an edit's text that is no entry comes to
 abbrev pub IsRefusal : ℕ → EntryError → ScriptError → Type 0

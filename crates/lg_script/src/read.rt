@@ -1,7 +1,7 @@
 //! Whole scripts.
 
 ghost use Rattle.lg_script.specs.Scripts.{TellsScript};
-ghost use Rattle.lg_script.specs.Telling.{TellsLine, TellsText};
+ghost use Rattle.lg_script.specs.Telling.{TellsLine, TellsText, AddsLine};
 
 use crate::command::Command;
 use crate::line::{body_of, first_line, first_word, skip_blanks, trim};
@@ -32,20 +32,28 @@ fn read_text(alloc: Global, text: &[u8]) -> Result<Vec<Command>, ScriptError>
     let mut number: u32 = 1;
     loop {
         let (line, rest) = first_line(left);
-        match read_line(alloc, number, line) {
-            Ok(Some(command)) => {
-                if commands.push(command).is_err() {
-                    return Err(ScriptError::NoMemory);
-                }
-            }
-            Ok(None) => {}
-            Err(error) => return Err(error),
+        if let Err(error) = add_line(alloc, &mut commands, number, line) {
+            return Err(error);
         }
         match rest {
             Some(rest) => left = rest,
             None => return Ok(commands),
         }
         number = number.saturating_add(1);
+    }
+}
+
+/// Adds the command of a line, if it is not passed over.
+fn add_line(alloc: Global, commands: &mut Vec<Command>, number: u32, line: &[u8]) -> Result<(), ScriptError>
+    ensures { AddsLine number line.now commands.old.items commands.new.items result }
+{
+    match read_line(alloc, number, line) {
+        Ok(Some(command)) => match commands.push(command) {
+            Ok(()) => Ok(()),
+            Err(_) => Err(ScriptError::NoMemory),
+        },
+        Ok(None) => Ok(()),
+        Err(error) => Err(error),
     }
 }
 
