@@ -9,6 +9,8 @@ mod number;
 mod parts;
 mod read;
 mod script_error;
+#[cfg(test)]
+mod tests;
 
 pub use command::Command;
 pub use commands::{Commands, Scripts};
