@@ -3,3 +3,6 @@ pub mod Listings
 pub mod Commanded
 pub mod Texts
 pub mod LineParts
+pub mod Alone
+pub mod Meanings
+pub mod OneScript

@@ -3,6 +3,7 @@
 
 pub mod command;
 pub mod commands;
+mod law;
 mod line;
 mod listing;
 mod number;
@@ -14,5 +15,6 @@ mod tests;
 
 pub use command::Command;
 pub use commands::{Commands, Scripts};
+pub use law::exactly_one_script;
 pub use read::read_script;
 pub use script_error::ScriptError;
