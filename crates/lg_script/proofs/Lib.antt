@@ -6,3 +6,4 @@ pub mod LineParts
 pub mod Alone
 pub mod Meanings
 pub mod OneScript
+pub mod Some
