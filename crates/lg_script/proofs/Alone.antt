@@ -1,23 +1,11 @@
 -- At most one: a script stands for one outcome.
-use Rattle.std.proofs.Common.{◌≡◌, ◌≢◌, ℕ, ◌+◌, Bool, true, false, cond, List, [], ◌∷◌, ◌++◌, ◌⊎◌, inl, inr, codes, Result, Ok, Err, refl, sym, ap, subst, ◌∙◌, append_assoc}
-use Rattle.std.specs.Prelude.{◌==◌, min}
-use Rattle.std.specs.List.{AllByRecursion, join_with_byte}
-use Rattle.std.specs.Str.{IsUtf8, IsValidUpTo}
-use Rattle.std.specs.Cmp.Lexicographic.{pointwise}
-use Rattle.std.proofs.lemmas.List.{append-nil, append_cancel_right}
-use Rattle.std.proofs.lemmas.Bool.Decides.{Decides-eqb}
-use Rattle.std.proofs.lemmas.Slice.Eq.{slice_eq-Decides}
+use Rattle.std.proofs.Common.{◌≡◌, ◌≢◌, ℕ, true, false, List, [], ◌∷◌, ◌++◌, refl, sym, ap, subst, ◌∙◌}
+use Rattle.std.proofs.lemmas.List.{append_cancel_right}
 use Rattle.lg_lex.specs.declared.run.Separators.TheVariants.{Blanks}
-use Rattle.lg_lex.specs.Classes.{line_feed, percent_sign}
-use Rattle.lg_lex.specs.Marked.{without_mark}
-use Rattle.lg_lex.specs.Runs.{is_separator, AreSeparators, AreInner, EndsRun}
-use Rattle.lg_dictread.specs.declared.entry_text.EntryError.{EntryError}
-use Rattle.lg_dictread.specs.EntryTexts.{EntryView, EntryTextIs}
-use Rattle.lg_script.specs.declared.script_error.ScriptError.{ScriptError}
-use Rattle.lg_script.specs.declared.script_error.ScriptError.TheVariants.{NotUtf8}
-use Rattle.lg_script.specs.Lines.{AreLines, Says, returned, plain, carriage_return, IsTrimmed, Trims, IsPassedOver, blank, comment, IsCommand}
-use Rattle.lg_script.specs.Commands.{CommandView, lists, IsNumber, IsListing}
-use Rattle.lg_script.specs.Scripts.{LINES_COUNTED, error_at, Outcome, with_command, LinesGive, ended, passed, command, fault, ScriptIs, not_utf8, lines}
+use Rattle.lg_lex.specs.Classes.{percent_sign}
+use Rattle.lg_lex.specs.Runs.{is_separator, AreSeparators, AreInner}
+use Rattle.lg_script.specs.Lines.{Says, returned, plain, carriage_return, Trims, IsPassedOver, blank, comment, IsCommand}
+use Rattle.lg_script.specs.Commands.{lists, IsNumber, IsListing}
 use Rattle.lg_script.specs.Parts.{BeginsInner, EndsInner}
 use Rattle.lg_script.proofs.Cuts.{same_run, same_gap}
 use Rattle.lg_script.proofs.Listings.{Cut, listing_cut, digits_inner, gap_ends, inner_begins}
@@ -79,7 +67,7 @@ one_trim bytes [] w t u = sym (none_between bytes w (blank_trims bytes t) u)
 one_trim bytes (c ∷ v) [] t u = none_between bytes (c ∷ v) (blank_trims bytes u) t
 one_trim bytes (c ∷ v) (d ∷ w) t u =
     let fronts = same_gap t.front u.front ((c ∷ v) ++ t.back) ((d ∷ w) ++ u.back) t.blanks.0 u.blanks.0
-        (begins_still (c ∷ v) t.back t.trimmed.front (λ e. cc)) (begins_still (d ∷ w) u.back u.trimmed.front (λ e. cc)) (sym t.split ∙ u.split) in
+    (begins_still (c ∷ v) t.back t.trimmed.front (λ e. cc)) (begins_still (d ∷ w) u.back u.trimmed.front (λ e. cc)) (sym t.split ∙ u.split) in
     same_back (c ∷ v) (d ∷ w) t.back u.back t.trimmed.back u.trimmed.back t.blanks.1 u.blanks.1 fronts.1
 
 pub one_command : (body word v rest w : List ℕ) → IsCommand body word rest → IsCommand body v w → (word ≡ v) × (rest ≡ w)

@@ -1,5 +1,5 @@
 -- Commands by their word and rest, from what the reader's tests say.
-use Rattle.std.proofs.Common.{◌≡◌, ◌≢◌, ℕ, Bool, true, false, List, [], ◌∷◌, ◌++◌, length, codes, Result, Ok, Err, refl, sym, ap, subst, ◌∙◌, arith}
+use Rattle.std.proofs.Common.{◌≡◌, ◌≢◌, ℕ, Bool, true, false, List, [], ◌∷◌, ◌++◌, length, Err, refl, sym, ap, subst, ◌∙◌, arith}
 use Rattle.std.specs.Prelude.{◌==◌, ◌↔◌}
 use Rattle.std.proofs.lemmas.List.{append-nil}
 use Rattle.std.proofs.lemmas.Bool.Decides.{Decides-eqb}
@@ -11,8 +11,7 @@ use Rattle.lg_dictread.specs.declared.entry_text.EntryError.{EntryError}
 use Rattle.lg_dictread.specs.declared.entry_text.EntryError.TheVariants as entry_errors
 use Rattle.lg_dictread.specs.EntryTexts.{EntryTextIs, TellsEntryText}
 use Rattle.lg_script.specs.declared.script_error.ScriptError.{ScriptError}
-use Rattle.lg_script.specs.declared.script_error.ScriptError.TheVariants.{NoMemory, BadEdit}
-use Rattle.lg_script.specs.Commands.{CommandView, Fault, bad_edit, CommandIs}
+use Rattle.lg_script.specs.Commands.{Fault, bad_edit}
 use Rattle.lg_script.specs.Telling.{TellsFault, IsRefusal}
 use Rattle.lg_script.proofs.Cuts.{same_run}
 
@@ -29,9 +28,10 @@ pub fails : {P : Type 0} (b : Bool) → (b ≡ true) ↔ P → b ≡ false → P
 fails b test is p = let wrong : false ≡ true = sym is ∙ test.1 p in absurd cc
 
 pub word_test : (bytes word behind : List ℕ) (b : Bool) → bytes ≡ word ++ behind → AreInner Blanks word → EndsRun Blanks behind → b ≡ (length behind == 0) → (b ≡ true) ↔ AreInner Blanks bytes
-word_test bytes word behind b split inner ends e =
-    ((λ t. subst (AreInner Blanks) (sym (split ∙ ap (λ (x : List ℕ). word ++ x) (nothing behind b e t) ∙ append-nil word)) inner),
-    (λ all. e ∙ ap (λ (x : List ℕ). length x == 0) (sym (same_run bytes word [] behind all inner tt ends (append-nil bytes ∙ split)).1)))
+word_test bytes word behind b split inner ends e = (
+  (λ t. subst (AreInner Blanks) (sym (split ∙ ap (λ (x : List ℕ). word ++ x) (nothing behind b e t) ∙ append-nil word)) inner),
+  (λ all. e ∙ ap (λ (x : List ℕ). length x == 0) (sym (same_run bytes word [] behind all inner tt ends (append-nil bytes ∙ split)).1)),
+)
 
 -- a text that is no entry
 pub refused : (rest : List ℕ) (line : ℕ) (Has : Fault → Type 0) (error : EntryError) (r : ScriptError) → TellsEntryText rest (Err error) → IsRefusal line error r

@@ -1,5 +1,5 @@
 -- A text is cut in one way where a run ends, and where blanks do.
-use Rattle.std.proofs.Common.{◌≡◌, ◌≢◌, ℕ, Bool, true, false, List, [], ◌∷◌, ◌++◌, refl, sym, ap, ◌∙◌}
+use Rattle.std.proofs.Common.{◌≡◌, ℕ, true, false, List, [], ◌∷◌, ◌++◌, refl, sym, ap, ◌∙◌}
 use Rattle.lg_lex.specs.declared.run.Separators.TheVariants.{Blanks}
 use Rattle.lg_lex.specs.Runs.{is_separator, AreSeparators, AreInner, EndsRun}
 use Rattle.lg_script.specs.Parts.{BeginsInner}

@@ -1,9 +1,9 @@
 -- A line that is passed over, and one that is a command, from its cuts.
-use Rattle.std.proofs.Common.{◌≡◌, ◌≢◌, ℕ, Bool, true, false, List, [], ◌∷◌, ◌++◌, get_or, refl, sym, ap, subst, ◌∙◌}
+use Rattle.std.proofs.Common.{◌≡◌, ◌≢◌, ℕ, true, false, List, [], ◌∷◌, ◌++◌, get_or, refl, sym, ap, subst, ◌∙◌}
 use Rattle.std.proofs.lemmas.List.{append-nil}
 use Rattle.lg_lex.specs.declared.run.Separators.TheVariants.{Blanks}
 use Rattle.lg_lex.specs.Classes.{percent_sign}
-use Rattle.lg_lex.specs.Runs.{is_separator, AreSeparators, AreInner, EndsRun}
+use Rattle.lg_lex.specs.Runs.{AreSeparators, AreInner, EndsRun}
 use Rattle.lg_script.specs.Lines.{IsPassedOver, blank, comment, IsCommand, Trims}
 use Rattle.lg_script.specs.Parts.{BeginsInner, SkipsFront}
 

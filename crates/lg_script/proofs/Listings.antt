@@ -1,5 +1,5 @@
 -- What a `list` asks for: the cuts of its rest are those of the definition.
-use Rattle.std.proofs.Common.{◌≡◌, ◌≢◌, ℕ, ◌≤◌, Bool, true, false, List, [], ◌∷◌, ◌++◌, refl, sym, ap, subst, ◌∙◌, append_assoc, arith}
+use Rattle.std.proofs.Common.{◌≡◌, ◌≢◌, ℕ, ◌≤◌, true, false, List, [], ◌∷◌, ◌++◌, refl, sym, ap, subst, ◌∙◌, append_assoc, arith}
 use Rattle.std.specs.List.{AllByRecursion}
 use Rattle.std.proofs.lemmas.Bool.Decides.{nat_tests}
 use Rattle.lg_lex.specs.declared.run.Separators.TheVariants.{Blanks}
@@ -40,12 +40,12 @@ module _ (rest first behind left second end sentence : List ℕ) (cut : Cut rest
   pub listing_cut : (from want : ℕ) (s : List ℕ) → IsListing rest from want s → IsNumber first from × IsNumber second want × (s ≡ sentence)
   listing_cut from want s is =
       let one = same_run is.first first (is.gap ++ (is.second ++ (is.more ++ s))) behind
-          (digits_inner is.first is.first_is.all_digits) cut.first_inner
-          (gap_ends is.gap (is.second ++ (is.more ++ s)) is.apart.0 is.apart.1) cut.first_ends (sym is.split ∙ cut.split) in
+      (digits_inner is.first is.first_is.all_digits) cut.first_inner
+      (gap_ends is.gap (is.second ++ (is.more ++ s)) is.apart.0 is.apart.1) cut.first_ends (sym is.split ∙ cut.split) in
       let two = same_gap is.gap cut.gap.0 (is.second ++ (is.more ++ s)) left is.apart.1 cut.gap.2
-          (inner_begins is.second (is.more ++ s) is.second_is.some (digits_inner is.second is.second_is.all_digits)) cut.left_begins (one.1 ∙ cut.gap.1) in
+      (inner_begins is.second (is.more ++ s) is.second_is.some (digits_inner is.second is.second_is.all_digits)) cut.left_begins (one.1 ∙ cut.gap.1) in
       let three = same_run is.second second (is.more ++ s) end
-          (digits_inner is.second is.second_is.all_digits) cut.second_inner is.ends cut.second_ends (two.1 ∙ cut.left_split) in
+      (digits_inner is.second is.second_is.all_digits) cut.second_inner is.ends cut.second_ends (two.1 ∙ cut.left_split) in
       let four = same_gap is.more cut.more.0 s sentence is.apart.2 cut.more.2 is.trimmed.front cut.sentence_begins (three.1 ∙ cut.more.1) in
       (subst (λ (x : List ℕ). IsNumber x from) one.0 is.first_is, subst (λ (x : List ℕ). IsNumber x want) three.0 is.second_is, four.1)
 

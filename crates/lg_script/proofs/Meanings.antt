@@ -1,5 +1,5 @@
 -- A word and a rest mean one command or one fault.
-use Rattle.std.proofs.Common.{◌≡◌, ◌≢◌, ℕ, Bool, true, false, cond, List, [], ◌∷◌, ◌⊎◌, inl, inr, codes, Result, Ok, Err, refl, sym, ap, subst, ◌∙◌}
+use Rattle.std.proofs.Common.{◌≡◌, ◌≢◌, ℕ, Bool, true, false, cond, List, [], ◌⊎◌, inl, inr, codes, Result, Ok, Err, refl, sym, ap, subst, ◌∙◌}
 use Rattle.std.specs.Prelude.{◌==◌}
 use Rattle.std.specs.Cmp.Lexicographic.{pointwise}
 use Rattle.std.proofs.lemmas.Bool.Decides.{Decides-eqb}
@@ -56,8 +56,15 @@ other_word w v other = told (is_word w v) refl where
   told false e = refl
 
 unknown_verb : (w : List ℕ) → IsUnknown w → verb_of w ≡ no_verb
-unknown_verb w (a, b, c, d, e, f, g) = rw (other_word w (codes "parse") a, other_word w (codes "list") b, other_word w (codes "more") c, other_word w (codes "version") d,
-    other_word w (codes "set") e, other_word w (codes "macro") f, other_word w (codes "del") g) refl
+unknown_verb w (a, b, c, d, e, f, g) = rw (
+  other_word w (codes "parse") a,
+  other_word w (codes "list") b,
+  other_word w (codes "more") c,
+  other_word w (codes "version") d,
+  other_word w (codes "set") e,
+  other_word w (codes "macro") f,
+  other_word w (codes "del") g,
+) refl
 
 pub means : (w rest : List ℕ) (x : Answer) → CommandIs w rest x → Means (verb_of w) rest x
 means w rest x (parse r) = refl

@@ -12,12 +12,12 @@ use Rattle.lg_gram.specs.declared.entry.ItemKind.{ItemKind}
 use Rattle.lg_gram.specs.declared.entry.ItemKind.TheVariants as kinds
 use Rattle.lg_lex.specs.declared.run.Separators.TheVariants.{Blanks}
 use Rattle.lg_lex.specs.Marked.{without_mark}
-use Rattle.lg_lex.specs.Runs.{is_separator, AreSeparators, AreInner, EndsRun}
+use Rattle.lg_lex.specs.Runs.{is_separator, AreInner, EndsRun}
 use Rattle.lg_dictread.specs.declared.entry_text.EntryError.{EntryError}
 use Rattle.lg_dictread.specs.EntryTexts.{EntryView, EntryTextIs}
 use Rattle.lg_script.specs.declared.script_error.ScriptError.TheVariants.{NotUtf8}
-use Rattle.lg_script.specs.Lines.{AreLines, Says, returned, plain, carriage_return, Trims, IsPassedOver, IsCommand}
-use Rattle.lg_script.specs.Commands.{CommandView, EditView, parses, lists, goes_on, makes, asks, puts, sets, removes, Fault, unknown_command, bad_number, bad_edit, IsDigit, IsNumber, IsListing, written_number, AreWords, IsOneMacro, IsNoEdit, no_entry, other_items, CommandIs, parse, list, no_list, more, more_than_more, version, more_than_version, set, no_set, macro, no_macro, del, no_del, unknown}
+use Rattle.lg_script.specs.Lines.{Says, returned, plain, carriage_return, Trims, IsPassedOver, IsCommand}
+use Rattle.lg_script.specs.Commands.{CommandView, parses, lists, goes_on, makes, asks, puts, sets, removes, Fault, unknown_command, bad_number, bad_edit, IsDigit, IsNumber, written_number, AreWords, IsOneMacro, no_entry, other_items, CommandIs, parse, list, no_list, more, more_than_more, version, more_than_version, set, no_set, macro, no_macro, del, no_del, unknown}
 use Rattle.lg_script.specs.Scripts.{LINES_COUNTED, error_at, Outcome, with_command, LinesGive, ended, passed, command, fault, ScriptIs, not_utf8, lines}
 use Rattle.lg_script.specs.Parts.{BeginsInner, EndsInner, SkipsFront, SkipsBack}
 use Rattle.lg_script.proofs.LineParts.{blank_line, comment_line, line_is}
@@ -62,13 +62,16 @@ drop_back [] = ([], ([], refl, tt), λ c r q. absurd (not_nil r c q))
 drop_back (b ∷ bs) = drop_by b bs (is_separator Blanks b) refl (drop_back bs)
 
 trim_by : (bs : List ℕ) (s : Skipped bs) → Dropped s.0 → (inner : List ℕ) × Trims bs inner
-trim_by bs (left, (front, split, are), begins) (inner, (back, cut, are_too), ends) = (inner, record {
-  front = front;
-  back = back;
-  split = split ∙ ap (λ (x : List ℕ). front ++ x) cut;
-  blanks = (are, are_too);
-  trimmed = record { front = λ b r e. begins b (r ++ back) (cut ∙ ap (λ (x : List ℕ). x ++ back) e); back = ends };
-})
+trim_by bs (left, (front, split, are), begins) (inner, (back, cut, are_too), ends) = (
+  inner,
+  record {
+    front = front;
+    back = back;
+    split = split ∙ ap (λ (x : List ℕ). front ++ x) cut;
+    blanks = (are, are_too);
+    trimmed = record { front = λ b r e. begins b (r ++ back) (cut ∙ ap (λ (x : List ℕ). x ++ back) e); back = ends };
+  },
+)
 
 trim : (bs : List ℕ) → (inner : List ℕ) × Trims bs inner
 trim bs = let s = skip bs in trim_by bs s (drop_back s.0)
@@ -196,10 +199,16 @@ list_some rest ends =
     let c = word_cut b.0 in
     let d = skip c.1 in
     list_by rest a.0 a.1 b.0 c.0 c.1 d.0 (record {
-      split = a.2; first_inner = a.3; first_ends = a.4;
-      gap = b.1; left_begins = b.2;
-      left_split = c.2; second_inner = c.3; second_ends = c.4;
-      more = d.1; sentence_begins = d.2;
+      split = a.2;
+      first_inner = a.3;
+      first_ends = a.4;
+      gap = b.1;
+      left_begins = b.2;
+      left_split = c.2;
+      second_inner = c.3;
+      second_ends = c.4;
+      more = d.1;
+      sentence_begins = d.2;
     }) ends (number a.0) (number c.0)
 
 more_some : (rest : List ℕ) → Meaning (codes "more") rest

@@ -1,5 +1,5 @@
 -- Texts line by line.
-use Rattle.std.proofs.Common.{◌≡◌, ◌≢◌, ℕ, ◌+◌, Bool, true, false, List, [], ◌∷◌, ◌++◌, ◌⊎◌, inl, inr, map, min, Option, Some, None, MatchOption, Vec, Result, Ok, Err, refl, sym, ap, subst, ◌∙◌, arith, Bor}
+use Rattle.std.proofs.Common.{◌≡◌, ◌≢◌, ℕ, ◌+◌, true, false, List, [], ◌∷◌, ◌++◌, ◌⊎◌, inl, inr, map, min, Option, Some, None, MatchOption, Vec, Result, Ok, Err, refl, sym, ap, subst, ◌∙◌, arith, Bor}
 use Rattle.std.specs.List.{AllByRecursion, join_with_byte}
 use Rattle.std.specs.Str.{IsUtf8}
 use Rattle.std.proofs.Math.Dec.{eqb}
@@ -91,11 +91,14 @@ first_longer b l (m ∷ ls) = refl
 byte_more : (b : ℕ) (bytes : List ℕ) (ls : List (List ℕ)) → ((eqb b line_feed ≡ true) × (b ≡ line_feed)) ⊎ ((eqb b line_feed ≡ false) × (b ≢ line_feed)) → AreLines ls bytes → (ms : List (List ℕ)) × AreLines ms (b ∷ bytes)
 byte_more b bytes [] t are = absurd (are.some refl)
 byte_more b bytes (l ∷ ls) (inl (t, e)) are = ([] ∷ l ∷ ls, more_lines [] bytes (b ∷ bytes) (l ∷ ls) tt (ap (λ (x : ℕ). x ∷ bytes) e) are)
-byte_more b bytes (l ∷ ls) (inr (t, d)) are = ((b ∷ l) ∷ ls, record {
-  some = λ e. cc;
-  whole = ((d, are.whole.0), are.whole.1);
-  joined = ap (λ (x : List ℕ). b ∷ x) are.joined ∙ first_longer b l ls;
-})
+byte_more b bytes (l ∷ ls) (inr (t, d)) are = (
+  (b ∷ l) ∷ ls,
+  record {
+    some = λ e. cc;
+    whole = ((d, are.whole.0), are.whole.1);
+    joined = ap (λ (x : List ℕ). b ∷ x) are.joined ∙ first_longer b l ls;
+  },
+)
 
 -- each text is some lines
 pub lines_of : (bytes : List ℕ) → (ls : List (List ℕ)) × AreLines ls bytes
@@ -111,8 +114,11 @@ faulty : (n number : ℕ) (left text line : List ℕ) (rest : Option (Bor (List 
 faulty n number left text line rest cs f alone split counted is leads =
     let begun = begun_by left line rest alone split in
     subst (GivesText 1 text) (with_commands-Err cs (error_at number f))
-    (leads (Err (error_at number f)) (line ∷ begun.0, begun.1,
-    subst (λ (k : ℕ). LinesGive n (line ∷ begun.0) (Err (error_at k f))) (sym counted) (fault n line is.body is.word is.rest begun.0 f is.says is.command is.is)))
+    (leads (Err (error_at number f)) (
+      line ∷ begun.0,
+      begun.1,
+      subst (λ (k : ℕ). LinesGive n (line ∷ begun.0) (Err (error_at k f))) (sym counted) (fault n line is.body is.word is.rest begun.0 f is.says is.command is.is),
+    ))
 
 pub leads_fault : (A : Type 0) (n number : ℕ) (left text line : List ℕ) (rest : Option (Bor (List ℕ))) (cs : List CommandView) (error : ScriptError) → AllByRecursion (λ b. b ≢ line_feed) line → MatchOption rest (left ≡ line) (λ r. left ≡ line ++ line_feed ∷ r.now)
     → number ≡ min n LINES_COUNTED → Leads n left text cs → TellsFault number (λ f. LineIs line (Err f)) error → TellsText {A = A} text (Err error)

@@ -1,5 +1,5 @@
 -- What a script stands for: its commands, or its first fault.
-use Rattle.std.specs.Prelude.{◌≡◌, ℕ, ◌+◌, min, List, [], ◌∷◌, map, Vec, Result, Ok, Err}
+use Rattle.std.specs.Prelude.{ℕ, ◌+◌, min, List, [], ◌∷◌, map, Vec, Result, Ok, Err}
 use Rattle.std.specs.Str.{IsUtf8, IsValidUpTo}
 use Rattle.lg_lex.specs.Marked.{without_mark}
 use Rattle.lg_script.specs.declared.command.Command.{Command}

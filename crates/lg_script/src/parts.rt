@@ -22,7 +22,12 @@ use lg_gram::{Item, ItemKind, RawEntry};
 use std::alloc::Global;
 
 /// The command of a line, by its word and its rest.
-pub(crate) fn command_of(alloc: Global, line: u32, word: &[u8], rest: &[u8]) -> Result<Command, ScriptError>
+pub(crate) fn command_of(
+    alloc: Global,
+    line: u32,
+    word: &[u8],
+    rest: &[u8],
+) -> Result<Command, ScriptError>
     requires { EndsInner rest.now }
     ensures { TellsCommand line word.now rest.now result }
 {

@@ -44,7 +44,12 @@ fn read_text(alloc: Global, text: &[u8]) -> Result<Vec<Command>, ScriptError>
 }
 
 /// Adds the command of a line, if it is not passed over.
-fn add_line(alloc: Global, commands: &mut Vec<Command>, number: u32, line: &[u8]) -> Result<(), ScriptError>
+fn add_line(
+    alloc: Global,
+    commands: &mut Vec<Command>,
+    number: u32,
+    line: &[u8],
+) -> Result<(), ScriptError>
     ensures { AddsLine number line.now commands.old.items commands.new.items result }
 {
     match read_line(alloc, number, line) {

@@ -1,8 +1,6 @@
-use Rattle.std.proofs.Common.{◌≡◌, ◌≢◌, ◌-◌, ◌≤◌, length, take}
+use Rattle.std.proofs.Common.{◌≢◌, ◌-◌, ◌≤◌, length, take}
 use Rattle.std.specs.List.{AllByRecursion}
 use Rattle.lg_lex.specs.Classes.{line_feed}
-use Rattle.lg_lex.specs.declared.run.Separators.TheVariants.{Blanks}
-use Rattle.lg_lex.specs.Runs.{AreSeparators, AreInner}
 use Rattle.lg_script.proofs.line.first_line.Given as goal
 
 abbrev pub invariant-loop-at : goal.invariant-loop-at

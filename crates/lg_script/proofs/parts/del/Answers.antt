@@ -5,9 +5,13 @@ use Rattle.lg_script.proofs.parts.del.Goals as goal
 use Rattle.lg_script.proofs.parts.del.Goals.{then-is_empty-via-then-is_empty, then-is_empty-via-else-is_empty+then-not-is_word}
 
 pub returns-then-is_empty : goal.returns-then-is_empty
-returns-then-is_empty c = (refl, no_del c.args.rest.now (elim c.then-is_empty.branch [
-  then-is_empty-via-then-is_empty w ↦ inl (nothing c.args.rest.now c.is_empty.result c.is_empty.ensures w.if-is_empty.true)
-  | then-is_empty-via-else-is_empty+then-not-is_word w ↦ inr (fails w.is_word.result w.is_word.ensures w.if-not-is_word.true) ]))
+returns-then-is_empty c = (
+  refl,
+  no_del c.args.rest.now (elim c.then-is_empty.branch [
+    | then-is_empty-via-then-is_empty w ↦ inl (nothing c.args.rest.now c.is_empty.result c.is_empty.ensures w.if-is_empty.true)
+    | then-is_empty-via-else-is_empty+then-not-is_word w ↦ inr (fails w.is_word.result w.is_word.ensures w.if-not-is_word.true)
+  ]),
+)
 
 pub returns-in-Ok : goal.returns-in-Ok
 returns-in-Ok c = subst (λ (s : List ℕ). CommandIs (codes "del") c.args.rest.now (Ok (makes (removes s)))) (sym c.in-Ok.ensures)

@@ -1,4 +1,3 @@
-use Rattle.std.proofs.Common.{sym}
 use Rattle.lg_script.proofs.Commanded.{nothing, something}
 use Rattle.lg_script.proofs.LineParts.{blank_line, comment_line, line_is}
 use Rattle.lg_script.proofs.read.read_line.Goals as goal
@@ -6,10 +5,14 @@ use Rattle.lg_script.proofs.read.read_line.Goals.{then-is_empty-via-then-is_empt
 
 pub returns-then-is_empty : goal.returns-then-is_empty
 returns-then-is_empty c =
-    let body = c.skip_blanks-body.result.now in
-    (c.body_of.result.now, c.body_of.ensures, (elim c.then-is_empty.branch [
-      then-is_empty-via-then-is_empty w ↦ blank_line _ body c.skip_blanks-body.ensures.skips (nothing body c.is_empty.result c.is_empty.ensures w.if-is_empty.true)
-      | then-is_empty-via-else-is_empty+then-body-eq37 w ↦ comment_line _ body c.skip_blanks-body.ensures.skips (something body c.is_empty.result c.is_empty.ensures w.if-is_empty.false) w.if-body-eq37.true ]))
+    let body = c.skip_blanks-body.result.now in (
+      c.body_of.result.now,
+      c.body_of.ensures,
+      (elim c.then-is_empty.branch [
+        | then-is_empty-via-then-is_empty w ↦ blank_line _ body c.skip_blanks-body.ensures.skips (nothing body c.is_empty.result c.is_empty.ensures w.if-is_empty.true)
+        | then-is_empty-via-else-is_empty+then-body-eq37 w ↦ comment_line _ body c.skip_blanks-body.ensures.skips (something body c.is_empty.result c.is_empty.ensures w.if-is_empty.false) w.if-body-eq37.true
+      ]),
+    )
 
 pub returns-in-Ok : goal.returns-in-Ok
 returns-in-Ok c =

@@ -25,7 +25,9 @@ loop-error-preserved c =
     let at = c.loop-error.invariant in
     let line = c.first_line.result.0.now in
     let rest = c.in-Some.rest.now in
-    let added = adds c.loop-error.number line c.loop-error.commands.items c.add_line.new.commands.items c.in_default.field-0 at.0 (rw c.in_default.is at c.add_line.ensures) in
-    (at.0 + 1, c.saturating_add-number.ensures ∙ counted_more at.0 c.loop-error.number at.1,
-    subst (λ (cs : List CommandView). Leads (at.0 + 1) rest c.args.text.now cs) (sym added.1)
-    (leads_on at.0 c.loop-error.left.now c.args.text.now line rest (map command_view c.loop-error.commands.items) added.0 c.first_line.ensures.whole (rw c.in-Some.is at c.first_line.ensures.split) added.2 at.2))
+    let added = adds c.loop-error.number line c.loop-error.commands.items c.add_line.new.commands.items c.in_default.field-0 at.0 (rw c.in_default.is at c.add_line.ensures) in (
+      at.0 + 1,
+      c.saturating_add-number.ensures ∙ counted_more at.0 c.loop-error.number at.1,
+      subst (λ (cs : List CommandView). Leads (at.0 + 1) rest c.args.text.now cs) (sym added.1)
+          (leads_on at.0 c.loop-error.left.now c.args.text.now line rest (map command_view c.loop-error.commands.items) added.0 c.first_line.ensures.whole (rw c.in-Some.is at c.first_line.ensures.split) added.2 at.2),
+    )

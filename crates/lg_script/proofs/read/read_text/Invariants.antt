@@ -1,4 +1,4 @@
-use Rattle.std.proofs.Common.{◌≡◌, ◌+◌, ℕ, length, min, map}
+use Rattle.std.proofs.Common.{◌≡◌, ℕ, length, min, map}
 use Rattle.lg_script.specs.Commands.{command_view}
 use Rattle.lg_script.specs.Scripts.{LINES_COUNTED}
 use Rattle.lg_script.proofs.Texts.{Leads}
