@@ -19,7 +19,8 @@ use Rattle.lg_dictread.specs.declared.stop.Stop.{Stop}
 use Rattle.lg_dictread.specs.declared.stop.Stop.TheVariants as stops
 use Rattle.lg_dictread.specs.View.{TellsStop, KnowsMacros, LeadsTo, TellsAlone}
 use Rattle.lg_gram.specs.declared.entry.RawEntry.{RawEntry}
-use Rattle.lg_dictread.specs.EntryTexts.{free_rules, EntryView, entry_view, written_view, IsErrorAt, EntryTextIs, not_utf8, one, goes_on, faulty, TellsEntryText}
+use Rattle.lg_gram.specs.EntryViews.{EntryView, entry_view}
+use Rattle.lg_dictread.specs.EntryTexts.{free_rules, written_view, IsErrorAt, EntryTextIs, not_utf8, one, goes_on, faulty, TellsEntryText}
 
 no_unknown_part : (body rest : List Token) → FirstFault Token part free_rules body faults.UnknownMacro rest → ⊥
 no_unknown_part body [] h = h.stops

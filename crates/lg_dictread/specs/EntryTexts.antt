@@ -1,9 +1,8 @@
 -- What a text of exactly one entry stands for, or its first fault. Macros stay as they are named.
 use Rattle.std.specs.Prelude.{◌≡◌, ℕ, List, [], ◌∷◌, map, Result, Ok, Err}
 use Rattle.std.specs.Str.{IsValidUpTo}
-use Rattle.lg_gram.specs.declared.entry.Item.{Item}
 use Rattle.lg_gram.specs.declared.entry.RawEntry.{RawEntry}
-use Rattle.lg_gram.specs.RawTrees.{RawTree, raw_tree_of}
+use Rattle.lg_gram.specs.EntryViews.{EntryView, entry_view}
 use Rattle.lg_lex.specs.declared.marks.Marks.TheVariants.{Dictionary}
 use Rattle.lg_lex.specs.declared.place.Place.{Place}
 use Rattle.lg_lex.specs.Marked.{without_mark}
@@ -23,18 +22,7 @@ use Rattle.lg_dictread.specs.Places.{entry_line}
 abbrev pub free_rules : Rules
 free_rules = record { known = λ name. Free; limit = LEVEL }
 
--- what contracts see of an entry: its items, its expression, the greatest number of brackets open at once, and the line
--- of its first item
-pub record EntryView : Type 0 where
-  pub items : List Item
-  pub expr : RawTree
-  pub level : ℕ
-  pub line : ℕ
-
-abbrev pub entry_view : RawEntry → EntryView
-entry_view e = record { items = e.items; expr = raw_tree_of e.expr; level = e.level; line = e.line }
-
--- the same of an entry that is written in a text
+-- what contracts see of an entry that is written in a text
 abbrev pub written_view : List ℕ → Written → EntryView
 written_view text e = record {
   items = map (λ i. i.0) e.items;

@@ -22,7 +22,8 @@ use Rattle.lg_dictread.specs.Items.{Head, item, colon, other}
 use Rattle.lg_dictread.specs.Entries.{Written, EntryAnswer, entry, fault}
 use Rattle.lg_dictread.specs.Scanning.{Scanned, items_end, items_stop}
 use Rattle.lg_dictread.specs.Places.{part_left, line_of}
-use Rattle.lg_dictread.specs.EntryTexts.{EntryView, entry_view, written_view, IsErrorAt}
+use Rattle.lg_gram.specs.EntryViews.{EntryView, entry_view}
+use Rattle.lg_dictread.specs.EntryTexts.{written_view, IsErrorAt}
 use Rattle.lg_dictread.specs.declared.entry_text.EntryError.{EntryError}
 use Rattle.lg_dictread.specs.declared.entry_text.EntryError.TheVariants as errors
 use Rattle.lg_gram.specs.declared.entry.RawEntry.{RawEntry}

@@ -4,7 +4,8 @@ ghost use Rattle.lg_expr.specs.Grammar.{Rules};
 ghost use Rattle.lg_dictread.specs.Entries.{EntryAnswer, EntryIs};
 ghost use Rattle.lg_dictread.specs.Scanning.{answer_of};
 ghost use Rattle.lg_dictread.specs.declared.entry_text.EntryError.{EntryError};
-ghost use Rattle.lg_dictread.specs.EntryTexts.{EntryView, EntryTextIs};
+ghost use Rattle.lg_gram.specs.EntryViews.{EntryView};
+ghost use Rattle.lg_dictread.specs.EntryTexts.{EntryTextIs};
 ghost use Rattle.lg_base.specs.Contents.{Contents};
 ghost use Rattle.lg_dictread.specs.Texts.{TextAnswer, DictionaryIs};
 

@@ -13,13 +13,12 @@ use Rattle.lg_gram.specs.Formulas.{IsFormula}
 use Rattle.lg_gram.specs.Limits.{REFERENCES_COUNTED, LEVEL, LEVEL_COUNTED, FORMULA_NODES, FORMULA_CHOICES, SIDE}
 use Rattle.lg_gram.specs.Measured.{IsSmall, longest_side, excess}
 use Rattle.lg_gram.specs.Measures.{node_count, choice_count}
-use Rattle.lg_gram.specs.RawTrees.{raw_tree_of, macros_of}
+use Rattle.lg_gram.specs.RawTrees.{macros_of}
 use Rattle.lg_gram.specs.Trees.{Tree}
 use Rattle.lg_gram.specs.declared.edit.EditRefusal.TheVariants.{UnknownMacro, TooDeep}
-use Rattle.lg_gram.specs.declared.entry.RawEntry.{RawEntry}
+use Rattle.lg_gram.specs.EntryViews.{EntryView}
 use Rattle.lg_dict.specs.Dictionary.{Dictionary, macros_of as formulas_of}
-use Rattle.lg_edit.specs.declared.edit.Edit.{Edit}
-use Rattle.lg_edit.specs.Edits.{accept, edited, after_edit, unknown_macro, too_deep, too_large, accept_entry, formula_in, level_in, refuse_excess}
+use Rattle.lg_edit.specs.Edits.{EditView, accept, edited, after_edit, unknown_macro, too_deep, too_large, accept_entry, formula_in, level_in, refuse_excess}
 use Rattle.lg_edit.proofs.Bounds.{level_low, entry_fits, formula_within}
 
 -- ---- options and tests
@@ -60,17 +59,17 @@ module _ (p : List ℕ → Bool) (xs : List (List ℕ)) (few : length xs < 2 ^ 3
       let same : min n REFERENCES_COUNTED ≡ number = ap (λ o. unwrap_or o 0) h in
       is ∙ ap Some (omega arith)
 
-module _ (dict : Dictionary) (e : RawEntry) (bounds : IsEntryInBounds e) where
-  few_names : length (macro_names (raw_tree_of e.expr)) < 2 ^ 32
-  few_names = let same = length-map (macros_of (raw_tree_of e.expr)) (λ (m : List ℕ × ℕ). m.0) in let few = bounds.references in omega arith
+module _ (dict : Dictionary) (e : EntryView) (bounds : IsEntryInBounds e) where
+  few_names : length (macro_names e.expr) < 2 ^ 32
+  few_names = let same = length-map (macros_of e.expr) (λ (m : List ℕ × ℕ). m.0) in let few = bounds.references in omega arith
 
   abbrev first : Option ℕ
-  first = position (is_unknown (formulas_of dict)) (macro_names (raw_tree_of e.expr))
+  first = position (is_unknown (formulas_of dict)) (macro_names e.expr)
 
   pub refused_unknown : (number : ℕ) → Some number ≡ option_map (λ n. min n REFERENCES_COUNTED) first → Some (UnknownMacro number) ≡ accept_entry dict e
   refused_unknown number h =
       sym (ap (λ o. option_or (option_map UnknownMacro o) (option_or (too_deep dict e) (too_large dict e)))
-      (uncapped (is_unknown (formulas_of dict)) (macro_names (raw_tree_of e.expr)) few_names number first refl (sym h)))
+      (uncapped (is_unknown (formulas_of dict)) (macro_names e.expr) few_names number first refl (sym h)))
 
   pub all_known : None ≡ option_map (λ n. min n REFERENCES_COUNTED) first → accept_entry dict e ≡ option_or (too_deep dict e) (too_large dict e)
   all_known h = ap (λ o. option_or (option_map UnknownMacro o) (option_or (too_deep dict e) (too_large dict e))) (map_none (λ n. min n REFERENCES_COUNTED) first (sym h))
@@ -100,16 +99,16 @@ small_by t h =
       side = within SIDE (longest_side t) side.0;
     }
 
-module _ (dict : Dictionary) (e : RawEntry) (bounds : IsEntryInBounds e) (all_fit : AllFit (formulas_of dict)) (accepted : accept_entry dict e ≡ None) where
+module _ (dict : Dictionary) (e : EntryView) (bounds : IsEntryInBounds e) (all_fit : AllFit (formulas_of dict)) (accepted : accept_entry dict e ≡ None) where
   abbrev causes : (unknown_macro dict e ≡ None) × (too_deep dict e ≡ None) × (too_large dict e ≡ None)
   causes = none_of_three (unknown_macro dict e) (too_deep dict e) (too_large dict e) accepted
 
-  pub accepted_fits : FilledFits (formulas_of dict) e.level (raw_tree_of e.expr)
+  pub accepted_fits : FilledFits (formulas_of dict) e.level e.expr
   accepted_fits = entry_fits (formulas_of dict) all_fit e bounds (within LEVEL (level_in dict e) (else_none (nat_lt LEVEL (level_in dict e)) _ _ causes.1).0)
 
   pub accepted_formula : IsFormula (formula_in dict e)
   accepted_formula = formula_within (level_in dict e) (formula_in dict e) (small_by (formula_in dict e) (map_none refuse_excess (excess (formula_in dict e)) causes.2)) accepted_fits
 
 -- what an accepted edit makes
-pub made : (dict : Dictionary) (edit : Edit) → accept dict edit ≡ None → edited dict edit ≡ after_edit dict edit
+pub made : (dict : Dictionary) (edit : EditView) → accept dict edit ≡ None → edited dict edit ≡ after_edit dict edit
 made dict edit accepted = sym (ap (λ o. if is_none o then edited dict edit else dict) accepted)

@@ -9,9 +9,9 @@ use Rattle.lg_gram.specs.Formulas.{IsFormula, is_small_price, prices_are_small, 
 use Rattle.lg_gram.specs.Limits.{LEVEL}
 use Rattle.lg_gram.specs.Measured.{IsSmall}
 use Rattle.lg_gram.specs.Measures.{depth_of, depth_in}
-use Rattle.lg_gram.specs.RawTrees.{RawTree, RawTrees, raw_empty, raw_leaf, named, raw_all, raw_one, raw_priced, no_raw_trees, raw_tree, raw_tree_of, macros_of, macros_in}
+use Rattle.lg_gram.specs.RawTrees.{RawTree, RawTrees, raw_empty, raw_leaf, named, raw_all, raw_one, raw_priced, no_raw_trees, raw_tree, macros_of, macros_in}
 use Rattle.lg_gram.specs.Trees.{Tree}
-use Rattle.lg_gram.specs.declared.entry.RawEntry.{RawEntry}
+use Rattle.lg_gram.specs.EntryViews.{EntryView}
 
 module _ (formulas : Formulas) (all_fit : AllFit formulas) where
   -- ---- levels that the references reach
@@ -40,9 +40,9 @@ module _ (formulas : Formulas) (all_fit : AllFit formulas) where
       omega arith
 
   -- the count of brackets does not stop
-  pub level_low : (e : RawEntry) → IsEntryInBounds e → filled_level formulas e.level (raw_tree_of e.expr) ≤ 2 * LEVEL + 1
+  pub level_low : (e : EntryView) → IsEntryInBounds e → filled_level formulas e.level e.expr ≤ 2 * LEVEL + 1
   level_low e bounds =
-      let rest = reached_low e.level (macros_of (raw_tree_of e.expr)) bounds.brackets in
+      let rest = reached_low e.level (macros_of e.expr) bounds.brackets in
       let low = bounds.level in
       omega arith
 
@@ -96,9 +96,9 @@ module _ (formulas : Formulas) (all_fit : AllFit formulas) where
 
   -- ---- the entry
 
-  pub entry_fits : (e : RawEntry) → IsEntryInBounds e → filled_level formulas e.level (raw_tree_of e.expr) ≤ LEVEL → FilledFits formulas e.level (raw_tree_of e.expr)
+  pub entry_fits : (e : EntryView) → IsEntryInBounds e → filled_level formulas e.level e.expr ≤ LEVEL → FilledFits formulas e.level e.expr
   entry_fits e bounds few =
-      let t = raw_tree_of e.expr in
+      let t = e.expr in
       let bare_depth = bounds.leaves in
       let deep = shallow t 0 e.level (filled_level formulas e.level t) (omega arith) (omega arith) bounds.named (omega arith) in
       record { level_fits = record { few = few; depth = omega arith }; prices = small t bounds.prices }

@@ -3,7 +3,8 @@ ghost use Rattle.std.specs.Prelude.{◌≡◌};
 ghost use Rattle.std.specs.Option.{option_or};
 ghost use Rattle.std.specs.Result.{result_err};
 ghost use Rattle.lg_gram.specs.EntryBounds.{IsEntryInBounds};
-ghost use Rattle.lg_edit.specs.Edits.{IsEditInBounds, accept, accept_entry, too_deep, too_large, refuse_excess};
+ghost use Rattle.lg_gram.specs.EntryViews.{entry_view};
+ghost use Rattle.lg_edit.specs.Edits.{IsEditInBounds, edit_view, accept, accept_entry, too_deep, too_large, refuse_excess};
 
 use crate::edit::Edit;
 use lg_dict::View;
@@ -19,8 +20,8 @@ const LEVEL: u32 = 200;
 ///
 /// The time is linear in the expression, its macros put in.
 pub fn check(view: &View, edit: &Edit) -> Result<(), EditRefusal>
-    requires { IsEditInBounds edit.now }
-    ensures { result_err result ≡ accept view.now edit.now }
+    requires { IsEditInBounds (edit_view edit.now) }
+    ensures { result_err result ≡ accept view.now (edit_view edit.now) }
 {
     match edit {
         Edit::Put(entry) => check_entry(view, entry),
@@ -33,8 +34,8 @@ pub fn check(view: &View, edit: &Edit) -> Result<(), EditRefusal>
 }
 
 fn check_entry(view: &View, entry: &RawEntry) -> Result<(), EditRefusal>
-    requires { IsEntryInBounds entry.now }
-    ensures { result_err result ≡ accept_entry view.now entry.now }
+    requires { IsEntryInBounds (entry_view entry.now) }
+    ensures { result_err result ≡ accept_entry view.now (entry_view entry.now) }
 {
     match first_unknown(&entry.expr, view) {
         Some(number) => Err(EditRefusal::UnknownMacro(number)),
@@ -43,8 +44,8 @@ fn check_entry(view: &View, entry: &RawEntry) -> Result<(), EditRefusal>
 }
 
 fn check_size(view: &View, entry: &RawEntry) -> Result<(), EditRefusal>
-    requires { IsEntryInBounds entry.now }
-    ensures { result_err result ≡ option_or (too_deep view.now entry.now) (too_large view.now entry.now) }
+    requires { IsEntryInBounds (entry_view entry.now) }
+    ensures { result_err result ≡ option_or (too_deep view.now (entry_view entry.now)) (too_large view.now (entry_view entry.now)) }
 {
     view.macros_fit();
     let level = filled_level(entry.level, &entry.expr, view);
@@ -55,7 +56,7 @@ fn check_size(view: &View, entry: &RawEntry) -> Result<(), EditRefusal>
 }
 
 fn check_measures(view: &View, entry: &RawEntry) -> Result<(), EditRefusal>
-    ensures { result_err result ≡ too_large view.now entry.now }
+    ensures { result_err result ≡ too_large view.now (entry_view entry.now) }
 {
     match first_excess(&entry.expr, view) {
         None => Ok(()),

@@ -4,7 +4,7 @@ ghost use Rattle.lg_gram.specs.Trees.{tree_of};
 ghost use Rattle.lg_gram.specs.EntryBounds.{IsEntryInBounds};
 ghost use Rattle.lg_gram.specs.Formulas.{LevelFits};
 ghost use Rattle.lg_dict.specs.Dictionary.{AreEntries};
-ghost use Rattle.lg_edit.specs.Edits.{DefinesWords, DefinesOneMacro, DefinesAsItMay, IsEditInBounds};
+ghost use Rattle.lg_edit.specs.Edits.{DefinesWords, DefinesOneMacro, DefinesAsItMay, IsEditInBounds, edit_view};
 
 use crate::{Edit, apply, check};
 use lg_base::{Text, Texts};
@@ -84,8 +84,8 @@ fn raw_entry(
 
 // Gives a word one connector.
 fn put(alloc: Global, word: &[u8], caps: &[u8]) -> Result<Edit, Fail>
-    ensures items { IfOk result DefinesAsItMay }
-    ensures bounds { IfOk result IsEditInBounds }
+    ensures items { IfOk result (λ edit. DefinesAsItMay (edit_view edit)) }
+    ensures bounds { IfOk result (λ edit. IsEditInBounds (edit_view edit)) }
 {
     let expr = RawExpr::Conn(connector(caps)?);
     let entry = raw_entry(alloc, ItemKind::Word, word, expr, 0)?;
@@ -95,8 +95,8 @@ fn put(alloc: Global, word: &[u8], caps: &[u8]) -> Result<Edit, Fail>
 // Gives a word a macro with so many brackets round it.
 fn put_macro(alloc: Global, word: &[u8], name: &[u8], depth: u32) -> Result<Edit, Fail>
     requires { depth ≤ 200 }
-    ensures items { IfOk result DefinesAsItMay }
-    ensures bounds { IfOk result IsEditInBounds }
+    ensures items { IfOk result (λ edit. DefinesAsItMay (edit_view edit)) }
+    ensures bounds { IfOk result (λ edit. IsEditInBounds (edit_view edit)) }
 {
     let expr = RawExpr::Named(Text::of(alloc, name)?, depth);
     let entry = raw_entry(alloc, ItemKind::Word, word, expr, depth)?;
@@ -105,8 +105,8 @@ fn put_macro(alloc: Global, word: &[u8], name: &[u8], depth: u32) -> Result<Edit
 
 // Sets a macro to one connector.
 fn set_macro(alloc: Global, name: &[u8], caps: &[u8]) -> Result<Edit, Fail>
-    ensures items { IfOk result DefinesAsItMay }
-    ensures bounds { IfOk result IsEditInBounds }
+    ensures items { IfOk result (λ edit. DefinesAsItMay (edit_view edit)) }
+    ensures bounds { IfOk result (λ edit. IsEditInBounds (edit_view edit)) }
 {
     let expr = RawExpr::Conn(connector(caps)?);
     let entry = raw_entry(alloc, ItemKind::Macro, name, expr, 0)?;
@@ -115,8 +115,8 @@ fn set_macro(alloc: Global, name: &[u8], caps: &[u8]) -> Result<Edit, Fail>
 
 // Makes an edit that is accepted.
 fn make(alloc: Global, view: &mut View, edit: &Edit) -> Result<(), Fail>
-    requires items { DefinesAsItMay edit.now }
-    requires bounds { IsEditInBounds edit.now }
+    requires items { DefinesAsItMay (edit_view edit.now) }
+    requires bounds { IsEditInBounds (edit_view edit.now) }
 {
     match check(view, edit) {
         Ok(()) => {
@@ -192,7 +192,7 @@ fn words_are_put_and_removed(rt: HostRuntime) -> Result<(), Fail> {
 }
 
 fn expect_refusal<R: Abort>(rt: &R, view: &View, edit: &Edit, want: EditRefusal)
-    requires { IsEditInBounds edit.now }
+    requires { IsEditInBounds (edit_view edit.now) }
 {
     assert!(rt; check(view, edit) == Err(want));
 }

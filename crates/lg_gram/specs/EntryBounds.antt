@@ -1,12 +1,12 @@
 -- What every entry keeps to that is read from a text.
 use Rattle.std.specs.Prelude.{◌≡◌, ℕ, ◌+◌, ◌*◌, ◌^◌, ◌<◌, ◌≤◌, length, All, None, true}
+use Rattle.lg_gram.specs.EntryViews.{EntryView}
 use Rattle.lg_gram.specs.Filled.{filled}
 use Rattle.lg_gram.specs.Formulas.{prices_are_small}
 use Rattle.lg_gram.specs.Limits.{LEVEL}
 use Rattle.lg_gram.specs.Measures.{depth_of}
-use Rattle.lg_gram.specs.RawTrees.{RawTree, RawTrees, raw_empty, raw_leaf, named, raw_all, raw_one, raw_priced, no_raw_trees, raw_tree, raw_tree_of, macros_of}
+use Rattle.lg_gram.specs.RawTrees.{RawTree, RawTrees, raw_empty, raw_leaf, named, raw_all, raw_one, raw_priced, no_raw_trees, raw_tree, macros_of}
 use Rattle.lg_gram.specs.Trees.{Tree}
-use Rattle.lg_gram.specs.declared.entry.RawEntry.{RawEntry}
 
 -- the expression with `()` in place of each macro
 abbrev pub bare : RawTree → Tree
@@ -28,10 +28,10 @@ abbrev mutual
   ReferencesLieIn above (raw_tree t ts) = ReferencesLie above t × ReferencesLieIn above ts
 
 -- the entry keeps to its level, and its costs and the number of its references are within their bounds
-pub record IsEntryInBounds (e : RawEntry) : Type 0 where
-  pub references : length (macros_of (raw_tree_of e.expr)) < 2 ^ 32
+pub record IsEntryInBounds (e : EntryView) : Type 0 where
+  pub references : length (macros_of e.expr) < 2 ^ 32
   pub level : e.level ≤ LEVEL
-  pub brackets : All (λ m. m.1 ≤ e.level) (macros_of (raw_tree_of e.expr))
-  pub prices : prices_are_small (bare (raw_tree_of e.expr)) ≡ true
-  pub leaves : depth_of (bare (raw_tree_of e.expr)) ≤ 3 * e.level + 2
-  pub named : ReferencesLie 0 (raw_tree_of e.expr)
+  pub brackets : All (λ m. m.1 ≤ e.level) (macros_of e.expr)
+  pub prices : prices_are_small (bare e.expr) ≡ true
+  pub leaves : depth_of (bare e.expr) ≤ 3 * e.level + 2
+  pub named : ReferencesLie 0 e.expr

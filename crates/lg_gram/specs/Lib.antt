@@ -17,6 +17,7 @@ pub mod Pairs
 pub mod Ground
 pub mod Filled
 pub mod Fits
+pub mod EntryViews
 pub mod EntryBounds
 pub mod Measured
 pub mod Entries

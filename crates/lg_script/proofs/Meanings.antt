@@ -7,8 +7,10 @@ use Rattle.std.proofs.lemmas.Slice.Eq.{slice_eq-Decides}
 use Rattle.lg_lex.specs.declared.run.Separators.TheVariants.{Blanks}
 use Rattle.lg_lex.specs.Runs.{AreInner}
 use Rattle.lg_dictread.specs.declared.entry_text.EntryError.{EntryError}
-use Rattle.lg_dictread.specs.EntryTexts.{EntryView, EntryTextIs}
-use Rattle.lg_script.specs.Commands.{CommandView, EditView, parses, lists, goes_on, makes, asks, puts, sets, removes, Fault, unknown_command, bad_number, bad_edit, IsListing, AreWords, IsOneMacro, IsNoEdit, no_entry, other_items, IsUnknown, CommandIs, parse, list, no_list, more, more_than_more, version, more_than_version, set, no_set, macro, no_macro, del, no_del, unknown}
+use Rattle.lg_gram.specs.EntryViews.{EntryView}
+use Rattle.lg_dictread.specs.EntryTexts.{EntryTextIs}
+use Rattle.lg_edit.specs.Edits.{EditView, puts, sets, removes, DefinesWords, DefinesOneMacro}
+use Rattle.lg_script.specs.Commands.{CommandView, parses, lists, goes_on, makes, asks, Fault, unknown_command, bad_number, bad_edit, IsListing, IsNoEdit, no_entry, other_items, IsUnknown, CommandIs, parse, list, no_list, more, more_than_more, version, more_than_version, set, no_set, macro, no_macro, del, no_del, unknown}
 use Rattle.lg_script.proofs.Alone.{one_listing}
 
 -- the command words
@@ -44,8 +46,8 @@ Means parsing rest x = x ≡ Ok (parses rest)
 Means listing rest x = ((from : ℕ) × (want : ℕ) × (s : List ℕ) × IsListing rest from want s × (x ≡ Ok (lists from want s))) ⊎ (((from want : ℕ) (s : List ℕ) → IsListing rest from want s → ⊥) × (x ≡ Err bad_number))
 Means going_on rest x = AloneMeans goes_on rest x
 Means asking rest x = AloneMeans asks rest x
-Means putting rest x = EditMeans AreWords puts rest x
-Means setting rest x = EditMeans IsOneMacro sets rest x
+Means putting rest x = EditMeans DefinesWords puts rest x
+Means setting rest x = EditMeans DefinesOneMacro sets rest x
 Means removing rest x = ((rest ≢ []) × AreInner Blanks rest × (x ≡ Ok (makes (removes rest)))) ⊎ (((rest ≡ []) ⊎ (AreInner Blanks rest → ⊥)) × (x ≡ Err bad_edit))
 Means no_verb rest x = x ≡ Err unknown_command
 
@@ -110,8 +112,8 @@ module _ (one_text : (bytes : List ℕ) (x y : Result EntryView EntryError) → 
   one_meaning listing rest x y (inr (h, p)) (inr (k, q)) = p ∙ sym q
   one_meaning going_on rest x y h k = one_alone goes_on rest x y h k
   one_meaning asking rest x y h k = one_alone asks rest x y h k
-  one_meaning putting rest x y h k = one_edit AreWords puts rest x y h k
-  one_meaning setting rest x y h k = one_edit IsOneMacro sets rest x y h k
+  one_meaning putting rest x y h k = one_edit DefinesWords puts rest x y h k
+  one_meaning setting rest x y h k = one_edit DefinesOneMacro sets rest x y h k
   one_meaning removing rest x y (inl (a, h, p)) (inl (b, k, q)) = p ∙ sym q
   one_meaning removing rest x y (inl (a, h, p)) (inr (inl b, q)) = absurd (a b)
   one_meaning removing rest x y (inl (a, h, p)) (inr (inr b, q)) = absurd (b h)

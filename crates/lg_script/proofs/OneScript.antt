@@ -6,7 +6,8 @@ use Rattle.std.proofs.lemmas.List.{append-nil}
 use Rattle.lg_lex.specs.Classes.{line_feed}
 use Rattle.lg_lex.specs.Marked.{without_mark}
 use Rattle.lg_dictread.specs.declared.entry_text.EntryError.{EntryError}
-use Rattle.lg_dictread.specs.EntryTexts.{EntryView, EntryTextIs}
+use Rattle.lg_gram.specs.EntryViews.{EntryView}
+use Rattle.lg_dictread.specs.EntryTexts.{EntryTextIs}
 use Rattle.lg_script.specs.declared.script_error.ScriptError.TheVariants.{NotUtf8}
 use Rattle.lg_script.specs.Lines.{AreLines, Says, IsPassedOver, IsCommand}
 use Rattle.lg_script.specs.Commands.{CommandView, Fault, CommandIs}

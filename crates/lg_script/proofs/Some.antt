@@ -14,10 +14,12 @@ use Rattle.lg_lex.specs.declared.run.Separators.TheVariants.{Blanks}
 use Rattle.lg_lex.specs.Marked.{without_mark}
 use Rattle.lg_lex.specs.Runs.{is_separator, AreInner, EndsRun}
 use Rattle.lg_dictread.specs.declared.entry_text.EntryError.{EntryError}
-use Rattle.lg_dictread.specs.EntryTexts.{EntryView, EntryTextIs}
+use Rattle.lg_gram.specs.EntryViews.{EntryView}
+use Rattle.lg_dictread.specs.EntryTexts.{EntryTextIs}
 use Rattle.lg_script.specs.declared.script_error.ScriptError.TheVariants.{NotUtf8}
 use Rattle.lg_script.specs.Lines.{Says, returned, plain, carriage_return, Trims, IsPassedOver, IsCommand}
-use Rattle.lg_script.specs.Commands.{CommandView, parses, lists, goes_on, makes, asks, puts, sets, removes, Fault, unknown_command, bad_number, bad_edit, IsDigit, IsNumber, written_number, AreWords, IsOneMacro, no_entry, other_items, CommandIs, parse, list, no_list, more, more_than_more, version, more_than_version, set, no_set, macro, no_macro, del, no_del, unknown}
+use Rattle.lg_edit.specs.Edits.{puts, sets, removes, DefinesWords, DefinesOneMacro}
+use Rattle.lg_script.specs.Commands.{CommandView, parses, lists, goes_on, makes, asks, Fault, unknown_command, bad_number, bad_edit, IsDigit, IsNumber, written_number, no_entry, other_items, CommandIs, parse, list, no_list, more, more_than_more, version, more_than_version, set, no_set, macro, no_macro, del, no_del, unknown}
 use Rattle.lg_script.specs.Scripts.{LINES_COUNTED, error_at, Outcome, with_command, LinesGive, ended, passed, command, fault, ScriptIs, not_utf8, lines}
 use Rattle.lg_script.specs.Parts.{BeginsInner, EndsInner, SkipsFront, SkipsBack}
 use Rattle.lg_script.proofs.LineParts.{blank_line, comment_line, line_is}
@@ -261,7 +263,7 @@ one_macro [] = inr (λ h. let wrong : [] ≡ h.0 ∷ [] = h.1 in cc)
 one_macro (i ∷ []) = macro_by i (is_macro i.kind)
 one_macro (i ∷ j ∷ is) = inr (λ h. let wrong : i ∷ j ∷ is ≡ h.0 ∷ [] = h.1 in cc)
 
-set_by : (rest : List ℕ) (e : EntryView) → EntryTextIs rest (Ok e) → AreWords e ⊎ (AreWords e → ⊥) → Meaning (codes "set") rest
+set_by : (rest : List ℕ) (e : EntryView) → EntryTextIs rest (Ok e) → DefinesWords e ⊎ (DefinesWords e → ⊥) → Meaning (codes "set") rest
 set_by rest e h (inl a) = (Ok (makes (puts e)), set rest e h a)
 set_by rest e h (inr none) = (Err bad_edit, no_set rest (other_items e h none))
 
@@ -269,7 +271,7 @@ set_some : (rest : List ℕ) (r : Result EntryView EntryError) → EntryTextIs r
 set_some rest (Ok e) h = set_by rest e h (words e.items)
 set_some rest (Err error) h = (Err bad_edit, no_set rest (no_entry error h))
 
-macro_of : (rest : List ℕ) (e : EntryView) → EntryTextIs rest (Ok e) → IsOneMacro e ⊎ (IsOneMacro e → ⊥) → Meaning (codes "macro") rest
+macro_of : (rest : List ℕ) (e : EntryView) → EntryTextIs rest (Ok e) → DefinesOneMacro e ⊎ (DefinesOneMacro e → ⊥) → Meaning (codes "macro") rest
 macro_of rest e h (inl a) = (Ok (makes (sets e)), macro rest e h a)
 macro_of rest e h (inr none) = (Err bad_edit, no_macro rest (other_items e h none))
 

@@ -3,33 +3,21 @@ use Rattle.std.specs.Prelude.{◌≡◌, ◌≢◌, ◌≤◌, ◌⊎◌, ℕ, �
 use Rattle.std.specs.List.{AllByRecursion}
 use Rattle.lg_lex.specs.declared.run.Separators.TheVariants.{Blanks}
 use Rattle.lg_lex.specs.Runs.{AreSeparators, AreInner, EndsRun}
-use Rattle.lg_gram.specs.declared.entry.Item.{Item}
-use Rattle.lg_gram.specs.declared.entry.ItemKind.TheVariants as kinds
 use Rattle.lg_dictread.specs.declared.entry_text.EntryError.{EntryError}
-use Rattle.lg_dictread.specs.EntryTexts.{EntryView, EntryTextIs, entry_view}
-use Rattle.lg_edit.specs.declared.edit.Edit.{Edit}
-use Rattle.lg_edit.specs.declared.edit.Edit.TheVariants as edits
+use Rattle.lg_dictread.specs.EntryTexts.{EntryTextIs}
+use Rattle.lg_gram.specs.EntryViews.{EntryView}
+use Rattle.lg_edit.specs.Edits.{EditView, puts, sets, removes, edit_view, DefinesWords, DefinesOneMacro}
 use Rattle.lg_script.specs.declared.command.Command.{Command}
 use Rattle.lg_script.specs.declared.command.Command.TheVariants as commands
 use Rattle.lg_script.specs.Lines.{IsTrimmed}
 
--- an edit and a command as contracts see them: where an expression lies in memory is no part of it
-pub data EditView : Type 0 where
-  puts : EntryView → EditView
-  sets : EntryView → EditView
-  removes : List ℕ → EditView
-
+-- a command as contracts see it: where an expression lies in memory is no part of it
 pub data CommandView : Type 0 where
   parses : List ℕ → CommandView
   lists : ℕ → ℕ → List ℕ → CommandView
   goes_on : CommandView
   makes : EditView → CommandView
   asks : CommandView
-
-abbrev pub edit_view : Edit → EditView
-edit_view (edits.Put e) = puts (entry_view e)
-edit_view (edits.Macro e) = sets (entry_view e)
-edit_view (edits.Del word) = removes word
 
 abbrev pub command_view : Command → CommandView
 command_view (commands.Parse sentence) = parses sentence
@@ -75,12 +63,6 @@ pub record IsListing (rest : List ℕ) (from want : ℕ) (sentence : List ℕ) :
   pub ends : EndsRun Blanks (more ++ sentence)
   pub trimmed : IsTrimmed sentence
 
-abbrev pub AreWords : EntryView → Type 0
-AreWords e = AllByRecursion (λ i. i.kind ≡ kinds.Word) e.items
-
-abbrev pub IsOneMacro : EntryView → Type 0
-IsOneMacro e = (i : Item) × (e.items ≡ i ∷ []) × (i.kind ≡ kinds.Macro)
-
 -- the text is no entry, or one with other items
 pub data IsNoEdit (Allowed : EntryView → Type 0) (rest : List ℕ) : Type 0 where
   no_entry : (error : EntryError) → EntryTextIs rest (Err error) → IsNoEdit Allowed rest
@@ -100,10 +82,10 @@ pub data CommandIs : List ℕ → List ℕ → Result CommandView Fault → Type
   more_than_more : (rest : List ℕ) → rest ≢ [] → CommandIs (codes "more") rest (Err unknown_command)
   version : CommandIs (codes "version") [] (Ok asks)
   more_than_version : (rest : List ℕ) → rest ≢ [] → CommandIs (codes "version") rest (Err unknown_command)
-  set : (rest : List ℕ) (e : EntryView) → EntryTextIs rest (Ok e) → AreWords e → CommandIs (codes "set") rest (Ok (makes (puts e)))
-  no_set : (rest : List ℕ) → IsNoEdit AreWords rest → CommandIs (codes "set") rest (Err bad_edit)
-  macro : (rest : List ℕ) (e : EntryView) → EntryTextIs rest (Ok e) → IsOneMacro e → CommandIs (codes "macro") rest (Ok (makes (sets e)))
-  no_macro : (rest : List ℕ) → IsNoEdit IsOneMacro rest → CommandIs (codes "macro") rest (Err bad_edit)
+  set : (rest : List ℕ) (e : EntryView) → EntryTextIs rest (Ok e) → DefinesWords e → CommandIs (codes "set") rest (Ok (makes (puts e)))
+  no_set : (rest : List ℕ) → IsNoEdit DefinesWords rest → CommandIs (codes "set") rest (Err bad_edit)
+  macro : (rest : List ℕ) (e : EntryView) → EntryTextIs rest (Ok e) → DefinesOneMacro e → CommandIs (codes "macro") rest (Ok (makes (sets e)))
+  no_macro : (rest : List ℕ) → IsNoEdit DefinesOneMacro rest → CommandIs (codes "macro") rest (Err bad_edit)
   del : (rest : List ℕ) → rest ≢ [] → AreInner Blanks rest → CommandIs (codes "del") rest (Ok (makes (removes rest)))
   no_del : (rest : List ℕ) → (rest ≡ []) ⊎ (AreInner Blanks rest → ⊥) → CommandIs (codes "del") rest (Err bad_edit)
   unknown : (word rest : List ℕ) → IsUnknown word → CommandIs word rest (Err unknown_command)

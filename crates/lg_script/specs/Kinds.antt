@@ -1,7 +1,8 @@
 -- The kinds of commands.
 use Rattle.lg_gram.specs.declared.reply.CommandKind.{CommandKind}
 use Rattle.lg_gram.specs.declared.reply.CommandKind.TheVariants as kinds
-use Rattle.lg_script.specs.Commands.{CommandView, parses, lists, goes_on, makes, asks, puts, sets, removes}
+use Rattle.lg_edit.specs.Edits.{puts, sets, removes}
+use Rattle.lg_script.specs.Commands.{CommandView, parses, lists, goes_on, makes, asks}
 
 abbrev pub kind_of : CommandView → CommandKind
 kind_of (parses sentence) = kinds.Parse

@@ -4,3 +4,5 @@ pub mod Scripts
 pub mod Parts
 pub mod Telling
 pub mod Kinds
+pub mod Bounds
+pub mod Histories

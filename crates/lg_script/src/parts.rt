@@ -4,8 +4,8 @@ ghost use Rattle.std.specs.Prelude.{◌≡◌, ◌↔◌, true, codes};
 ghost use Rattle.std.specs.List.{AllByRecursion};
 ghost use Rattle.lg_gram.specs.declared.entry.Item.{Item};
 ghost use Rattle.lg_gram.specs.declared.entry.ItemKind.TheVariants as kinds;
-ghost use Rattle.lg_script.specs.Commands.{AreWords, IsOneMacro};
-ghost use Rattle.lg_dictread.specs.EntryTexts.{entry_view};
+ghost use Rattle.lg_edit.specs.Edits.{DefinesWords, DefinesOneMacro};
+ghost use Rattle.lg_gram.specs.EntryViews.{entry_view};
 ghost use Rattle.lg_lex.specs.declared.run.Separators.TheVariants.{Blanks};
 ghost use Rattle.lg_lex.specs.Runs.{AreInner};
 ghost use Rattle.lg_script.specs.Parts.{EndsInner};
@@ -144,7 +144,7 @@ fn is_word(bytes: &[u8]) -> bool
 
 /// Whether each item is a word.
 fn are_words(entry: &RawEntry) -> bool
-    ensures { (result ≡ true) ↔ AreWords (entry_view entry.now) }
+    ensures { (result ≡ true) ↔ DefinesWords (entry_view entry.now) }
 {
     for item in entry.items.items() {
         if item.kind != ItemKind::Word {
@@ -156,7 +156,7 @@ fn are_words(entry: &RawEntry) -> bool
 
 /// Whether the one item is a macro.
 fn is_one_macro(entry: &RawEntry) -> bool
-    ensures { (result ≡ true) ↔ IsOneMacro (entry_view entry.now) }
+    ensures { (result ≡ true) ↔ DefinesOneMacro (entry_view entry.now) }
 {
     match entry.items.items() {
         [item] => item.kind == ItemKind::Macro,

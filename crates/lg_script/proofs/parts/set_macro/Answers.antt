@@ -1,5 +1,5 @@
 use Rattle.std.proofs.Common.{codes, Err, refl}
-use Rattle.lg_dictread.specs.EntryTexts.{entry_view}
+use Rattle.lg_gram.specs.EntryViews.{entry_view}
 use Rattle.lg_script.specs.Commands.{Fault, CommandIs, macro, no_macro, no_entry, other_items}
 use Rattle.lg_script.proofs.Commanded.{fails, refused}
 use Rattle.lg_script.proofs.parts.set_macro.Goals as goal

@@ -1,0 +1,8 @@
+//! Sessions: the commands of a script, each answered by a dictionary that the session edits.
+#![tactic(auto)]
+
+pub mod engine;
+pub mod outcome;
+
+pub use engine::{Engine, Opening};
+pub use outcome::Outcome;
