@@ -1,5 +1,5 @@
 -- What each status says of a run.
-use Rattle.std.specs.Prelude.{◌≡◌, ℕ, ◌≤◌, List, [], length, ⊤, ◌⊎◌, IfSome}
+use Rattle.std.specs.Prelude.{◌≡◌, ℕ, ◌≤◌, ◌<◌, ◌^◌, List, [], length, All, ⊤, ◌⊎◌, IfSome, Result, Ok, Err}
 use Rattle.std.specs.declared.option.Option.{Option}
 use Rattle.std.specs.Io.KnownBytes.{Appends, Keeps}
 use Rattle.lg_base.specs.Contents.{Contents}
@@ -7,26 +7,35 @@ use Rattle.lg_base.specs.Faults.{Rose}
 use Rattle.lg_base.specs.Files.{EndsWith}
 use Rattle.lg_base.specs.Sinks.{AppendsFront}
 use Rattle.lg_dictread.specs.declared.dict_error.DictError.{DictError}
-use Rattle.lg_run.specs.Words.{Task, SENTENCE}
-use Rattle.lg_run.specs.Inputs.{Reading, accepted, refused, Given, OneGiven, InputsAre}
+use Rattle.lg_knowread.specs.declared.fault.KnowError.{KnowError}
+use Rattle.lg_script.specs.Bounds.{AreInBounds}
+use Rattle.lg_script.specs.declared.script_error.ScriptError.{ScriptError}
+use Rattle.lg_run.specs.Words.{Task, TaskIs, SENTENCE, AreInRange}
+use Rattle.lg_run.specs.Inputs.{Reading, accepted, refused, Given, OneGiven, RunGiven, InputsAre}
 use Rattle.lg_run.specs.Reads.{Comes}
-use Rattle.lg_run.specs.Documents.{DocumentIs}
-use Rattle.lg_run.specs.Lines.{usage_line, memory_line, output_line, unreadable_line, too_long_line, dict_line}
+use Rattle.lg_run.specs.Documents.{DocumentIs, IsOutcome}
+use Rattle.lg_run.specs.Lines.{usage_line, memory_line, output_line, unreadable_line, too_long_line, dict_line, know_line, script_line, edits_line}
+use Rattle.lg_run.specs.declared.outcome.Halt.{Halt}
+use Rattle.lg_run.specs.declared.outcome.Halt.TheVariants.{Memory, Output}
 use Rattle.lg_run.specs.declared.status.Status.{Status}
 use Rattle.lg_run.specs.declared.status.Status.TheVariants.{Done, BadInput, Usage, ReadFault, WriteFault, NoMemory}
 
 -- where the files tell what they hold and the words are in form, this holds of the inputs
-abbrev pub WhereTold : Option Contents → Option Task → (Reading Given → Type 0) → Type 0
-WhereTold contents task Holds = IfSome contents (λ known. IfSome task (λ t. Holds (InputsAre known t)))
+abbrev pub WhereTold : Option Contents → List (List ℕ) → (Reading Given → Type 0) → Type 0
+WhereTold contents words Holds = IfSome contents (λ known. (task : Task) → TaskIs words task → Holds (InputsAre known task))
 
--- nothing is written where the words are not in form, a text is refused, a file cannot be read, or memory ran out
+-- the words are not in form
+abbrev pub IsNoTask : List (List ℕ) → Type 0
+IsNoTask words = (task : Task) → TaskIs words task → ⊥
+
+-- nothing is written where the words are not in form, a text is refused, or a file cannot be read
 abbrev pub Unwritten : Status → Option (List ℕ) → Option (List ℕ) → Type 0
 Unwritten Done old new = ⊤
 Unwritten WriteFault old new = ⊤
+Unwritten NoMemory old new = ⊤
 Unwritten BadInput old new = Keeps old new
 Unwritten Usage old new = Keeps old new
 Unwritten ReadFault old new = Keeps old new
-Unwritten NoMemory old new = Keeps old new
 
 -- ReadFault comes only where the count of the files' faults rose, WriteFault only where that of the output did
 abbrev pub Caused : Status → ℕ → ℕ → ℕ → ℕ → Type 0
@@ -39,7 +48,8 @@ Caused NoMemory files_before files_now out_before out_now = ⊤
 
 -- the document of a command
 abbrev pub IsDocument : Given → List ℕ → Type 0
-IsDocument (OneGiven dict sentence) document = DocumentIs dict sentence document
+IsDocument (OneGiven options dict sentence) document = DocumentIs options dict sentence document
+IsDocument (RunGiven options dict know scripts) document = IsOutcome options dict know scripts document
 
 -- all inputs were accepted, and their document was written
 pub record WritesDocument (inputs : Reading Given) (asked_old asked_new : List (List ℕ)) (old new : Option (List ℕ)) : Type 0 where
@@ -64,7 +74,7 @@ Told inputs asked_old asked_new old new WriteFault = WritesFront inputs asked_ol
 Told inputs asked_old asked_new old new BadInput = (line : List ℕ) × Comes inputs asked_old asked_new (refused line)
 Told inputs asked_old asked_new old new Usage = ⊥
 Told inputs asked_old asked_new old new ReadFault = ⊤
-Told inputs asked_old asked_new old new NoMemory = ⊤
+Told inputs asked_old asked_new old new NoMemory = Keeps old new ⊎ WritesFront inputs asked_old asked_new old new
 
 -- a text that is refused is told, but where a file cannot be read or memory runs out
 abbrev pub AnswersRefused : Reading Given → Type 0 → Status → Type 0
@@ -76,33 +86,44 @@ AnswersAccepted inputs all_read all_written status =
     (names : List (List ℕ)) (given : Given) → inputs names (accepted given) → all_read → all_written → (status ≡ Done) ⊎ (status ≡ NoMemory)
 
 -- what is said of a text that is refused
-abbrev pub IsRefusal : List ℕ → Type 0
-IsRefusal line = (name : List ℕ) × ((line ≡ too_long_line name) ⊎ ((error : DictError) × (line ≡ dict_line name error)))
+pub data IsRefusal : List ℕ → Type 0 where
+  too_long : (name : List ℕ) → IsRefusal (too_long_line name)
+  dictionary : (name : List ℕ) (error : DictError) → IsRefusal (dict_line name error)
+  knowledge : (name : List ℕ) (error : KnowError) → IsRefusal (know_line name error)
+  script : (name : List ℕ) (error : ScriptError) → IsRefusal (script_line name error)
+  too_many_edits : (name : List ℕ) → IsRefusal (edits_line name)
 
 -- The line of a status, by the names asked. Where the files tell what they hold, the line of BadInput is that of the first
 -- text that is refused.
-abbrev pub HasLine : Option Contents → Option Task → List (List ℕ) → List (List ℕ) → Status → List ℕ → Type 0
-HasLine contents task old new Done line = line ≡ []
-HasLine contents task old new BadInput line = IsRefusal line × WhereTold contents task (λ inputs. Comes inputs old new (refused line))
-HasLine contents task old new Usage line = line ≡ usage_line
-HasLine contents task old new ReadFault line = (name : List ℕ) × EndsWith new name × (line ≡ unreadable_line name)
-HasLine contents task old new WriteFault line = line ≡ output_line
-HasLine contents task old new NoMemory line = line ≡ memory_line
+abbrev pub HasLine : Option Contents → List (List ℕ) → List (List ℕ) → List (List ℕ) → Status → List ℕ → Type 0
+HasLine contents words old new Done line = line ≡ []
+HasLine contents words old new BadInput line = IsRefusal line × WhereTold contents words (λ inputs. Comes inputs old new (refused line))
+HasLine contents words old new Usage line = line ≡ usage_line
+HasLine contents words old new ReadFault line = (name : List ℕ) × EndsWith new name × (line ≡ unreadable_line name)
+HasLine contents words old new WriteFault line = line ≡ output_line
+HasLine contents words old new NoMemory line = line ≡ memory_line
 
 -- the line of the status was written, and nothing else
-pub record WritesLine (contents : Option Contents) (task : Option Task) (asked_old asked_new : List (List ℕ)) (status : Status) (old new : Option (List ℕ)) : Type 0 where
+pub record WritesLine (contents : Option Contents) (words asked_old asked_new : List (List ℕ)) (status : Status) (old new : Option (List ℕ)) : Type 0 where
   pub line : List ℕ
-  pub fits : HasLine contents task asked_old asked_new status line
+  pub fits : HasLine contents words asked_old asked_new status line
   pub grown : Appends old new line
 
 -- how a command ends that has its inputs in hand
 abbrev pub Finishes : Given → Status → Option (List ℕ) → Option (List ℕ) → Type 0
 Finishes given Done old new = (document : List ℕ) × IsDocument given document × Appends old new document
 Finishes given WriteFault old new = (document : List ℕ) × IsDocument given document × AppendsFront old new document
-Finishes given NoMemory old new = Keeps old new
+Finishes given NoMemory old new = Keeps old new ⊎ ((document : List ℕ) × IsDocument given document × AppendsFront old new document)
 Finishes given BadInput old new = ⊥
 Finishes given Usage old new = ⊥
 Finishes given ReadFault old new = ⊥
+
+-- what is written of a command that has its inputs in hand: its document, or a front part of it where the output fails; where
+-- memory runs out nothing, or a front part of it
+abbrev pub Documents : {T : Type 0} → Given → Option (List ℕ) → Option (List ℕ) → Result T Halt → Type 0
+Documents given old new (Ok x) = (document : List ℕ) × IsDocument given document × Appends old new document
+Documents given old new (Err Output) = (document : List ℕ) × IsDocument given document × AppendsFront old new document
+Documents given old new (Err Memory) = Keeps old new ⊎ ((document : List ℕ) × IsDocument given document × AppendsFront old new document)
 
 -- and its line
 abbrev pub last_line : Status → List ℕ
@@ -119,6 +140,7 @@ IsStopped Done = ⊥
 IsStopped Usage = ⊥
 IsStopped WriteFault = ⊥
 
--- its sentence is no longer than a sentence may be
-abbrev pub IsShortGiven : Given → Type 0
-IsShortGiven (OneGiven dict sentence) = length sentence ≤ SENTENCE
+-- the limits that words and texts keep to: a sentence's length, the number of rules, and those of the scripts' commands
+abbrev pub IsGivenInBounds : Given → Type 0
+IsGivenInBounds (OneGiven options dict sentence) = AreInRange options × (length sentence ≤ SENTENCE)
+IsGivenInBounds (RunGiven options dict know scripts) = AreInRange options × (length know.rules < 2 ^ 32) × (length scripts ≡ 1) × All AreInBounds scripts

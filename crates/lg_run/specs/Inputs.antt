@@ -1,5 +1,5 @@
 -- What comes of the inputs of a command, by the words and by what the files hold.
-use Rattle.std.specs.Prelude.{◌≡◌, ℕ, ◌<◌, ◌≤◌, List, [], ◌∷◌, ◌++◌, length, map}
+use Rattle.std.specs.Prelude.{◌≡◌, ℕ, ◌<◌, ◌≤◌, nat_lt, Bool, true, false, List, [], ◌∷◌, ◌++◌, length, map, count_by, Result, Ok, Err, if◌then◌else◌}
 use Rattle.std.specs.List.{flat_map}
 use Rattle.std.specs.FinMap.{from_entries}
 use Rattle.std.specs.declared.option.Option.TheVariants.{None, Some}
@@ -9,8 +9,14 @@ use Rattle.lg_dictread.specs.declared.dict_error.DictError.TheVariants as errors
 use Rattle.lg_dictread.specs.declared.dict_error.WordFileError.TheVariants as causes
 use Rattle.lg_dictread.specs.Limits.{FILE}
 use Rattle.lg_dictread.specs.Texts.{Meaning, TextAnswer, stands, refuse, DictionaryIs}
-use Rattle.lg_run.specs.Words.{Task, One}
-use Rattle.lg_run.specs.Lines.{too_long_line, dict_line}
+use Rattle.lg_knowread.specs.declared.fault.KnowError.{KnowError}
+use Rattle.lg_knowread.specs.declared.knowledge.Knowledge.{Knowledge}
+use Rattle.lg_knowread.specs.Reading.{KnowledgeIs}
+use Rattle.lg_script.specs.Commands.{CommandView, makes}
+use Rattle.lg_script.specs.Scripts.{Outcome, ScriptIs}
+use Rattle.lg_answer.specs.declared.options.Options.{Options}
+use Rattle.lg_run.specs.Words.{Task, One, Run}
+use Rattle.lg_run.specs.Lines.{too_long_line, dict_line, know_line, script_line, edits_line}
 
 -- What comes of texts that are read: all are accepted and stand for this; or the first that is refused has this line;
 -- or this is the first name that is not there.
@@ -68,11 +74,53 @@ pub data DictionaryReads (contents : Contents) (name bytes : List ℕ) : List (L
 abbrev pub DictionaryInput : Contents → List ℕ → Reading Dictionary
 DictionaryInput contents name = Followed (FileIs contents name) (DictionaryReads contents name)
 
--- what a command has in hand once all its inputs are accepted
+-- what comes of a knowledge file of this name
+abbrev pub found_knowledge : List ℕ → Result Knowledge KnowError → Found Knowledge
+found_knowledge name (Ok know) = accepted know
+found_knowledge name (Err error) = refused (know_line name error)
+
+pub data KnowledgeReads (name bytes : List ℕ) : List (List ℕ) → Found Knowledge → Type 0 where
+  reads_knowledge : (x : Result Knowledge KnowError) → KnowledgeIs bytes x → KnowledgeReads name bytes [] (found_knowledge name x)
+
+-- the knowledge with this name
+abbrev pub KnowledgeInput : Contents → List ℕ → Reading Knowledge
+KnowledgeInput contents name = Followed (FileIs contents name) (KnowledgeReads name)
+
+-- the most edits of all scripts
+abbrev pub EDITS : ℕ
+EDITS = 100000
+
+abbrev pub is_edit : CommandView → Bool
+is_edit (makes edit) = true
+is_edit _ = false
+
+-- what comes of a script of this name
+abbrev pub found_script : List ℕ → Outcome → Found (List CommandView)
+found_script name (Ok commands) = if nat_lt EDITS (count_by is_edit commands) then refused (edits_line name) else accepted commands
+found_script name (Err error) = refused (script_line name error)
+
+pub data ScriptReads (name bytes : List ℕ) : List (List ℕ) → Found (List CommandView) → Type 0 where
+  reads_script : (x : Outcome) → ScriptIs bytes x → ScriptReads name bytes [] (found_script name x)
+
+-- the script with this name
+abbrev pub ScriptInput : Contents → List ℕ → Reading (List CommandView)
+ScriptInput contents name = Followed (FileIs contents name) (ScriptReads name)
+
+-- what a command has in hand once all its inputs are accepted, and how it lists
 pub data Given : Type 0 where
   -- a dictionary and a sentence
-  OneGiven : Dictionary → List ℕ → Given
+  OneGiven : Options → Dictionary → List ℕ → Given
+  -- a dictionary, knowledge and the scripts of sessions
+  RunGiven : Options → Dictionary → Knowledge → List (List CommandView) → Given
+
+-- the inputs of a session: the dictionary, the knowledge and the script
+abbrev pub ScriptGiven : Contents → Options → Dictionary → Knowledge → List ℕ → Reading Given
+ScriptGiven contents options dict know script = Followed (ScriptInput contents script) (λ commands. given (RunGiven options dict know (commands ∷ [])))
+
+abbrev pub KnowledgeGiven : Contents → Options → Dictionary → List ℕ → List ℕ → Reading Given
+KnowledgeGiven contents options dict knowledge script = Followed (KnowledgeInput contents knowledge) (λ know. ScriptGiven contents options dict know script)
 
 -- the inputs of a command
 abbrev pub InputsAre : Contents → Task → Reading Given
-InputsAre contents (One dictionary sentence) = Followed (DictionaryInput contents dictionary) (λ dict. given (OneGiven dict sentence))
+InputsAre contents (One options dictionary sentence) = Followed (DictionaryInput contents dictionary) (λ dict. given (OneGiven options dict sentence))
+InputsAre contents (Run options dictionary knowledge script) = Followed (DictionaryInput contents dictionary) (λ dict. KnowledgeGiven contents options dict knowledge script)

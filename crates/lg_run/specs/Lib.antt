@@ -8,3 +8,5 @@ pub mod Reads
 pub mod Pieces
 pub mod Documents
 pub mod Answers
+pub mod Listers
+pub mod Written

@@ -5,6 +5,10 @@ use Rattle.std.specs.Fmt.{decimal}
 use Rattle.lg_dictread.specs.declared.dict_error.DictError.{DictError}
 use Rattle.lg_dictread.specs.declared.dict_error.DictError.TheVariants as errors
 use Rattle.lg_dictread.specs.declared.dict_error.WordFileError.TheVariants as causes
+use Rattle.lg_knowread.specs.declared.fault.KnowError.{KnowError}
+use Rattle.lg_knowread.specs.declared.fault.KnowError.TheVariants as know_errors
+use Rattle.lg_script.specs.declared.script_error.ScriptError.{ScriptError}
+use Rattle.lg_script.specs.declared.script_error.ScriptError.TheVariants as script_errors
 
 -- pieces one after another
 abbrev pub joined : List (List ℕ) → List ℕ
@@ -39,11 +43,14 @@ on_line line why = codes "line " ∷ decimal line ∷ codes ": " ∷ why
 abbrev pub not_utf8 : ℕ → List (List ℕ)
 not_utf8 byte = codes "byte " ∷ decimal byte ∷ codes " is not UTF-8" ∷ []
 
+abbrev pub syntax_at : ℕ → ℕ → List (List ℕ)
+syntax_at line column = codes "line " ∷ decimal line ∷ codes " column " ∷ decimal column ∷ codes ": syntax" ∷ []
+
 -- The line of each error of a dictionary of this name. A word file's own faults have the word file's name.
 abbrev pub dict_line : List ℕ → DictError → List ℕ
 dict_line name errors.NoMemory = memory_line
 dict_line name (errors.NotUtf8 byte) = refusal_line name (not_utf8 byte)
-dict_line name (errors.Syntax line column) = refusal_line name (codes "line " ∷ decimal line ∷ codes " column " ∷ decimal column ∷ codes ": syntax" ∷ [])
+dict_line name (errors.Syntax line column) = refusal_line name (syntax_at line column)
 dict_line name (errors.UnknownMacro line macro) = refusal_line name (on_line line (codes "unknown macro " ∷ macro ∷ []))
 dict_line name (errors.CostForm line) = refusal_line name (on_line line (codes "cost form" ∷ []))
 dict_line name (errors.TooDeep line) = refusal_line name (on_line line (codes "too deep" ∷ []))
@@ -54,3 +61,24 @@ dict_line name (errors.DuplicateWord word first again) = refusal_line name (word
 dict_line name (errors.WordFile line file causes.Failed) = unreadable_line file
 dict_line name (errors.WordFile line file causes.TooLong) = too_long_line file
 dict_line name (errors.WordFile line file (causes.NotUtf8 byte)) = refusal_line file (not_utf8 byte)
+
+-- the line of each error of a knowledge file of this name
+abbrev pub know_line : List ℕ → KnowError → List ℕ
+know_line name know_errors.NoMemory = memory_line
+know_line name (know_errors.NotUtf8 byte) = refusal_line name (not_utf8 byte)
+know_line name (know_errors.Syntax line column) = refusal_line name (syntax_at line column)
+know_line name (know_errors.UnknownSection line) = refusal_line name (on_line line (codes "unknown section" ∷ []))
+know_line name (know_errors.BadPattern line) = refusal_line name (on_line line (codes "pattern" ∷ []))
+know_line name (know_errors.BadType line) = refusal_line name (on_line line (codes "domain type" ∷ []))
+
+-- and of a script
+abbrev pub script_line : List ℕ → ScriptError → List ℕ
+script_line name script_errors.NoMemory = memory_line
+script_line name (script_errors.NotUtf8 byte) = refusal_line name (not_utf8 byte)
+script_line name (script_errors.UnknownCommand line) = refusal_line name (on_line line (codes "unknown command" ∷ []))
+script_line name (script_errors.BadNumber line) = refusal_line name (on_line line (codes "number" ∷ []))
+script_line name (script_errors.BadEdit line) = refusal_line name (on_line line (codes "edit" ∷ []))
+
+-- a script with which the edits become too many
+abbrev pub edits_line : List ℕ → List ℕ
+edits_line name = refusal_line name (codes "more than 100000 edits" ∷ [])

@@ -4,7 +4,8 @@ use Rattle.std.specs.declared.result.Result.{Result}
 use Rattle.std.specs.declared.result.Result.TheVariants.{Ok, Err}
 use Rattle.lg_base.specs.Faults.{Rose}
 use Rattle.lg_base.specs.Files.{AsksWithin, EndsWith}
-use Rattle.lg_run.specs.Inputs.{Found, Reading, accepted, refused, Given, OneGiven}
+use Rattle.lg_session.specs.Legal.{script_views}
+use Rattle.lg_run.specs.Inputs.{Found, Reading, accepted, refused, Given, OneGiven, RunGiven}
 use Rattle.lg_run.specs.Lines.{unreadable_line}
 use Rattle.lg_run.specs.Stops.{stop_status, stop_line}
 use Rattle.lg_run.specs.declared.inputs.Inputs.{Inputs}
@@ -42,6 +43,15 @@ abbrev pub FaultsOnlyBy : {T : Type 0} → List (List ℕ) → ℕ → ℕ → R
 FaultsOnlyBy asked before now (Ok value) = ⊤
 FaultsOnlyBy asked before now (Err stop) = IsFaultOf asked before now (stop_status stop) (stop_line stop)
 
+-- an answer that is no read fault
+abbrev pub IsNoFaultOf : Status → Type 0
+IsNoFaultOf ReadFault = ⊥
+IsNoFaultOf _ = ⊤
+
+abbrev pub IsNoFault : {T : Type 0} → Result T Stop → Type 0
+IsNoFault (Ok value) = ⊤
+IsNoFault (Err stop) = IsNoFaultOf (stop_status stop)
+
 -- the count of faults never falls, and a read fault has its cause
 pub record HasCause {T : Type 0} (asked : List (List ℕ)) (before now : ℕ) (result : Result T Stop) : Type 0 where
   pub later : before ≤ now
@@ -49,4 +59,5 @@ pub record HasCause {T : Type 0} (asked : List (List ℕ)) (before now : ℕ) (r
 
 -- what contracts see of the inputs of a command
 abbrev pub given_in : Inputs → Given
-given_in (inputs.One dict sentence) = OneGiven dict sentence.now
+given_in (inputs.One options dict sentence) = OneGiven options dict sentence.now
+given_in (inputs.Run options dict know scripts) = RunGiven options dict know (script_views scripts)

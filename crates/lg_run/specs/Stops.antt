@@ -1,15 +1,20 @@
 -- The status and the line of inputs that are not had.
-use Rattle.std.specs.Prelude.{◌≡◌, ◌⊎◌, ℕ, List}
+use Rattle.std.specs.Prelude.{◌≡◌, ◌⊎◌, ℕ, List, Vec, Result, Ok, Err}
+use Rattle.lg_base.specs.declared.memory.NoMemory.{NoMemory as OutOfMemory}
 use Rattle.std.specs.declared.option.Option.{Option}
 use Rattle.std.specs.Io.KnownBytes.{Appends}
 use Rattle.lg_dictread.specs.declared.dict_error.DictError.{DictError}
 use Rattle.lg_dictread.specs.declared.dict_error.DictError.TheVariants as errors
 use Rattle.lg_dictread.specs.declared.dict_error.WordFileError.TheVariants as causes
-use Rattle.lg_run.specs.Lines.{memory_line, unreadable_line, too_long_line, dict_line}
+use Rattle.lg_knowread.specs.declared.fault.KnowError.{KnowError}
+use Rattle.lg_knowread.specs.declared.fault.KnowError.TheVariants as know_errors
+use Rattle.lg_script.specs.declared.script_error.ScriptError.{ScriptError}
+use Rattle.lg_script.specs.declared.script_error.ScriptError.TheVariants as script_errors
+use Rattle.lg_run.specs.Lines.{memory_line, unreadable_line, too_long_line, dict_line, know_line, script_line, edits_line}
 use Rattle.lg_run.specs.declared.status.Status.{Status}
 use Rattle.lg_run.specs.declared.status.Status.TheVariants.{BadInput, ReadFault, NoMemory}
 use Rattle.lg_run.specs.declared.stop.Stop.{Stop}
-use Rattle.lg_run.specs.declared.stop.Stop.TheVariants.{Memory, Unreadable, TooLong, Refused}
+use Rattle.lg_run.specs.declared.stop.Stop.TheVariants.{Memory, Unreadable, TooLong, Dictionary, Knowledge, Script, TooManyEdits}
 
 -- a word file that cannot be read is a read fault, and every other error but want of memory is one of the input
 abbrev pub dict_status : DictError → Status
@@ -17,22 +22,41 @@ dict_status errors.NoMemory = NoMemory
 dict_status (errors.WordFile line file causes.Failed) = ReadFault
 dict_status _ = BadInput
 
+abbrev pub know_status : KnowError → Status
+know_status know_errors.NoMemory = NoMemory
+know_status _ = BadInput
+
+abbrev pub script_status : ScriptError → Status
+script_status script_errors.NoMemory = NoMemory
+script_status _ = BadInput
+
 abbrev pub stop_status : Stop → Status
 stop_status Memory = NoMemory
 stop_status (Unreadable name) = ReadFault
 stop_status (TooLong name) = BadInput
-stop_status (Refused name error) = dict_status error
+stop_status (Dictionary name error) = dict_status error
+stop_status (Knowledge name error) = know_status error
+stop_status (Script name error) = script_status error
+stop_status (TooManyEdits name) = BadInput
 
 abbrev pub stop_line : Stop → List ℕ
 stop_line Memory = memory_line
 stop_line (Unreadable name) = unreadable_line name.now
 stop_line (TooLong name) = too_long_line name.now
-stop_line (Refused name error) = dict_line name.now error
+stop_line (Dictionary name error) = dict_line name.now error
+stop_line (Knowledge name error) = know_line name.now error
+stop_line (Script name error) = script_line name.now error
+stop_line (TooManyEdits name) = edits_line name.now
 
 -- the status and, where this is so, the line that was written
 pub record SaysOf (status wanted : Status) (so : Type 0) (old new : Option (List ℕ)) (line : List ℕ) : Type 0 where
   pub same : status ≡ wanted
   pub written : so → Appends old new line
+
+-- the status with its line, where there is memory for the line
+abbrev pub EndsWithLine : {A : Type 0} → Status → Status → Result (Vec ℕ A) OutOfMemory → Type 0 → Option (List ℕ) → Option (List ℕ) → Type 0
+EndsWithLine status wanted (Ok line) so old new = SaysOf status wanted so old new line.items
+EndsWithLine status wanted (Err e) so old new = SaysOf status NoMemory so old new memory_line
 
 -- a stop ends with its status and its line, unless there is no memory for the line
 abbrev pub EndsAs : Stop → Status → Type 0 → Option (List ℕ) → Option (List ℕ) → Type 0

@@ -1,13 +1,14 @@
 -- The form of the words of the command line.
-use Rattle.std.specs.Prelude.{ℕ, ◌≤◌, Bool, false, ◌&&◌, not, List, [], ◌∷◌, codes, if◌then◌else◌, nat_eq, nat_le, length}
-use Rattle.std.specs.declared.option.Option.{Option}
-use Rattle.std.specs.declared.option.Option.TheVariants.{None, Some}
-use Rattle.std.specs.Str.{bytes_eq}
+use Rattle.std.specs.Prelude.{◌≡◌, ℕ, ◌≤◌, Bool, true, false, not, List, [], ◌∷◌, ◌++◌, codes, nat_eq, length}
+use Rattle.lg_script.specs.Bounds.{IsCount}
+use Rattle.lg_answer.specs.declared.options.Options.{Options}
 
 -- what the words ask for
 pub data Task : Type 0 where
   -- the linkages of one sentence: the name of the dictionary, and the sentence
-  One : List ℕ → List ℕ → Task
+  One : Options → List ℕ → List ℕ → Task
+  -- a session: the names of the dictionary, the knowledge and the script
+  Run : Options → List ℕ → List ℕ → List ℕ → Task
 
 abbrev pub begins_with_dash : List ℕ → Bool
 begins_with_dash [] = false
@@ -20,16 +21,13 @@ is_operand word = not (begins_with_dash word)
 abbrev pub SENTENCE : ℕ
 SENTENCE = 67108864
 
-abbrev pub one_of : List (List ℕ) → Option Task
-one_of (dictionary ∷ sentence ∷ []) =
-    if is_operand dictionary && (is_operand sentence && nat_le (length sentence) SENTENCE) then Some (One dictionary sentence) else None
-one_of _ = None
+abbrev pub AreInRange : Options → Type 0
+AreInRange options = IsCount options.want × IsCount options.examine
 
--- `one DICT SENTENCE`
-abbrev pub task_of : List (List ℕ) → Option Task
-task_of (word ∷ rest) = if bytes_eq word (codes "one") then one_of rest else None
-task_of [] = None
+pub data TaskIs : List (List ℕ) → Task → Type 0 where
+  one : (options : Options) (dictionary sentence : List ℕ) → TaskIs (codes "one" ∷ dictionary ∷ sentence ∷ []) (One options dictionary sentence)
+  run : (options : Options) (dictionary knowledge script : List ℕ) → TaskIs (codes "run" ∷ dictionary ∷ knowledge ∷ script ∷ []) (Run options dictionary knowledge script)
 
--- its sentence is no longer than a sentence may be
-abbrev pub IsShort : Task → Type 0
-IsShort (One dictionary sentence) = length sentence ≤ SENTENCE
+abbrev pub IsInRange : Task → Type 0
+IsInRange (One options dictionary sentence) = AreInRange options × (length sentence ≤ SENTENCE)
+IsInRange (Run options dictionary knowledge script) = AreInRange options

@@ -1,22 +1,40 @@
 //! The inputs of a command, read and taken apart in order.
-ghost use Rattle.std.specs.Prelude.{◌≡◌, ◌≤◌, length, IfSome, IfOk};
+ghost use Rattle.std.specs.Prelude.{◌≡◌, ◌≤◌, ◌<◌, ◌^◌, [], ◌∷◌, length, map, IfSome, IfOk, MatchResult};
+ghost use Rattle.lg_dictread.specs.Limits.{FILE};
+ghost use Rattle.lg_script.specs.Bounds.{AreInBounds};
+ghost use Rattle.lg_script.specs.Commands.{command_view};
 ghost use Rattle.lg_run.specs.Commands.{task};
-ghost use Rattle.lg_run.specs.Words.{One, IsShort, SENTENCE};
-ghost use Rattle.lg_run.specs.Inputs.{FileIs, DictionaryReads, DictionaryInput, InputsAre};
+ghost use Rattle.lg_run.specs.Words.{One, Run, IsInRange, AreInRange, SENTENCE};
+ghost use Rattle.lg_run.specs.Inputs.{FileIs, DictionaryReads, DictionaryInput, KnowledgeGiven, ScriptGiven, RunGiven, InputsAre};
 ghost use Rattle.lg_run.specs.Reads.{AsksInOrder, Tells, HasCause, given_in};
-ghost use Rattle.lg_run.specs.Answers.{IsShortGiven};
+ghost use Rattle.lg_run.specs.Answers.{IsGivenInBounds};
 
 use crate::command::Command;
+use crate::knowledge::read_know;
+use crate::script::read_commands;
 use crate::stop::Stop;
+use lg_answer::Options;
 use lg_base::{FileError, Files, NoMemory};
 use lg_dict::Dict;
 use lg_dictread::{FILE, exactly_one_dictionary, read_dict};
+use lg_knowread::{Knowledge, exactly_one_knowledge};
+use lg_script::{Command as Asked, Commands, Scripts, exactly_one_script};
 use std::alloc::Global;
 
 /// The inputs of a command.
 #[derive(Drop)]
 pub enum Inputs<'a> {
-    One { dict: Dict, sentence: &'a str },
+    One {
+        options: Options,
+        dict: Dict,
+        sentence: &'a str,
+    },
+    Run {
+        options: Options,
+        dict: Dict,
+        know: Knowledge,
+        scripts: Scripts,
+    },
 }
 
 /// Reads the inputs of a command.
@@ -25,17 +43,24 @@ pub fn read_inputs<'a, F: Files>(
     files: &mut F,
     command: Command<'a>,
 ) -> Result<Inputs<'a>, Stop<'a>>
-    requires { IsShort (task command) }
+    requires { IsInRange (task command) }
     ensures names { IfSome (F.contents files.old) (λ known. AsksInOrder (InputsAre known (task command.entry)) (F.asked files.old) (F.asked files.new)) }
     ensures told { IfSome (F.contents files.old) (λ known. Tells given_in (InputsAre known (task command.entry)) (F.asked files.old) (F.asked files.new) result) }
-    ensures short { IfOk result (λ inputs. IsShortGiven (given_in inputs)) }
+    ensures bounds { IfOk result (λ inputs. IsGivenInBounds (given_in inputs)) }
     ensures cause { HasCause (F.asked files.new) (F.faults files.old) (F.faults files.new) result }
 {
     match command {
         Command::One {
+            options,
             dictionary,
             sentence,
-        } => inputs_of_one(alloc, files, dictionary, sentence),
+        } => inputs_of_one(alloc, files, options, dictionary, sentence),
+        Command::Run {
+            options,
+            dictionary,
+            knowledge,
+            script,
+        } => inputs_of_run(alloc, files, options, dictionary, knowledge, script),
     }
 }
 
@@ -43,19 +68,114 @@ pub fn read_inputs<'a, F: Files>(
 fn inputs_of_one<'a, F: Files>(
     alloc: Global,
     files: &mut F,
+    options: Options,
     dictionary: &'a str,
     sentence: &'a str,
 ) -> Result<Inputs<'a>, Stop<'a>>
-    requires { length sentence.now ≤ SENTENCE }
-    ensures names { IfSome (F.contents files.old) (λ known. AsksInOrder (InputsAre known (One dictionary.now sentence.now)) (F.asked files.old) (F.asked files.new)) }
-    ensures told { IfSome (F.contents files.old) (λ known. Tells given_in (InputsAre known (One dictionary.now sentence.now)) (F.asked files.old) (F.asked files.new) result) }
-    ensures short { IfOk result (λ inputs. IsShortGiven (given_in inputs)) }
+    requires range { AreInRange options }
+    requires short { length sentence.now ≤ SENTENCE }
+    ensures names { IfSome (F.contents files.old) (λ known. AsksInOrder (InputsAre known (One options dictionary.now sentence.now)) (F.asked files.old) (F.asked files.new)) }
+    ensures told { IfSome (F.contents files.old) (λ known. Tells given_in (InputsAre known (One options dictionary.now sentence.now)) (F.asked files.old) (F.asked files.new) result) }
+    ensures bounds { IfOk result (λ inputs. IsGivenInBounds (given_in inputs)) }
     ensures cause { HasCause (F.asked files.new) (F.faults files.old) (F.faults files.new) result }
 {
     exactly_one_dictionary();
     match read_dictionary(alloc, files, dictionary) {
-        Ok(dict) => Ok(Inputs::One { dict, sentence }),
+        Ok(dict) => Ok(Inputs::One {
+            options,
+            dict,
+            sentence,
+        }),
         Err(stop) => Err(stop),
+    }
+}
+
+/// A dictionary, knowledge and a script.
+fn inputs_of_run<'a, F: Files>(
+    alloc: Global,
+    files: &mut F,
+    options: Options,
+    dictionary: &'a str,
+    knowledge: &'a str,
+    script: &'a str,
+) -> Result<Inputs<'a>, Stop<'a>>
+    requires { AreInRange options }
+    ensures names { IfSome (F.contents files.old) (λ known. AsksInOrder (InputsAre known (Run options dictionary.now knowledge.now script.now)) (F.asked files.old) (F.asked files.new)) }
+    ensures told { IfSome (F.contents files.old) (λ known. Tells given_in (InputsAre known (Run options dictionary.now knowledge.now script.now)) (F.asked files.old) (F.asked files.new) result) }
+    ensures bounds { IfOk result (λ inputs. IsGivenInBounds (given_in inputs)) }
+    ensures cause { HasCause (F.asked files.new) (F.faults files.old) (F.faults files.new) result }
+{
+    exactly_one_dictionary();
+    match read_dictionary(alloc, files, dictionary) {
+        Ok(dict) => after_dictionary(alloc, files, options, dict, knowledge, script),
+        Err(stop) => Err(stop),
+    }
+}
+
+/// Knowledge and a script, where the dictionary is in hand.
+fn after_dictionary<'a, F: Files>(
+    alloc: Global,
+    files: &mut F,
+    options: Options,
+    dict: Dict,
+    knowledge: &'a str,
+    script: &'a str,
+) -> Result<Inputs<'a>, Stop<'a>>
+    requires { AreInRange options }
+    ensures names { IfSome (F.contents files.old) (λ known. AsksInOrder (KnowledgeGiven known options dict knowledge.now script.now) (F.asked files.old) (F.asked files.new)) }
+    ensures told { IfSome (F.contents files.old) (λ known. Tells given_in (KnowledgeGiven known options dict knowledge.now script.now) (F.asked files.old) (F.asked files.new) result) }
+    ensures bounds { IfOk result (λ inputs. IsGivenInBounds (given_in inputs)) }
+    ensures cause { HasCause (F.asked files.new) (F.faults files.old) (F.faults files.new) result }
+{
+    exactly_one_knowledge();
+    match read_know(alloc, files, knowledge) {
+        Ok(know) => after_knowledge(alloc, files, options, dict, know, script),
+        Err(stop) => Err(stop),
+    }
+}
+
+/// A script, where the dictionary and the knowledge are in hand.
+fn after_knowledge<'a, F: Files>(
+    alloc: Global,
+    files: &mut F,
+    options: Options,
+    dict: Dict,
+    know: Knowledge,
+    script: &'a str,
+) -> Result<Inputs<'a>, Stop<'a>>
+    requires range { AreInRange options }
+    requires few { length know.rules < 2 ^ 32 }
+    ensures names { IfSome (F.contents files.old) (λ known. AsksInOrder (ScriptGiven known options dict know script.now) (F.asked files.old) (F.asked files.new)) }
+    ensures told { IfSome (F.contents files.old) (λ known. Tells given_in (ScriptGiven known options dict know script.now) (F.asked files.old) (F.asked files.new) result) }
+    ensures bounds { IfOk result (λ inputs. IsGivenInBounds (given_in inputs)) }
+    ensures cause { HasCause (F.asked files.new) (F.faults files.old) (F.faults files.new) result }
+{
+    exactly_one_script();
+    match read_commands(alloc, files, script) {
+        Ok(commands) => given(alloc, options, dict, know, commands),
+        Err(stop) => Err(stop),
+    }
+}
+
+/// The inputs of one session.
+fn given<'a>(
+    alloc: Global,
+    options: Options,
+    dict: Dict,
+    know: Knowledge,
+    commands: Vec<Asked>,
+) -> Result<Inputs<'a>, Stop<'a>>
+    ensures { MatchResult result (λ inputs. given_in inputs ≡ RunGiven options dict know (map command_view commands.items ∷ [])) (λ stop. stop ≡ Stop.Memory) }
+{
+    let mut scripts = Vec::new(alloc);
+    match scripts.push(Commands::of(commands)) {
+        Ok(()) => Ok(Inputs::Run {
+            options,
+            dict,
+            know,
+            scripts: Scripts::of(scripts),
+        }),
+        Err(_) => Err(Stop::Memory),
     }
 }
 
@@ -77,10 +197,15 @@ fn read_dictionary<'a, F: Files>(
 }
 
 /// The bytes of the file with this name.
-fn read_file<'a, F: Files>(alloc: Global, files: &mut F, name: &'a str) -> Result<Vec<u8>, Stop<'a>>
+pub(crate) fn read_file<'a, F: Files>(
+    alloc: Global,
+    files: &mut F,
+    name: &'a str,
+) -> Result<Vec<u8>, Stop<'a>>
     ensures unchanged { F.contents files.new ≡ F.contents files.old }
     ensures names { IfSome (F.contents files.old) (λ known. AsksInOrder (FileIs known name.now) (F.asked files.old) (F.asked files.new)) }
     ensures told { IfSome (F.contents files.old) (λ known. Tells (λ bytes. bytes.items) (FileIs known name.now) (F.asked files.old) (F.asked files.new) result) }
+    ensures limited { IfOk result (λ bytes. length bytes.items ≤ FILE) }
     ensures cause { HasCause (F.asked files.new) (F.faults files.old) (F.faults files.new) result }
 {
     match files.read_all(alloc, name, FILE) {
@@ -108,6 +233,6 @@ fn take_apart<'a, F: Files>(
             Ok(dict) => Ok(dict),
             Err(NoMemory) => Err(Stop::Memory),
         },
-        Err(error) => Err(Stop::Refused(name, error)),
+        Err(error) => Err(Stop::Dictionary(name, error)),
     }
 }

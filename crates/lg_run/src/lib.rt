@@ -3,8 +3,12 @@
 
 mod command;
 mod inputs;
+mod knowledge;
 pub mod law;
 mod line;
+mod lister;
+mod outcome;
+mod script;
 mod sentence;
 mod status;
 mod stop;

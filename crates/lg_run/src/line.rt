@@ -1,12 +1,14 @@
-//! The lines that say why a dictionary is refused.
+//! The lines that say why a text is refused.
 ghost use Rattle.std.specs.Prelude.{◌≡◌, ◌∷◌, ◌++◌, [], IfOk, OnOk, map, decimal};
 ghost use Rattle.std.specs.List.{flat_map};
-ghost use Rattle.lg_run.specs.Lines.{refusal_line, on_line, not_utf8, line_about, dict_line};
+ghost use Rattle.lg_run.specs.Lines.{refusal_line, on_line, not_utf8, syntax_at, line_about, dict_line, know_line, script_line, edits_line};
 ghost use Rattle.lg_run.specs.Pieces.{piece_text};
 ghost use Rattle.lg_dictread.specs.declared.dict_error.DictError.TheVariants as errors;
 
 use lg_base::{NoMemory, write_bytes, write_number};
 use lg_dictread::{DictError, WordFileError};
+use lg_knowread::KnowError;
+use lg_script::ScriptError;
 use std::alloc::Global;
 
 /// A part of a line.
@@ -42,6 +44,44 @@ pub(crate) fn dict_line(alloc: Global, name: &[u8], error: &DictError) -> Result
         }
         DictError::WordFile(_, file, cause) => word_file_line(alloc, file.bytes(), *cause),
     }
+}
+
+/// The line of an error of the knowledge with this name.
+pub(crate) fn know_line(alloc: Global, name: &[u8], error: KnowError) -> Result<Vec<u8>, NoMemory>
+    ensures { IfOk result (λ line. line.items ≡ know_line name.now error) }
+{
+    match error {
+        KnowError::NoMemory => about(alloc, b"lgparse: out of memory\n", b"", b""),
+        KnowError::NotUtf8(byte) => byte_line(alloc, name, byte),
+        KnowError::Syntax(line, column) => syntax_line(alloc, name, line, column),
+        KnowError::UnknownSection(line) => bare_line(alloc, name, line, b"unknown section"),
+        KnowError::BadPattern(line) => bare_line(alloc, name, line, b"pattern"),
+        KnowError::BadType(line) => bare_line(alloc, name, line, b"domain type"),
+    }
+}
+
+/// The line of an error of the script with this name.
+pub(crate) fn script_line(
+    alloc: Global,
+    name: &[u8],
+    error: ScriptError,
+) -> Result<Vec<u8>, NoMemory>
+    ensures { IfOk result (λ line. line.items ≡ script_line name.now error) }
+{
+    match error {
+        ScriptError::NoMemory => about(alloc, b"lgparse: out of memory\n", b"", b""),
+        ScriptError::NotUtf8(byte) => byte_line(alloc, name, byte),
+        ScriptError::UnknownCommand(line) => bare_line(alloc, name, line, b"unknown command"),
+        ScriptError::BadNumber(line) => bare_line(alloc, name, line, b"number"),
+        ScriptError::BadEdit(line) => bare_line(alloc, name, line, b"edit"),
+    }
+}
+
+/// The line of a script with which the edits become too many.
+pub(crate) fn edits_line(alloc: Global, name: &[u8]) -> Result<Vec<u8>, NoMemory>
+    ensures { IfOk result (λ line. line.items ≡ edits_line name.now) }
+{
+    refusal(alloc, name, &[Piece::Text(b"more than 100000 edits")])
 }
 
 fn word_file_line(alloc: Global, name: &[u8], cause: WordFileError) -> Result<Vec<u8>, NoMemory>
@@ -86,7 +126,7 @@ fn byte_line(alloc: Global, name: &[u8], byte: u64) -> Result<Vec<u8>, NoMemory>
 }
 
 fn syntax_line(alloc: Global, name: &[u8], line: u32, column: u32) -> Result<Vec<u8>, NoMemory>
-    ensures { IfOk result (λ text. text.items ≡ dict_line name.now (errors.Syntax line column)) }
+    ensures { IfOk result (λ text. text.items ≡ refusal_line name.now (syntax_at line column)) }
 {
     let why = [
         Piece::Text(b"line "),

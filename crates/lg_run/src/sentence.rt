@@ -1,7 +1,7 @@
 //! A sentence, and what is written of it.
 ghost use Rattle.std.specs.Prelude.{◌≡◌, ◌<◌, ◌^◌, IfOk, length};
 ghost use Rattle.lg_gram.specs.declared.listing.Page.{Page};
-ghost use Rattle.lg_answer.specs.Pages.{IsPage, default_options};
+ghost use Rattle.lg_answer.specs.Pages.{IsPage};
 ghost use Rattle.lg_text.specs.Texts.{page_text};
 ghost use Rattle.lg_run.specs.Documents.{DocumentIs, no_knowledge};
 
@@ -14,21 +14,25 @@ use std::alloc::Global;
 
 /// What is written of the sentence: the first page of its candidates, or the line that says that it has too many words
 /// or too many choices.
-pub(crate) fn document(alloc: Global, dict: &Dict, sentence: &str) -> Result<Vec<u8>, NoMemory>
+pub(crate) fn document(
+    alloc: Global,
+    options: Options,
+    dict: &Dict,
+    sentence: &str,
+) -> Result<Vec<u8>, NoMemory>
     requires { length sentence.now < 2 ^ 32 }
-    ensures { IfOk result (λ text. DocumentIs dict.now sentence.now text.items) }
+    ensures { IfOk result (λ text. DocumentIs options dict.now sentence.now text.items) }
 {
     match Listing::start(alloc, &View::of(alloc, dict), sentence) {
-        Ok(listing) => first_page(alloc, listing),
+        Ok(listing) => first_page(alloc, options, listing),
         Err(AnswerRefusal::Beyond(bound)) => bound_text(alloc, bound),
         Err(AnswerRefusal::NoMemory) => Err(NoMemory),
     }
 }
 
-fn first_page(alloc: Global, listing: Listing) -> Result<Vec<u8>, NoMemory>
-    ensures { IfOk result (λ text. (page : Page) × IsPage no_knowledge listing.candidates listing.position default_options.want default_options.examine page × (text.items ≡ page_text listing.tokens page)) }
+fn first_page(alloc: Global, options: Options, listing: Listing) -> Result<Vec<u8>, NoMemory>
+    ensures { IfOk result (λ text. (page : Page) × IsPage no_knowledge listing.candidates listing.position options.want options.examine page × (text.items ≡ page_text listing.tokens page)) }
 {
-    let options = Options::default();
     let know = no_knowledge(alloc);
     let (listing, page) = listing.page(alloc, &know, options.want, options.examine)?;
     page_text(alloc, listing.tokens(), &page)

@@ -1,6 +1,8 @@
 //! Why the inputs of a command are not had.
 
 use lg_dictread::DictError;
+use lg_knowread::KnowError;
+use lg_script::ScriptError;
 
 /// Why the inputs of a command are not had: want of memory, or a file by its name.
 #[derive(Debug, Drop)]
@@ -9,5 +11,11 @@ pub enum Stop<'a> {
     Unreadable(&'a str),
     TooLong(&'a str),
     /// The dictionary of that name, with the first fault of it or of one of its word files.
-    Refused(&'a str, DictError),
+    Dictionary(&'a str, DictError),
+    /// The knowledge of that name, with its first fault.
+    Knowledge(&'a str, KnowError),
+    /// The script of that name, with its first fault.
+    Script(&'a str, ScriptError),
+    /// The script of that name, with which the edits are more than 100,000.
+    TooManyEdits(&'a str),
 }

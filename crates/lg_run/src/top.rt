@@ -1,22 +1,32 @@
 //! The top call.
-ghost use Rattle.std.specs.Prelude.{◌≡◌, ◌↔◌, ◌++◌, None, OnOk, map, string_bytes};
+ghost use Rattle.std.specs.Prelude.{◌≡◌, ◌↔◌, ◌≤◌, ◌++◌, length, OnOk, map, string_bytes};
 ghost use Rattle.std.specs.Io.KnownBytes.{Appends};
 ghost use Rattle.lg_base.specs.Faults.{Rose};
 ghost use Rattle.lg_base.specs.Sinks.{HasWriteCause};
-ghost use Rattle.lg_run.specs.Words.{task_of};
+ghost use Rattle.lg_session.specs.Legal.{script_views};
+ghost use Rattle.lg_run.specs.Words.{SENTENCE};
+ghost use Rattle.lg_run.specs.Inputs.{OneGiven, RunGiven};
 ghost use Rattle.lg_run.specs.Reads.{AsksInOrder, given_in};
-ghost use Rattle.lg_run.specs.Stops.{dict_status, EndsAs};
-ghost use Rattle.lg_run.specs.Answers.{WhereTold, Unwritten, Caused, Told, AnswersRefused, AnswersAccepted, WritesLine, Finishes, last_line, IsStopped, IsShortGiven};
+ghost use Rattle.lg_run.specs.Written.{HasHaltCause};
+ghost use Rattle.lg_run.specs.Stops.{dict_status, know_status, script_status, EndsAs, EndsWithLine};
+ghost use Rattle.lg_run.specs.Answers.{WhereTold, IsNoTask, Unwritten, Caused, Told, AnswersRefused, AnswersAccepted, WritesLine, Finishes, Documents, last_line, IsStopped, IsGivenInBounds};
 
 use crate::command::command_of;
 use crate::inputs::{Inputs, read_inputs};
 use crate::law::inputs_have_one_verdict;
-use crate::line::dict_line;
+use crate::line::{dict_line, edits_line, know_line, script_line};
+use crate::lister::Lister;
+use crate::outcome::{Halt, put, write_outcome};
 use crate::sentence::document;
 use crate::status::Status;
 use crate::stop::Stop;
-use lg_base::{Files, Sink, SinkFault};
+use lg_answer::Options;
+use lg_base::{Files, NoMemory, Sink, SinkFault};
+use lg_dict::Dict;
 use lg_dictread::{DictError, WordFileError};
+use lg_knowread::{KnowError, Knowledge};
+use lg_script::{ScriptError, Scripts};
+use lg_session::run_sessions;
 use std::alloc::Global;
 use std::thread::Threads;
 
@@ -25,7 +35,7 @@ use std::thread::Threads;
 ///
 /// `words` is the command line without the program's name.
 pub fn run<R: Threads + Sync, F: Files, O: Sink, E: Sink>(
-    _rt: &R,
+    rt: &R,
     alloc: Global,
     words: &[String],
     files: &mut F,
@@ -33,13 +43,13 @@ pub fn run<R: Threads + Sync, F: Files, O: Sink, E: Sink>(
     err: &mut E,
 ) -> Status
     // The words alone decide this, whatever memory is left.
-    ensures usage { result ≡ Status.Usage ↔ (task_of (map string_bytes words.now) ≡ None) }
+    ensures usage { result ≡ Status.Usage ↔ IsNoTask (map string_bytes words.now) }
     ensures reads_nothing { result ≡ Status.Usage → F.asked files.new ≡ F.asked files.old }
 
     // Where the files tell what they hold: what was asked, what comes of the inputs, and what was written.
-    ensures names { WhereTold (F.contents files.old) (task_of (map string_bytes words.now)) (λ inputs.
+    ensures names { WhereTold (F.contents files.old) (map string_bytes words.now) (λ inputs.
         AsksInOrder inputs (F.asked files.old) (F.asked files.new)) }
-    ensures told { WhereTold (F.contents files.old) (task_of (map string_bytes words.now)) (λ inputs.
+    ensures told { WhereTold (F.contents files.old) (map string_bytes words.now) (λ inputs.
         Told inputs (F.asked files.old) (F.asked files.new) (O.written out.old) (O.written out.new) result) }
 
     // A fault has its cause, and nothing is written before all input is accepted.
@@ -47,40 +57,108 @@ pub fn run<R: Threads + Sync, F: Files, O: Sink, E: Sink>(
     ensures unwritten { Unwritten result (O.written out.old) (O.written out.new) }
 
     // Without a fault, a text that is refused is told and inputs that are accepted are answered, but for want of memory.
-    ensures refused { WhereTold (F.contents files.old) (task_of (map string_bytes words.now)) (λ inputs.
+    ensures refused { WhereTold (F.contents files.old) (map string_bytes words.now) (λ inputs.
         AnswersRefused inputs (¬ Rose (F.faults files.old) (F.faults files.new)) result) }
-    ensures complete { WhereTold (F.contents files.old) (task_of (map string_bytes words.now)) (λ inputs.
+    ensures complete { WhereTold (F.contents files.old) (map string_bytes words.now) (λ inputs.
         AnswersAccepted inputs (¬ Rose (F.faults files.old) (F.faults files.new)) (¬ Rose (O.faults out.old) (O.faults out.new)) result) }
 
     // Each status has its line.
     ensures line { ¬ Rose (E.faults err.old) (E.faults err.new) →
-        WritesLine (F.contents files.old) (task_of (map string_bytes words.now)) (F.asked files.old) (F.asked files.new) result (E.written err.old) (E.written err.new) }
+        WritesLine (F.contents files.old) (map string_bytes words.now) (F.asked files.old) (F.asked files.new) result (E.written err.old) (E.written err.new) }
 {
     inputs_have_one_verdict();
     let Some(command) = command_of(words) else {
         return fail(err, Status::Usage, USAGE);
     };
     match read_inputs(alloc, files, command) {
-        Ok(inputs) => finish(alloc, &inputs, out, err),
+        Ok(inputs) => finish(rt, alloc, &inputs, out, err),
         Err(stop) => refuse(alloc, err, stop),
     }
 }
 
 // Writes the document of a command that has its inputs in hand.
-fn finish<O: Sink, E: Sink>(alloc: Global, inputs: &Inputs<'_>, out: &mut O, err: &mut E) -> Status
-    requires short { IsShortGiven (given_in inputs.now) }
+fn finish<R: Threads + Sync, O: Sink, E: Sink>(
+    rt: &R,
+    alloc: Global,
+    inputs: &Inputs<'_>,
+    out: &mut O,
+    err: &mut E,
+) -> Status
+    requires bounds { IsGivenInBounds (given_in inputs.now) }
     ensures told { Finishes (given_in inputs.now) result (O.written out.old) (O.written out.new) }
     ensures caused { result ≡ Status.WriteFault → Rose (O.faults out.old) (O.faults out.new) }
     ensures line { ¬ Rose (E.faults err.old) (E.faults err.new) →
         Appends (E.written err.old) (E.written err.new) (last_line result) }
 {
-    let Inputs::One { dict, sentence } = inputs;
-    match document(alloc, dict, sentence) {
-        Ok(text) => match out.put(&text) {
-            Ok(()) => Status::Done,
-            Err(_) => fail(err, Status::WriteFault, OUTPUT),
-        },
-        Err(_) => fail(err, Status::NoMemory, MEMORY),
+    match write_document(rt, alloc, inputs, out) {
+        Ok(()) => Status::Done,
+        Err(Halt::Output) => fail(err, Status::WriteFault, OUTPUT),
+        Err(Halt::Memory) => fail(err, Status::NoMemory, MEMORY),
+    }
+}
+
+// Writes the document of a command.
+fn write_document<R: Threads + Sync, O: Sink>(
+    rt: &R,
+    alloc: Global,
+    inputs: &Inputs<'_>,
+    out: &mut O,
+) -> Result<(), Halt>
+    requires bounds { IsGivenInBounds (given_in inputs.now) }
+    ensures written { Documents (given_in inputs.now) (O.written out.old) (O.written out.new) result }
+    ensures cause { HasHaltCause (O.faults out.old) (O.faults out.new) result }
+{
+    match inputs {
+        Inputs::One {
+            options,
+            dict,
+            sentence,
+        } => write_sentence(alloc, *options, dict, sentence, out),
+        Inputs::Run {
+            options,
+            dict,
+            know,
+            scripts,
+        } => write_sessions(rt, alloc, *options, dict, know, scripts, out),
+    }
+}
+
+// Writes the page of a sentence.
+fn write_sentence<O: Sink>(
+    alloc: Global,
+    options: Options,
+    dict: &Dict,
+    sentence: &str,
+    out: &mut O,
+) -> Result<(), Halt>
+    requires { length sentence.now ≤ SENTENCE }
+    ensures written { Documents (OneGiven options dict.now sentence.now) (O.written out.old) (O.written out.new) result }
+    ensures cause { HasHaltCause (O.faults out.old) (O.faults out.new) result }
+{
+    match document(alloc, options, dict, sentence) {
+        Ok(text) => put(out, &text),
+        Err(NoMemory) => Err(Halt::Memory),
+    }
+}
+
+// Runs the sessions, and writes what they are answered.
+fn write_sessions<R: Threads + Sync, O: Sink>(
+    rt: &R,
+    alloc: Global,
+    options: Options,
+    dict: &Dict,
+    know: &Knowledge,
+    scripts: &Scripts,
+    out: &mut O,
+) -> Result<(), Halt>
+    requires bounds { IsGivenInBounds (RunGiven options dict.now know.now (script_views scripts.now)) }
+    ensures written { Documents (RunGiven options dict.now know.now (script_views scripts.now)) (O.written out.old) (O.written out.new) result }
+    ensures cause { HasHaltCause (O.faults out.old) (O.faults out.new) result }
+{
+    let lister = Lister::new(know, options);
+    match run_sessions(rt, alloc, dict, scripts, &lister) {
+        Ok(outcome) => write_outcome(alloc, scripts, &outcome, out),
+        Err(NoMemory) => Err(Halt::Memory),
     }
 }
 
@@ -116,10 +194,52 @@ fn refuse<E: Sink>(alloc: Global, err: &mut E, stop: Stop<'_>) -> Status
             let _ = put_line(err, b"lgparse: ", name, b" is longer than 67108864 bytes\n");
             Status::BadInput
         }
-        Stop::Refused(name, error) => match dict_line(alloc, name.as_bytes(), &error) {
-            Ok(line) => fail(err, dict_status(&error), &line),
-            Err(_) => fail(err, Status::NoMemory, MEMORY),
-        },
+        Stop::Dictionary(name, error) => {
+            let line = dict_line(alloc, name.as_bytes(), &error);
+            fail_with(err, dict_status(&error), line)
+        }
+        Stop::Knowledge(name, error) => {
+            let line = know_line(alloc, name.as_bytes(), error);
+            fail_with(err, know_status(error), line)
+        }
+        Stop::Script(name, error) => {
+            let line = script_line(alloc, name.as_bytes(), error);
+            fail_with(err, script_status(error), line)
+        }
+        Stop::TooManyEdits(name) => {
+            let line = edits_line(alloc, name.as_bytes());
+            fail_with(err, Status::BadInput, line)
+        }
+    }
+}
+
+// The status, after its line as far as the sink takes it. Where there is no memory for the line that is want of memory.
+fn fail_with<E: Sink>(err: &mut E, status: Status, line: Result<Vec<u8>, NoMemory>) -> Status
+    ensures { EndsWithLine result status line (¬ Rose (E.faults err.old) (E.faults err.new)) (E.written err.old) (E.written err.new) }
+{
+    match line {
+        Ok(line) => fail(err, status, &line),
+        Err(NoMemory) => fail(err, Status::NoMemory, MEMORY),
+    }
+}
+
+fn know_status(error: KnowError) -> Status
+    ensures status { result ≡ know_status error }
+    ensures stopped { IsStopped result }
+{
+    match error {
+        KnowError::NoMemory => Status::NoMemory,
+        _ => Status::BadInput,
+    }
+}
+
+fn script_status(error: ScriptError) -> Status
+    ensures status { result ≡ script_status error }
+    ensures stopped { IsStopped result }
+{
+    match error {
+        ScriptError::NoMemory => Status::NoMemory,
+        _ => Status::BadInput,
     }
 }
 

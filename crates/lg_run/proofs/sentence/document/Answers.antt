@@ -2,7 +2,7 @@ use Rattle.std.proofs.Common.{◌≡◌, ℕ, List, subst}
 use Rattle.lg_gram.specs.declared.listing.Page.{Page}
 use Rattle.lg_dict.specs.Dictionary.{Dictionary}
 use Rattle.lg_answer.specs.declared.refusal.AnswerRefusal.TheVariants.{Beyond}
-use Rattle.lg_answer.specs.Pages.{default_options, IsPage, IsListing, IsBeyond, IsRefused}
+use Rattle.lg_answer.specs.Pages.{IsPage, IsListing, IsBeyond, IsRefused}
 use Rattle.lg_text.specs.Texts.{page_text, bound_line}
 use Rattle.lg_run.specs.Documents.{DocumentIs, listed, beyond, no_knowledge}
 use Rattle.lg_run.proofs.Answered.{of_each}
@@ -13,8 +13,8 @@ pub returns-in-Ok : goal.returns-in-Ok
 returns-in-Ok c =
     let l = c.in-Ok.listing in
     let start : l.position ≡ 0 = c.in-Ok.ensures.first in
-    of_each c.first_page.result (λ text. (page : Page) × IsPage no_knowledge l.candidates l.position default_options.want default_options.examine page × (text.items ≡ page_text l.tokens page)) (λ text. DocumentIs c.args.dict.now c.args.sentence.now text.items)
-    (λ text h. listed l h.0 (subst (λ (d : Dictionary). IsListing d c.args.sentence.now l) c.of.ensures c.in-Ok.ensures.listing) (subst (λ (n : ℕ). IsPage no_knowledge l.candidates n default_options.want default_options.examine h.0) start h.1) h.2)
+    of_each c.first_page.result (λ text. (page : Page) × IsPage no_knowledge l.candidates l.position c.args.options.want c.args.options.examine page × (text.items ≡ page_text l.tokens page)) (λ text. DocumentIs c.args.options c.args.dict.now c.args.sentence.now text.items)
+    (λ text h. listed l h.0 (subst (λ (d : Dictionary). IsListing d c.args.sentence.now l) c.of.ensures c.in-Ok.ensures.listing) (subst (λ (n : ℕ). IsPage no_knowledge l.candidates n c.args.options.want c.args.options.examine h.0) start h.1) h.2)
     c.first_page.ensures
 
 -- the line of the bound
@@ -22,6 +22,6 @@ pub returns-in-Err-Beyond : goal.returns-in-Err-Beyond
 returns-in-Err-Beyond c =
     let b = c.in-Err-Beyond.bound in
     let refused : IsRefused c.of.result c.args.sentence.now (Beyond b) = subst (IsRefused c.of.result c.args.sentence.now) c.in-Err-Beyond.field-0-is c.in-Err-Beyond.ensures.refused in
-    of_each c.bound_text.result (λ text. text.items ≡ bound_line b) (λ text. DocumentIs c.args.dict.now c.args.sentence.now text.items)
+    of_each c.bound_text.result (λ text. text.items ≡ bound_line b) (λ text. DocumentIs c.args.options c.args.dict.now c.args.sentence.now text.items)
     (λ text h. beyond b (subst (λ (d : Dictionary). IsBeyond d c.args.sentence.now b) c.of.ensures refused) h)
     c.bound_text.ensures

@@ -1,0 +1,25 @@
+-- What lists the sentences of a session, and what it holds of a listing.
+use Rattle.std.specs.Prelude.{◌≡◌, ℕ, ◌<◌, ◌^◌, min, length}
+use Rattle.lg_dict.specs.Dictionary.{Dictionary}
+use Rattle.lg_knowread.specs.declared.knowledge.Knowledge.{Knowledge}
+use Rattle.lg_answer.specs.Pages.{IsListing}
+use Rattle.lg_answer.specs.declared.options.Options.{Options}
+use Rattle.lg_session.specs.Engines.{Progress}
+use Rattle.lg_run.specs.Words.{AreInRange}
+use Rattle.lg_run.specs.Documents.{wanted}
+use Rattle.lg_run.specs.declared.lister.Held.{Held}
+
+pub record Lister : Type 0 where
+  pub know : Knowledge
+  pub options : Options
+
+pub record IsLister (l : Lister) : Type 0 where
+  pub few : length l.know.rules < 2 ^ 32
+  pub range : AreInRange l.options
+
+-- what is held is the listing of the sentence, at that place or at its end, and how many candidates are wanted
+pub record StandsFor (options : Options) (held : Held) (dict : Dictionary) (progress : Progress) : Type 0 where
+  pub of_text : IsListing dict progress.text held.listing
+  pub same_tokens : progress.tokens ≡ held.listing.tokens
+  pub position : held.listing.position ≡ min progress.position (length held.listing.candidates)
+  pub want : held.want ≡ wanted options progress.want
