@@ -14,13 +14,12 @@ use Rattle.lg_dictread.specs.Limits.{FILE}
 use Rattle.lg_dictread.specs.Telling.{Answers, AsksFront, IsMissing, OnError, IsCause}
 use Rattle.lg_dictread.specs.Texts.{Meaning, TextAnswer, refuse, DictionaryIs}
 use Rattle.lg_dictread.specs.DictTexts.{entry_meaning, DictionaryOf}
-use Rattle.lg_run.specs.Words.{Task, One}
 use Rattle.lg_run.specs.Lines.{too_long_line, dict_line}
-use Rattle.lg_run.specs.Inputs.{Found, accepted, refused, missing, HasSome, IsOne, FileIs, absent, long, whole, dictionary_from, found_in, DictionaryReads, reads, DictionaryInput, OneGiven, given, InputsAre}
+use Rattle.lg_run.specs.Inputs.{Found, accepted, refused, missing, HasSome, IsOne, FileIs, absent, long, whole, dictionary_from, found_in, DictionaryReads, reads, DictionaryInput}
 use Rattle.lg_run.specs.Reads.{AsksInOrder, Comes, TellsStop, IsFaultOf}
 use Rattle.lg_run.specs.Stops.{dict_status}
 use Rattle.lg_run.specs.declared.status.Status.TheVariants.{BadInput}
-use Rattle.lg_run.proofs.Readings.{one_given, some_given, some_followed, one_followed}
+use Rattle.lg_run.proofs.Readings.{some_followed, one_followed}
 
 -- ---- a file
 
@@ -148,12 +147,5 @@ fault_error before now name asked (errors.DuplicateWord word n m) h = tt
 pub one_dictionary : OneDictionary → (contents : Contents) (name : List ℕ) → IsOne (DictionaryInput contents name)
 one_dictionary law contents name = one_followed (FileIs contents name) (DictionaryReads contents name) (one_file contents name) (one_text law contents name)
 
-pub one_verdict : OneDictionary → (contents : Contents) (task : Task) → IsOne (InputsAre contents task)
-one_verdict law contents (One dictionary sentence) =
-    one_followed (DictionaryInput contents dictionary) (λ dict. given (OneGiven dict sentence)) (one_dictionary law contents dictionary) (λ dict. one_given (OneGiven dict sentence))
-
-pub some_verdict : SomeDictionary → (contents : Contents) (task : Task) → HasSome (InputsAre contents task)
-some_verdict law contents (One dictionary sentence) =
-    some_followed (DictionaryInput contents dictionary) (λ dict. given (OneGiven dict sentence))
-    (some_followed (FileIs contents dictionary) (DictionaryReads contents dictionary) (some_file contents dictionary) (some_text law contents dictionary))
-    (λ dict. some_given (OneGiven dict sentence))
+pub some_dictionary : SomeDictionary → (contents : Contents) (name : List ℕ) → HasSome (DictionaryInput contents name)
+some_dictionary law contents name = some_followed (FileIs contents name) (DictionaryReads contents name) (some_file contents name) (some_text law contents name)

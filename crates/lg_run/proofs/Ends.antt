@@ -7,38 +7,41 @@ use Rattle.lg_base.specs.Sinks.{AppendsFront}
 use Rattle.lg_dictread.specs.declared.dict_error.DictError.{DictError}
 use Rattle.lg_dictread.specs.declared.dict_error.DictError.TheVariants as errors
 use Rattle.lg_dictread.specs.declared.dict_error.WordFileError.TheVariants as causes
-use Rattle.lg_run.specs.Words.{Task}
+use Rattle.lg_knowread.specs.declared.fault.KnowError.{KnowError}
+use Rattle.lg_knowread.specs.declared.fault.KnowError.TheVariants as know_errors
+use Rattle.lg_script.specs.declared.script_error.ScriptError.{ScriptError}
+use Rattle.lg_script.specs.declared.script_error.ScriptError.TheVariants as script_errors
+use Rattle.lg_run.specs.Words.{Task, TaskIs}
 use Rattle.lg_run.specs.Inputs.{Found, Reading, accepted, refused, IsOne, Given, InputsAre}
-use Rattle.lg_run.specs.Lines.{memory_line, dict_line}
-use Rattle.lg_run.specs.Stops.{dict_status, stop_status, stop_line, EndsAs}
+use Rattle.lg_run.specs.Lines.{memory_line, dict_line, know_line, script_line}
+use Rattle.lg_run.specs.Stops.{dict_status, know_status, script_status, stop_status, stop_line, EndsAs}
 use Rattle.lg_run.specs.Reads.{AsksInOrder, Comes, TellsStop, IsFaultOf}
-use Rattle.lg_run.specs.Answers.{WhereTold, Caused, Told, AnswersRefused, AnswersAccepted, IsRefusal, HasLine, WritesLine, Finishes, last_line, IsStopped}
+use Rattle.lg_run.specs.Answers.{WhereTold, IsNoTask, Caused, Told, AnswersRefused, AnswersAccepted, IsRefusal, too_long, dictionary, knowledge, script, too_many_edits, HasLine, WritesLine, Finishes, last_line, IsStopped}
 use Rattle.lg_run.specs.declared.stop.Stop.{Stop}
-use Rattle.lg_run.specs.declared.stop.Stop.TheVariants.{Memory, Unreadable, TooLong, Refused}
+use Rattle.lg_run.specs.declared.stop.Stop.TheVariants.{Memory, Unreadable, TooLong, Dictionary, Knowledge, Script, TooManyEdits}
 use Rattle.lg_run.specs.declared.status.Status.{Status}
 use Rattle.lg_run.specs.declared.status.Status.TheVariants.{Done, BadInput, Usage, ReadFault, WriteFault, NoMemory}
 
 -- ---- where something is told or not
 
--- what holds of the inputs of a task that is the command's
-pub told_of : (contents : Option Contents) (task : Task) (wanted : Option Task) (Holds : Reading Given → Type 0) → Some task ≡ wanted → IfSome contents (λ known. Holds (InputsAre known task)) → WhereTold contents wanted Holds
-told_of contents task wanted Holds same h = subst (λ (t : Option Task). WhereTold contents t Holds) same (of_some contents h) where
-  of_some : (contents : Option Contents) → IfSome contents (λ known. Holds (InputsAre known task)) → WhereTold contents (Some task) Holds
-  of_some None k = tt
-  of_some (Some known) k = k
+-- what the law of words says
+abbrev pub OneTask : Type 0
+OneTask = (words : List (List ℕ)) (t u : Task) → TaskIs words t → TaskIs words u → t ≡ u
+
+-- what holds of the inputs of the command's task
+pub told_of : OneTask → (contents : Option Contents) (task : Task) (words : List (List ℕ)) (Holds : Reading Given → Type 0) → TaskIs words task → IfSome contents (λ known. Holds (InputsAre known task)) → WhereTold contents words Holds
+told_of one None task words Holds is h = tt
+told_of one (Some known) task words Holds is h = λ other that. subst (λ (t : Task). Holds (InputsAre known t)) (one words task other is that) h
 
 -- where the words are not in form nothing is told
-pub untold : (contents : Option Contents) (wanted : Option Task) (Holds : Reading Given → Type 0) → None ≡ wanted → WhereTold contents wanted Holds
-untold contents wanted Holds same = subst (λ (t : Option Task). WhereTold contents t Holds) same (of_none contents) where
-  of_none : (contents : Option Contents) → WhereTold contents None Holds
-  of_none None = tt
-  of_none (Some known) = tt
+pub untold : (contents : Option Contents) (words : List (List ℕ)) (Holds : Reading Given → Type 0) → IsNoTask words → WhereTold contents words Holds
+untold None words Holds none = tt
+untold (Some known) words Holds none = λ task is. absurd (none task is)
 
-pub told_map : (contents : Option Contents) (task : Option Task) (Holds More : Reading Given → Type 0) →
-    ((known : Contents) (t : Task) → Holds (InputsAre known t) → More (InputsAre known t)) → WhereTold contents task Holds → WhereTold contents task More
-told_map None task Holds More leads h = tt
-told_map (Some known) None Holds More leads h = tt
-told_map (Some known) (Some t) Holds More leads h = leads known t h
+pub told_map : (contents : Option Contents) (words : List (List ℕ)) (Holds More : Reading Given → Type 0) →
+    ((known : Contents) (t : Task) → Holds (InputsAre known t) → More (InputsAre known t)) → WhereTold contents words Holds → WhereTold contents words More
+told_map None words Holds More leads h = tt
+told_map (Some known) words Holds More leads h = λ t is. leads known t (h t is)
 
 -- ---- what is written
 
@@ -47,19 +50,20 @@ module _ (inputs : Reading Given) (old new : List (List ℕ)) (before after : Op
   pub finished : (g : Given) (status : Status) → Comes inputs old new (accepted g) → Finishes g status before after → Told inputs old new before after status
   finished g Done h f = record { given = g; read = h; document = f.0; is = f.1; grown = f.2 }
   finished g WriteFault h f = record { given = g; read = h; document = f.0; is = f.1; grown = f.2 }
-  finished g NoMemory h f = tt
+  finished g NoMemory h (inl same) = inl same
+  finished g NoMemory h (inr f) = inr (record { given = g; read = h; document = f.0; is = f.1; grown = f.2 })
   finished g ReadFault h f = absurd f
   finished g BadInput h f = absurd f
   finished g Usage h f = absurd f
 
   -- a command whose inputs are not had ends so
-  pub stopped : (status : Status) (line : List ℕ) → IsStopped status → TellsStop inputs old new status line → Told inputs old new before after status
-  stopped BadInput line is h = (line, h)
-  stopped ReadFault line is h = tt
-  stopped NoMemory line is h = tt
-  stopped Done line is h = absurd is
-  stopped Usage line is h = absurd is
-  stopped WriteFault line is h = absurd is
+  pub stopped : Keeps before after → (status : Status) (line : List ℕ) → IsStopped status → TellsStop inputs old new status line → Told inputs old new before after status
+  stopped same BadInput line is h = (line, h)
+  stopped same ReadFault line is h = tt
+  stopped same NoMemory line is h = inl same
+  stopped same Done line is h = absurd is
+  stopped same Usage line is h = absurd is
+  stopped same WriteFault line is h = absurd is
 
   module _ (one : IsOne inputs) (files_before files_now out_before out_now : ℕ) where
     clash : (g : Given) (line : List ℕ) → ◌≡◌ {A = Found Given} (accepted g) (refused line) → ⊥
@@ -103,22 +107,43 @@ memory_said name (errors.TooManyChoices line n) h = cc
 memory_said name (errors.SideTooLong line n) h = cc
 memory_said name (errors.DuplicateWord word n m) h = cc
 
+know_said : (name : List ℕ) (error : KnowError) → know_status error ≡ NoMemory → know_line name error ≡ memory_line
+know_said name know_errors.NoMemory h = refl
+know_said name (know_errors.NotUtf8 n) h = cc
+know_said name (know_errors.Syntax line column) h = cc
+know_said name (know_errors.UnknownSection line) h = cc
+know_said name (know_errors.BadPattern line) h = cc
+know_said name (know_errors.BadType line) h = cc
+
+script_said : (name : List ℕ) (error : ScriptError) → script_status error ≡ NoMemory → script_line name error ≡ memory_line
+script_said name script_errors.NoMemory h = refl
+script_said name (script_errors.NotUtf8 n) h = cc
+script_said name (script_errors.UnknownCommand line) h = cc
+script_said name (script_errors.BadNumber line) h = cc
+script_said name (script_errors.BadEdit line) h = cc
+
 stop_said : (stop : Stop) → stop_status stop ≡ NoMemory → stop_line stop ≡ memory_line
 stop_said Memory h = refl
 stop_said (Unreadable name) h = cc
 stop_said (TooLong name) h = cc
-stop_said (Refused name error) h = memory_said name.now error h
+stop_said (Dictionary name error) h = memory_said name.now error h
+stop_said (Knowledge name error) h = know_said name.now error h
+stop_said (Script name error) h = script_said name.now error h
+stop_said (TooManyEdits name) h = cc
 
 stop_refuses : (stop : Stop) → stop_status stop ≡ BadInput → IsRefusal (stop_line stop)
 stop_refuses Memory h = cc
 stop_refuses (Unreadable name) h = cc
-stop_refuses (TooLong name) h = (name.now, inl refl)
-stop_refuses (Refused name error) h = (name.now, inr (error, refl))
+stop_refuses (TooLong name) h = too_long name.now
+stop_refuses (Dictionary name error) h = dictionary name.now error
+stop_refuses (Knowledge name error) h = knowledge name.now error
+stop_refuses (Script name error) h = script name.now error
+stop_refuses (TooManyEdits name) h = too_many_edits name.now
 
-module _ (contents : Option Contents) (task : Option Task) (old new : List (List ℕ)) (before now : ℕ) where
+module _ (contents : Option Contents) (words : List (List ℕ)) (old new : List (List ℕ)) (before now : ℕ) where
   -- the line of a stop, by its status
   stop_fits : (status : Status) (line : List ℕ) → IsStopped status → (status ≡ NoMemory → line ≡ memory_line) → (status ≡ BadInput → IsRefusal line) →
-      IsFaultOf new before now status line → WhereTold contents task (λ inputs. TellsStop inputs old new status line) → HasLine contents task old new status line
+      IsFaultOf new before now status line → WhereTold contents words (λ inputs. TellsStop inputs old new status line) → HasLine contents words old new status line
   stop_fits BadInput line is memory refuses fault told = (refuses refl, told)
   stop_fits ReadFault line is memory refuses fault told = fault.1
   stop_fits NoMemory line is memory refuses fault told = memory refl
@@ -127,21 +152,21 @@ module _ (contents : Option Contents) (task : Option Task) (old new : List (List
   stop_fits WriteFault line is memory refuses fault told = absurd is
 
   pub stop_written : (stop : Stop) (status : Status) (so : Type 0) (err_old err_new : Option (List ℕ)) → IsStopped status → EndsAs stop status so err_old err_new →
-      IsFaultOf new before now (stop_status stop) (stop_line stop) → WhereTold contents task (λ inputs. TellsStop inputs old new (stop_status stop) (stop_line stop)) →
-      so → WritesLine contents task old new status err_old err_new
+      IsFaultOf new before now (stop_status stop) (stop_line stop) → WhereTold contents words (λ inputs. TellsStop inputs old new (stop_status stop) (stop_line stop)) →
+      so → WritesLine contents words old new status err_old err_new
   stop_written stop status so err_old err_new is (inl says) fault told holds = record {
     line = stop_line stop;
-    fits = subst (λ (s : Status). HasLine contents task old new s (stop_line stop)) (sym says.same)
+    fits = subst (λ (s : Status). HasLine contents words old new s (stop_line stop)) (sym says.same)
         (stop_fits (stop_status stop) (stop_line stop) (subst IsStopped says.same is) (stop_said stop) (stop_refuses stop) fault told);
     grown = says.written holds;
   }
   stop_written stop status so err_old err_new is (inr says) fault told holds = record {
     line = memory_line;
-    fits = subst (λ (s : Status). HasLine contents task old new s memory_line) (sym says.same) refl;
+    fits = subst (λ (s : Status). HasLine contents words old new s memory_line) (sym says.same) refl;
     grown = says.written holds;
   }
 
-  pub last_written : (g : Given) (status : Status) (out_old out_new err_old err_new : Option (List ℕ)) → Finishes g status out_old out_new → Appends err_old err_new (last_line status) → WritesLine contents task old new status err_old err_new
+  pub last_written : (g : Given) (status : Status) (out_old out_new err_old err_new : Option (List ℕ)) → Finishes g status out_old out_new → Appends err_old err_new (last_line status) → WritesLine contents words old new status err_old err_new
   last_written g Done out_old out_new err_old err_new f grown = record { line = []; fits = refl; grown = grown }
   last_written g WriteFault out_old out_new err_old err_new f grown = record { line = last_line WriteFault; fits = refl; grown = grown }
   last_written g NoMemory out_old out_new err_old err_new f grown = record { line = memory_line; fits = refl; grown = grown }

@@ -1,5 +1,7 @@
 pub mod Answered
-pub mod Commands
 pub mod Readings
 pub mod Dictionaries
 pub mod Ends
+pub mod Verdicts
+pub mod Told
+pub mod Givens

@@ -1,0 +1,56 @@
+-- What is told of a text that names no further file.
+use Rattle.std.proofs.Common.{◌≡◌, ◌≤◌, ◌<◌, ℕ, List, [], ◌∷◌, map, true, false, nat_lt, count_by, if◌then◌else◌, Result, Ok, Err, MatchResult, IfOk, refl, sym, ap, subst}
+use Rattle.std.proofs.lemmas.Bool.{lt-ltb, le-ltb}
+use Rattle.std.proofs.lemmas.List.{append-nil}
+use Rattle.lg_knowread.specs.declared.fault.KnowError.{KnowError}
+use Rattle.lg_knowread.specs.declared.fault.KnowError.TheVariants as know_errors
+use Rattle.lg_knowread.specs.declared.knowledge.Knowledge.{Knowledge}
+use Rattle.lg_knowread.specs.Reading.{KnowledgeIs, TellsKnowledge}
+use Rattle.lg_script.specs.declared.script_error.ScriptError.{ScriptError}
+use Rattle.lg_script.specs.declared.script_error.ScriptError.TheVariants as script_errors
+use Rattle.lg_script.specs.Commands.{CommandView}
+use Rattle.lg_script.specs.Scripts.{ScriptIs}
+use Rattle.lg_run.specs.Inputs.{Found, Reading, accepted, refused, EDITS, is_edit, found_knowledge, KnowledgeReads, reads_knowledge, found_script, ScriptReads, reads_script}
+use Rattle.lg_run.specs.Lines.{know_line, script_line, edits_line}
+use Rattle.lg_run.specs.Reads.{Comes, TellsStop}
+use Rattle.lg_run.specs.Stops.{know_status, script_status}
+
+-- nothing was asked for
+pub comes_at_once : {A : Type 0} (reading : Reading A) (found : Found A) → reading [] found → (asked : List (List ℕ)) → Comes reading asked asked found
+comes_at_once reading found h asked = record { names = []; read = h; grown = sym (append-nil asked) }
+
+module _ (name bytes : List ℕ) where
+  refused_know : (error : KnowError) → KnowledgeIs bytes (Err error) → (asked : List (List ℕ)) → Comes (KnowledgeReads name bytes) asked asked (refused (know_line name error))
+  refused_know error h asked = comes_at_once (KnowledgeReads name bytes) (refused (know_line name error)) (reads_knowledge (Err error) h) asked
+
+  pub told_know : (error : KnowError) → TellsKnowledge bytes (Err error) → (asked : List (List ℕ)) → TellsStop (KnowledgeReads name bytes) asked asked (know_status error) (know_line name error)
+  told_know know_errors.NoMemory h asked = tt
+  told_know (know_errors.NotUtf8 n) h asked = refused_know (know_errors.NotUtf8 n) h asked
+  told_know (know_errors.Syntax line column) h asked = refused_know (know_errors.Syntax line column) h asked
+  told_know (know_errors.UnknownSection line) h asked = refused_know (know_errors.UnknownSection line) h asked
+  told_know (know_errors.BadPattern line) h asked = refused_know (know_errors.BadPattern line) h asked
+  told_know (know_errors.BadType line) h asked = refused_know (know_errors.BadType line) h asked
+
+  refused_script : (error : ScriptError) → ScriptIs bytes (Err error) → (asked : List (List ℕ)) → Comes (ScriptReads name bytes) asked asked (refused (script_line name error))
+  refused_script error h asked = comes_at_once (ScriptReads name bytes) (refused (script_line name error)) (reads_script (Err error) h) asked
+
+  -- what the reader of scripts says of an error
+  abbrev pub SaysScript : ScriptError → Type 0
+  SaysScript script_errors.NoMemory = Unit {0}
+  SaysScript error = ScriptIs bytes (Err error)
+
+  pub told_script : (error : ScriptError) → SaysScript error → (asked : List (List ℕ)) → TellsStop (ScriptReads name bytes) asked asked (script_status error) (script_line name error)
+  told_script script_errors.NoMemory h asked = tt
+  told_script (script_errors.NotUtf8 n) h asked = refused_script (script_errors.NotUtf8 n) h asked
+  told_script (script_errors.UnknownCommand line) h asked = refused_script (script_errors.UnknownCommand line) h asked
+  told_script (script_errors.BadNumber line) h asked = refused_script (script_errors.BadNumber line) h asked
+  told_script (script_errors.BadEdit line) h asked = refused_script (script_errors.BadEdit line) h asked
+
+  module _ (commands : List CommandView) (is : ScriptIs bytes (Ok commands)) (asked : List (List ℕ)) where
+    pub few_edits : count_by is_edit commands ≤ EDITS → Comes (ScriptReads name bytes) asked asked (accepted commands)
+    few_edits few = comes_at_once (ScriptReads name bytes) (accepted commands)
+        (subst (λ (f : Found (List CommandView)). ScriptReads name bytes [] f) (ap (λ b. if b then refused (edits_line name) else accepted commands) (le-ltb EDITS (count_by is_edit commands) few)) (reads_script (Ok commands) is)) asked
+
+    pub many_edits : EDITS < count_by is_edit commands → Comes (ScriptReads name bytes) asked asked (refused (edits_line name))
+    many_edits many = comes_at_once (ScriptReads name bytes) (refused (edits_line name))
+        (subst (λ (f : Found (List CommandView)). ScriptReads name bytes [] f) (ap (λ b. if b then refused (edits_line name) else accepted commands) (lt-ltb EDITS (count_by is_edit commands) many)) (reads_script (Ok commands) is)) asked
