@@ -1,5 +1,7 @@
 pub mod Statuses
+pub mod Numbers
 pub mod Words
+pub mod Settings
 pub mod Commands
 pub mod Lines
 pub mod Inputs

@@ -35,7 +35,10 @@ pub fn read_inputs<'a, F: Files>(
         Command::One {
             dictionary,
             sentence,
+            ..
         } => inputs_of_one(alloc, files, dictionary, sentence),
+        // TODO: the inputs of `run` are not read yet.
+        Command::Run { .. } => Err(Stop::Memory),
     }
 }
 

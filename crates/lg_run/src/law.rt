@@ -1,6 +1,7 @@
-//! A law of the inputs.
+//! Laws of the words and of the inputs.
+ghost use Rattle.std.specs.Prelude.{◌≡◌, ℕ, List};
 ghost use Rattle.lg_base.specs.Contents.{Contents};
-ghost use Rattle.lg_run.specs.Words.{Task};
+ghost use Rattle.lg_run.specs.Words.{Task, TaskIs};
 ghost use Rattle.lg_run.specs.Inputs.{InputsAre, HasSome, IsOne};
 
 use lg_dictread::exactly_one_dictionary;
@@ -12,4 +13,10 @@ pub fn inputs_have_one_verdict()
     ensures one { (contents : Contents) (task : Task) → IsOne (InputsAre contents task) }
 {
     exactly_one_dictionary();
+}
+
+/// Words are one task at most. The function does nothing: a caller whose proof needs the fact calls it.
+pub fn words_have_one_task()
+    ensures { (words : List (List ℕ)) (x y : Task) → TaskIs words x → TaskIs words y → x ≡ y }
+{
 }

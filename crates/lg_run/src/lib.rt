@@ -5,12 +5,14 @@ mod command;
 mod inputs;
 pub mod law;
 mod line;
+mod number;
+mod options;
 mod sentence;
 mod status;
 mod stop;
 mod top;
 
-pub use law::inputs_have_one_verdict;
+pub use law::{inputs_have_one_verdict, words_have_one_task};
 pub use status::Status;
 pub use top::run;
 
