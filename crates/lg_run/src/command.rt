@@ -7,7 +7,7 @@ use crate::options::options_of;
 use lg_answer::Options;
 
 /// What the words ask for.
-#[derive(Clone, Copy, Debug)]
+#[derive(Clone, Copy, Debug, PartialEq, Eq)]
 pub enum Command<'a> {
     /// The linkages of one sentence.
     One {
