@@ -1,5 +1,5 @@
 -- Words by their last ones, and the task that they are.
-use Rattle.std.proofs.Common.{◌≡◌, ◌≢◌, ℕ, suc, Bool, true, false, ◌<◌, ◌≤◌, ◌+◌, ◌-◌, List, [], ◌∷◌, ◌++◌, length, get_or, take, drop, map, codes, IsTrue, Option, None, Some, MatchOption, IfSome, refl, sym, ap, subst, ◌∙◌, arith, append_assoc, drop-cons, length-append}
+use Rattle.std.proofs.Common.{◌≡◌, ℕ, suc, Bool, true, false, ◌≤◌, ◌-◌, List, [], ◌∷◌, ◌++◌, length, get_or, take, drop, map, codes, IsTrue, Option, None, Some, MatchOption, IfSome, refl, sym, ap, subst, ◌∙◌, arith, append_assoc, drop-cons}
 use Rattle.std.proofs.lemmas.List.{take-append-drop, map-append}
 use Rattle.std.proofs.Math.Seq.{drop-length}
 use Rattle.std.specs.List.{AllByRecursion}
@@ -25,7 +25,7 @@ module _ {X Y : Type 0} (f : X → Y) (xs : List X) where
   last_two x y long first second =
       let n = length xs in
       let ends : drop (n - 2) xs ≡ x ∷ y ∷ [] = cut_behind xs (n - 2) (n - 1) x (omega arith) (omega arith) first
-          ∙ ap (λ (r : List X). x ∷ r) (cut_behind xs (n - 1) n y (omega arith) (omega arith) second ∙ ap (λ (r : List X). y ∷ r) (drop-length xs)) in
+      ∙ ap (λ (r : List X). x ∷ r) (cut_behind xs (n - 1) n y (omega arith) (omega arith) second ∙ ap (λ (r : List X). y ∷ r) (drop-length xs)) in
       from_ends (n - 2) (x ∷ y ∷ []) ends
 
   pub last_three : (x y z : X) → 3 ≤ length xs → x ≡ get_or xs (length xs - 3) x → y ≡ get_or xs (length xs - 2) y → z ≡ get_or xs (length xs - 1) z
@@ -33,8 +33,8 @@ module _ {X Y : Type 0} (f : X → Y) (xs : List X) where
   last_three x y z long first second third =
       let n = length xs in
       let ends : drop (n - 3) xs ≡ x ∷ y ∷ z ∷ [] = cut_behind xs (n - 3) (n - 2) x (omega arith) (omega arith) first
-          ∙ ap (λ (r : List X). x ∷ r) (cut_behind xs (n - 2) (n - 1) y (omega arith) (omega arith) second
-          ∙ ap (λ (r : List X). y ∷ r) (cut_behind xs (n - 1) n z (omega arith) (omega arith) third ∙ ap (λ (r : List X). z ∷ r) (drop-length xs))) in
+      ∙ ap (λ (r : List X). x ∷ r) (cut_behind xs (n - 2) (n - 1) y (omega arith) (omega arith) second
+      ∙ ap (λ (r : List X). y ∷ r) (cut_behind xs (n - 1) n z (omega arith) (omega arith) third ∙ ap (λ (r : List X). z ∷ r) (drop-length xs))) in
       from_ends (n - 3) (x ∷ y ∷ z ∷ []) ends
 
 -- lists that end alike are the same in front

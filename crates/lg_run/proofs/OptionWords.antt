@@ -1,6 +1,5 @@
 -- Words that begin with options.
-use Rattle.std.proofs.Common.{◌≡◌, ◌≢◌, ℕ, suc, ◌<◌, ◌+◌, Bool, true, false, not, ◌&&◌, nat_eq, ◌==◌, List, [], map, ◌∷◌, ◌++◌, length, get_or, codes, Option, None, Some, unwrap_or, MatchOption, Bor, ◌↔◌, refl, sym, ap, subst, ◌∙◌, arith}
-use Rattle.std.specs.List.{AllByRecursion}
+use Rattle.std.proofs.Common.{◌≡◌, ◌≢◌, ℕ, suc, ◌<◌, Bool, true, false, not, ◌&&◌, nat_eq, ◌==◌, List, [], map, ◌∷◌, ◌++◌, length, get_or, Option, None, Some, unwrap_or, MatchOption, Bor, ◌↔◌, refl, sym, ap, subst, ◌∙◌, arith}
 use Rattle.std.proofs.lemmas.Bool.{and_parts}
 use Rattle.std.proofs.lemmas.Bool.Decides.{nat_tests}
 use Rattle.std.proofs.lemmas.Str.Pattern.{IsSplitOnceResult, split_parts}

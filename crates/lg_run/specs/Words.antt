@@ -1,5 +1,5 @@
 -- The form of the words of the command line: `one` or `run`, then options, then operands.
-use Rattle.std.specs.Prelude.{◌≡◌, ℕ, ◌≤◌, Bool, false, not, IsTrue, List, [], ◌∷◌, ◌++◌, codes, nat_eq, length, ⊤}
+use Rattle.std.specs.Prelude.{ℕ, ◌≤◌, Bool, false, not, IsTrue, List, [], ◌∷◌, ◌++◌, codes, nat_eq, length, ⊤}
 use Rattle.lg_answer.specs.Pages.{default_options}
 use Rattle.lg_answer.specs.declared.options.Options.{Options}
 use Rattle.lg_run.specs.Numbers.{IsNumber}

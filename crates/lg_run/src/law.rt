@@ -18,5 +18,4 @@ pub fn inputs_have_one_verdict()
 /// Words are one task at most. The function does nothing: a caller whose proof needs the fact calls it.
 pub fn words_have_one_task()
     ensures { (words : List (List ℕ)) (x y : Task) → TaskIs words x → TaskIs words y → x ≡ y }
-{
-}
+{}

@@ -11,9 +11,9 @@ returns-then-not-is_operand c =
     let ends = last_two string_bytes c.args.words.now c.dictionary-item.result c.sentence-item.result c.in-len2-up.len_at_least c.dictionary-item.is c.sentence-item.is in
     no_one _ _ _ _ ends
     (λ options are d s short. elim c.then-not-is_operand.branch [
-      then-not-is_operand-via-then-not-is_operand w ↦ not_both _ (rw c.deref.ensures at w.if-not-is_operand.ensures) d
-    | then-not-is_operand-via-else-not-is_operand+then-not-is_operand-2 w ↦ not_both _ (rw w.deref-else-not-is_operand.ensures at w.if-not-is_operand-2.ensures) s
-    | then-not-is_operand-via-else-not-is_operand+else-not-is_operand-2+then-len-gt-SENTENCE w ↦ let long = w.if-len-gt-SENTENCE.true in let counted = w.len.ensures in absurd (omega arith)
+      | then-not-is_operand-via-then-not-is_operand w ↦ not_both _ (rw c.deref.ensures at w.if-not-is_operand.ensures) d
+      | then-not-is_operand-via-else-not-is_operand+then-not-is_operand-2 w ↦ not_both _ (rw w.deref-else-not-is_operand.ensures at w.if-not-is_operand-2.ensures) s
+      | then-not-is_operand-via-else-not-is_operand+else-not-is_operand-2+then-len-gt-SENTENCE w ↦ let long = w.if-len-gt-SENTENCE.true in let counted = w.len.ensures in absurd (omega arith)
     ])
 
 -- words that are no options

@@ -11,9 +11,9 @@ returns-then-not-is_operand c =
     let ends = last_three string_bytes c.args.words.now c.dictionary-item.result c.knowledge-item.result c.script-item.result c.in-len3-up.len_at_least c.dictionary-item.is c.knowledge-item.is c.script-item.is in
     no_run _ _ _ _ _ ends
     (λ options are d k s. elim c.then-not-is_operand.branch [
-      then-not-is_operand-via-then-not-is_operand w ↦ not_both _ (rw c.deref.ensures at w.if-not-is_operand.ensures) d
-    | then-not-is_operand-via-else-not-is_operand+then-not-is_operand-2 w ↦ not_both _ (rw w.deref-else-not-is_operand.ensures at w.if-not-is_operand-2.ensures) k
-    | then-not-is_operand-via-else-not-is_operand+else-not-is_operand-2+then-not-is_operand-3 w ↦ not_both _ (rw w.deref-else-not-is_operand-2.ensures at w.if-not-is_operand-3.ensures) s
+      | then-not-is_operand-via-then-not-is_operand w ↦ not_both _ (rw c.deref.ensures at w.if-not-is_operand.ensures) d
+      | then-not-is_operand-via-else-not-is_operand+then-not-is_operand-2 w ↦ not_both _ (rw w.deref-else-not-is_operand.ensures at w.if-not-is_operand-2.ensures) k
+      | then-not-is_operand-via-else-not-is_operand+else-not-is_operand-2+then-not-is_operand-3 w ↦ not_both _ (rw w.deref-else-not-is_operand-2.ensures at w.if-not-is_operand-3.ensures) s
     ])
 
 -- words that are no options

@@ -1,4 +1,3 @@
-use Rattle.std.proofs.Common.{refl}
 use Rattle.lg_run.proofs.OptionWords.{of_none, name_begins, begins_option, same_name}
 use Rattle.lg_run.proofs.options.first_option.Goals as goal
 

@@ -1,6 +1,6 @@
 use Rattle.std.proofs.Common.{◌≡◌, [], ◌∷◌, map, string_bytes, None, Some}
 use Rattle.std.proofs.lemmas.List.{nil_from_length}
-use Rattle.lg_run.specs.Settings.{IsPlain, Begins, apart, joined}
+use Rattle.lg_run.specs.Settings.{IsPlain, apart, joined}
 use Rattle.lg_run.proofs.OptionWords.{cut_of, of_none, ends_early}
 use Rattle.lg_run.proofs.options.name_and_value.Goals as goal
 
@@ -10,7 +10,7 @@ returns-in_err-value-in-None c =
     let word = c.deref.result.now in
     let plain : IsPlain word = cut_of word None c.in-None.ensures.cases in
     let alone : map string_bytes c.args.words.now ≡ word ∷ [] =
-        rw (c.in_ok-word.ensures.cases.0, nil_from_length c.in_ok-word.rest.now c.in_err-value-in-None.ensures.cases, c.deref.ensures) in
+    rw (c.in_ok-word.ensures.cases.0, nil_from_length c.in_ok-word.rest.now c.in_err-value-in-None.ensures.cases, c.deref.ensures) in
     of_none _ _ _ c.from_residual-in_err-value-in-None.ensures
     (λ name value behind h. ends_early word plain name value behind _ h alone)
 
