@@ -1,4 +1,6 @@
 pub mod Answered
+pub mod OptionWords
+pub mod OneTask
 pub mod Readings
 pub mod Dictionaries
 pub mod Ends

@@ -1,5 +1,6 @@
 pub mod Statuses
 pub mod Words
+pub mod Settings
 pub mod Commands
 pub mod Lines
 pub mod Inputs

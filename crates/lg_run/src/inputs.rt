@@ -4,7 +4,7 @@ ghost use Rattle.lg_dictread.specs.Limits.{FILE};
 ghost use Rattle.lg_script.specs.Bounds.{AreInBounds};
 ghost use Rattle.lg_script.specs.Commands.{command_view};
 ghost use Rattle.lg_run.specs.Commands.{task};
-ghost use Rattle.lg_run.specs.Words.{One, Run, IsInRange, AreInRange, SENTENCE};
+ghost use Rattle.lg_run.specs.Words.{One, Run, IsShort, options_in, AreInRange, SENTENCE};
 ghost use Rattle.lg_run.specs.Inputs.{FileIs, DictionaryReads, DictionaryInput, KnowledgeGiven, ScriptGiven, RunGiven, InputsAre};
 ghost use Rattle.lg_run.specs.Reads.{AsksInOrder, Tells, HasCause, given_in};
 ghost use Rattle.lg_run.specs.Answers.{IsGivenInBounds};
@@ -43,7 +43,8 @@ pub fn read_inputs<'a, F: Files>(
     files: &mut F,
     command: Command<'a>,
 ) -> Result<Inputs<'a>, Stop<'a>>
-    requires { IsInRange (task command) }
+    requires short { IsShort (task command) }
+    requires range { AreInRange (options_in (task command)) }
     ensures names { IfSome (F.contents files.old) (λ known. AsksInOrder (InputsAre known (task command.entry)) (F.asked files.old) (F.asked files.new)) }
     ensures told { IfSome (F.contents files.old) (λ known. Tells given_in (InputsAre known (task command.entry)) (F.asked files.old) (F.asked files.new) result) }
     ensures bounds { IfOk result (λ inputs. IsGivenInBounds (given_in inputs)) }

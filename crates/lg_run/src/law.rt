@@ -1,6 +1,7 @@
-//! A law of the inputs.
+//! Laws of the words and of the inputs.
+ghost use Rattle.std.specs.Prelude.{◌≡◌, ℕ, List};
 ghost use Rattle.lg_base.specs.Contents.{Contents};
-ghost use Rattle.lg_run.specs.Words.{Task};
+ghost use Rattle.lg_run.specs.Words.{Task, TaskIs};
 ghost use Rattle.lg_run.specs.Inputs.{InputsAre, HasSome, IsOne};
 
 use lg_dictread::exactly_one_dictionary;
@@ -17,3 +18,8 @@ pub fn inputs_have_one_verdict()
     exactly_one_knowledge();
     exactly_one_script();
 }
+
+/// Words are one task at most. The function does nothing: a caller whose proof needs the fact calls it.
+pub fn words_have_one_task()
+    ensures { (words : List (List ℕ)) (x y : Task) → TaskIs words x → TaskIs words y → x ≡ y }
+{}

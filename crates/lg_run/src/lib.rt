@@ -7,6 +7,7 @@ mod knowledge;
 pub mod law;
 mod line;
 mod lister;
+mod options;
 mod outcome;
 mod script;
 mod sentence;
@@ -14,7 +15,7 @@ mod status;
 mod stop;
 mod top;
 
-pub use law::inputs_have_one_verdict;
+pub use law::{inputs_have_one_verdict, words_have_one_task};
 pub use status::Status;
 pub use top::run;
 

@@ -4,6 +4,7 @@ mod post_processing;
 mod refusals;
 mod rows;
 mod samples;
+mod words;
 
 use super::*;
 use lg_base::{MemFiles, MemSink, Sink};

@@ -13,7 +13,7 @@ ghost use Rattle.lg_run.specs.Answers.{WhereTold, IsNoTask, Unwritten, Caused, T
 
 use crate::command::command_of;
 use crate::inputs::{Inputs, read_inputs};
-use crate::law::inputs_have_one_verdict;
+use crate::law::{inputs_have_one_verdict, words_have_one_task};
 use crate::line::{dict_line, edits_line, know_line, script_line};
 use crate::lister::Lister;
 use crate::outcome::{Halt, put, write_outcome};
@@ -67,6 +67,7 @@ pub fn run<R: Threads + Sync, F: Files, O: Sink, E: Sink>(
         WritesLine (F.contents files.old) (map string_bytes words.now) (F.asked files.old) (F.asked files.new) result (E.written err.old) (E.written err.new) }
 {
     inputs_have_one_verdict();
+    words_have_one_task();
     let Some(command) = command_of(words) else {
         return fail(err, Status::Usage, USAGE);
     };

@@ -16,5 +16,6 @@ mod tests;
 pub use command::Command;
 pub use commands::{Commands, Scripts};
 pub use law::exactly_one_script;
+pub use number::number_of;
 pub use read::read_script;
 pub use script_error::ScriptError;

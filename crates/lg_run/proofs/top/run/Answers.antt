@@ -15,7 +15,7 @@ returns-in-Ok-clause-told g c =
     let new = g.F.Files.asked c.read_inputs.new.files in
     let before = g.O.Sink.written c.args.out.now in
     let after = g.O.Sink.written c.finish.new.out in
-    told_of (g.F.Files.contents c.args.files.now) (task c.in-Some.command) _ (λ inputs. Told inputs old new before after c.finish.result) c.in-Some.ensures.value
+    told_of c.words_have_one_task.ensures (g.F.Files.contents c.args.files.now) (task c.in-Some.command) _ (λ inputs. Told inputs old new before after c.finish.result) c.in-Some.ensures.value
     (IfSome_then (g.F.Files.contents c.args.files.now) c.in-Ok.ensures.told
     (λ known h. finished (InputsAre known (task c.in-Some.command)) old new before after (given_in c.in-Ok.inputs) c.finish.result h c.finish.ensures.told))
 
@@ -27,4 +27,4 @@ returns-in-Err-clause-line g c =
     let stop = c.in-Err.stop in
     stop_written (g.F.Files.contents c.args.files.now) _ old new (g.F.Files.faults c.args.files.now) (g.F.Files.faults c.read_inputs.new.files) stop c.refuse.result _ (g.E.Sink.written c.args.err.now) (g.E.Sink.written c.refuse.new.err)
     c.refuse.ensures.stopped c.refuse.ensures.line c.in-Err.ensures.cause.fault
-    (told_of (g.F.Files.contents c.args.files.now) (task c.in-Some.command) _ (λ inputs. TellsStop inputs old new (stop_status stop) (stop_line stop)) c.in-Some.ensures.value c.in-Err.ensures.told)
+    (told_of c.words_have_one_task.ensures (g.F.Files.contents c.args.files.now) (task c.in-Some.command) _ (λ inputs. TellsStop inputs old new (stop_status stop) (stop_line stop)) c.in-Some.ensures.value c.in-Err.ensures.told)
