@@ -1,9 +1,10 @@
 -- How a run ends, by what was read and how it finishes.
-use Rattle.std.proofs.Common.{◌≡◌, ◌≢◌, ℕ, List, [], ◌⊎◌, inl, inr, Option, None, Some, IfSome, refl, sym, ◌∙◌, subst}
+use Rattle.std.proofs.Common.{◌≡◌, ◌≢◌, ℕ, List, [], ◌⊎◌, inl, inr, Option, None, Some, IfSome, Vec, Result, Ok, Err, IfOk, refl, sym, ◌∙◌, subst}
 use Rattle.std.specs.Io.KnownBytes.{Appends, Keeps}
 use Rattle.lg_base.specs.Contents.{Contents}
 use Rattle.lg_base.specs.Faults.{Rose}
 use Rattle.lg_base.specs.Sinks.{AppendsFront}
+use Rattle.lg_base.specs.declared.memory.NoMemory.{NoMemory as OutOfMemory}
 use Rattle.lg_dictread.specs.declared.dict_error.DictError.{DictError}
 use Rattle.lg_dictread.specs.declared.dict_error.DictError.TheVariants as errors
 use Rattle.lg_dictread.specs.declared.dict_error.WordFileError.TheVariants as causes
@@ -14,7 +15,7 @@ use Rattle.lg_script.specs.declared.script_error.ScriptError.TheVariants as scri
 use Rattle.lg_run.specs.Words.{Task, TaskIs}
 use Rattle.lg_run.specs.Inputs.{Found, Reading, accepted, refused, IsOne, Given, InputsAre}
 use Rattle.lg_run.specs.Lines.{memory_line, dict_line, know_line, script_line}
-use Rattle.lg_run.specs.Stops.{dict_status, know_status, script_status, stop_status, stop_line, EndsAs}
+use Rattle.lg_run.specs.Stops.{dict_status, know_status, script_status, stop_status, stop_line, EndsAs, EndsWithLine}
 use Rattle.lg_run.specs.Reads.{AsksInOrder, Comes, TellsStop, IsFaultOf}
 use Rattle.lg_run.specs.Answers.{WhereTold, IsNoTask, Caused, Told, AnswersRefused, AnswersAccepted, IsRefusal, too_long, dictionary, knowledge, script, too_many_edits, HasLine, WritesLine, Finishes, last_line, IsStopped}
 use Rattle.lg_run.specs.declared.stop.Stop.{Stop}
@@ -173,3 +174,9 @@ module _ (contents : Option Contents) (words : List (List ℕ)) (old new : List 
   last_written g BadInput out_old out_new err_old err_new f grown = absurd f
   last_written g Usage out_old out_new err_old err_new f grown = absurd f
   last_written g ReadFault out_old out_new err_old err_new f grown = absurd f
+
+-- a stop whose line is told ends so
+pub ends_as : {A : Type 0} (stop : Stop) (status wanted : Status) (line : Result (Vec ℕ A) OutOfMemory) (so : Type 0) (err_old err_new : Option (List ℕ)) → wanted ≡ stop_status stop →
+    IfOk line (λ l. l.items ≡ stop_line stop) → EndsWithLine status wanted line so err_old err_new → EndsAs stop status so err_old err_new
+ends_as stop status wanted (Ok line) so err_old err_new same is says = inl (record { same = says.same ∙ same; written = λ h. subst (λ (l : List ℕ). Appends err_old err_new l) is (says.written h) })
+ends_as stop status wanted (Err e) so err_old err_new same is says = inr says

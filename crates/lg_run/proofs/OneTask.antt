@@ -5,7 +5,8 @@ use Rattle.std.proofs.Math.Seq.{drop-length}
 use Rattle.std.specs.List.{AllByRecursion}
 use Rattle.lg_answer.specs.Pages.{default_options}
 use Rattle.lg_answer.specs.declared.options.Options.{Options}
-use Rattle.lg_run.specs.Words.{Task, One, Run, IsOption, apart, joined, AreOptions, none, want, examine, ComesTo, unset, set, OptionsAre, is_operand, SENTENCE, TaskIs, one, run, IsCount, AreInRange, options_in}
+use Rattle.lg_script.specs.Bounds.{IsCount}
+use Rattle.lg_run.specs.Words.{Task, One, Run, IsOption, apart, joined, AreOptions, none, want, examine, ComesTo, unset, set, OptionsAre, is_operand, SENTENCE, TaskIs, one, run, AreInRange, options_in}
 use Rattle.lg_run.specs.Commands.{task}
 use Rattle.lg_run.specs.declared.command.Command.{Command}
 use Rattle.lg_run.proofs.OptionWords.{same_numbers}

@@ -1,4 +1,4 @@
-use Rattle.std.proofs.Common.{IfSome, subst}
+use Rattle.std.proofs.Common.{IfSome, sym, subst}
 use Rattle.lg_run.specs.Commands.{task}
 use Rattle.lg_run.specs.Inputs.{InputsAre}
 use Rattle.lg_run.specs.Reads.{AsksInOrder}
@@ -9,9 +9,9 @@ use Rattle.lg_run.proofs.inputs.read_inputs.Goals as goal
 pub returns-in-One-clause-names : goal.returns-in-One-clause-names
 returns-in-One-clause-names g c =
     subst (λ (t : Command). IfSome (g.F.Files.contents c.args.files.now) (λ known. AsksInOrder (InputsAre known (task t)) (g.F.Files.asked c.args.files.now) (g.F.Files.asked c.inputs_of_one.new.files)))
-    c.in-One.is c.inputs_of_one.ensures.names
+    (sym c.in-One.is) c.inputs_of_one.ensures.names
 
 pub returns-in-Run-clause-names : goal.returns-in-Run-clause-names
 returns-in-Run-clause-names g c =
     subst (λ (t : Command). IfSome (g.F.Files.contents c.args.files.now) (λ known. AsksInOrder (InputsAre known (task t)) (g.F.Files.asked c.args.files.now) (g.F.Files.asked c.inputs_of_run.new.files)))
-    c.in-Run.is c.inputs_of_run.ensures.names
+    (sym c.in-Run.is) c.inputs_of_run.ensures.names
