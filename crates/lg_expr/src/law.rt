@@ -47,7 +47,8 @@ pub fn expressions_fit()
     parts_are_written();
 }
 
-/// An entry whose expression is read from fewer than 2^32 tokens, with at most 200 brackets open at once, is within its bounds.
+/// An entry whose expression is read from fewer than 2^32 tokens, under rules by which at most 200 brackets may be open, is
+/// within its bounds.
 ///
 /// The function does nothing: a caller whose proof needs the fact calls it.
 pub fn expressions_keep_bounds()
