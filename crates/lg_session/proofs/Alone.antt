@@ -1,5 +1,5 @@
 -- One session alone: what has to hold of its answers and of the journal.
-use Rattle.std.proofs.Common.{◌≡◌, ℕ, zero, suc, ◌==◌, true, cond, List, [], ◌∷◌, length, map, filter, All, Some, None, refl, ap, sym, subst, ◌∙◌, eq-eqb}
+use Rattle.std.proofs.Common.{◌≡◌, ℕ, zero, suc, ◌==◌, true, List, [], ◌∷◌, length, map, filter, Some, None, refl, ap, sym, subst, ◌∙◌, eq-eqb}
 use Rattle.std.specs.List.{enumerate_from}
 use Rattle.std.specs.Option.{is_some}
 use Rattle.std.proofs.lemmas.List.Elements.{All-map, All-same}
@@ -8,7 +8,7 @@ use Rattle.lg_gram.specs.declared.reply.Place.{Place}
 use Rattle.lg_gram.specs.declared.reply.Reply.{Reply}
 use Rattle.lg_gram.specs.declared.reply.Reply.TheVariants.{At}
 use Rattle.lg_script.specs.Commands.{CommandView}
-use Rattle.lg_script.specs.Histories.{numbered, fresh, is_published, published_by, HasPublished}
+use Rattle.lg_script.specs.Histories.{numbered, fresh, is_published, published_by}
 use Rattle.lg_session.specs.Legal.{Run, IsLegal, IsLegalSession, AnswersAll}
 use Rattle.lg_session.proofs.Rest.{Rest, pairs_after}
 
@@ -30,17 +30,22 @@ only x y P (suc (suc n)) a b first second holds = absurd (none-some a first)
 
 pub alone : (run : Run) (commands : List CommandView) (replies : List Reply) → run.scripts ≡ commands ∷ [] → Rest run 1 1 [] None commands replies → IsLegal run (replies ∷ [])
 alone run commands replies scripts rest = record {
-    journal = record {
-        each = λ session rs is. ap (λ (l : List Place). filter (λ p. p.session == session) l) rest.journal_is ∙ published_alone session replies rs is;
-        no_other = All-same (λ (p : Place). is_some (numbered (replies ∷ []) p.session) ≡ true) run.journal (published_by 1 replies) rest.journal_is
-            (All-map (λ (p : Place). is_some (numbered (replies ∷ []) p.session) ≡ true) (λ (n : ℕ × Reply). record { session = 1; command = n.0 }) (filter (λ n. is_published n.1) (enumerate_from 1 replies)) (λ k d h. refl));
-    };
-    same_length = ap length (sym scripts);
-    sessions = λ session cs rs first second. only commands replies (IsLegalSession run) session cs rs (ap (λ (l : List (List CommandView)). numbered l session) (sym scripts) ∙ first) second (record {
-        in_time = record { there = rest.there; rise = pairs_after (At 0) (fresh commands replies) rest.rise };
-        answered = rest.answered;
-    });
+  journal = record {
+    each = λ session rs is. ap (λ (l : List Place). filter (λ p. p.session == session) l) rest.journal_is ∙ published_alone session replies rs is;
+    no_other = All-same (λ (p : Place). is_some (numbered (replies ∷ []) p.session) ≡ true) run.journal (published_by 1 replies) rest.journal_is
+        (All-map (λ (p : Place). is_some (numbered (replies ∷ []) p.session) ≡ true) (λ (n : ℕ × Reply). record { session = 1; command = n.0 }) (filter (λ n. is_published n.1) (enumerate_from 1 replies)) (λ k d h. refl));
+  };
+  same_length = ap length (sym scripts);
+  sessions = λ session cs rs first second. only commands replies (IsLegalSession run) session cs rs (ap (λ (l : List (List CommandView)). numbered l session) (sym scripts) ∙ first) second (record {
+    in_time = record { there = rest.there; rise = pairs_after (At 0) (fresh commands replies) rest.rise };
+    answered = rest.answered;
+  });
 }
 
 pub all_answered : (commands : List CommandView) (replies : List Reply) → length replies ≡ length commands → AnswersAll (commands ∷ []) (replies ∷ [])
 all_answered commands replies same session cs rs first second = only commands replies (λ n a b. length b ≡ length a) session cs rs first second same
+
+-- the same of a journal and answers that are those
+pub alone_as : (run : Run) (commands : List CommandView) (replies : List Reply) → run.scripts ≡ commands ∷ [] → Rest run 1 1 [] None commands replies
+    → (journal : List Place) (lists : List (List Reply)) → (journal ≡ run.journal) × (lists ≡ replies ∷ []) → IsLegal (record run { journal = journal }) lists
+alone_as run commands replies scripts rest journal lists same = subst (λ (z : List Place × List (List Reply)). IsLegal (record run { journal = z.0 }) z.1) (λ i. (sym same.0 i, sym same.1 i)) (alone run commands replies scripts rest)

@@ -21,12 +21,12 @@ kept run more n P there holds = subst P (sym (version_more run.scripts run.base 
 pub carried : (run : Run) (more : List Place) (p : Place) (held then : Option Holding) (command : CommandView) (reply : Reply)
     → AnswerIs run p held command reply then → reply_version reply ≤ length run.journal → AnswerIs (grown run more) p held command reply then
 carried run more p held then command reply (legal.published h edit n is) there = legal.published h edit n (record {
-    stands = numbered_more run.journal more n p is.stands;
-    accepted = kept run more (n - 1) (λ dict. accept dict edit ≡ None) (omega arith) is.accepted;
+  stands = numbered_more run.journal more n p is.stands;
+  accepted = kept run more (n - 1) (λ dict. accept dict edit ≡ None) (omega arith) is.accepted;
 })
 carried run more p held then command reply (legal.refused h edit n cause name is) there = legal.refused h edit n cause name (record {
-    refused = kept run more n (λ dict. accept dict edit ≡ Some cause) there is.refused;
-    named = is.named;
+  refused = kept run more n (λ dict. accept dict edit ≡ Some cause) there is.refused;
+  named = is.named;
 })
 carried run more p held then command reply (legal.version h n) there = legal.version h n
 carried run more p held then command reply (legal.listed h asked text first want n tokens page stats asks shows counts) there = legal.listed h asked text first want n tokens page stats asks

@@ -3,3 +3,5 @@ pub mod Carried
 pub mod Rest
 pub mod Alone
 pub mod Turned
+pub mod Reached
+pub mod OneScript

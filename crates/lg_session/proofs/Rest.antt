@@ -1,7 +1,7 @@
 -- What is left of a session's answers gives the rest of what has to hold of them.
-use Rattle.std.proofs.Common.{◌≡◌, ℕ, suc, ◌+◌, ◌≤◌, ◌<◌, true, false, List, [], ◌∷◌, ◌++◌, length, map, filter, All, AllPairs, Option, Some, None, refl, ap, sym, subst, ◌∙◌, arith, append_assoc, append-nil, length-append}
+use Rattle.std.proofs.Common.{◌≡◌, ℕ, suc, ◌+◌, ◌≤◌, List, [], ◌∷◌, ◌++◌, length, map, filter, All, AllPairs, Option, refl, ap, sym, subst, ◌∙◌, arith, append_assoc, append-nil, length-append}
 use Rattle.std.specs.List.{enumerate_from}
-use Rattle.std.proofs.lemmas.List.Elements.{All-cons, All-nil, All-head, All-tail, All-weaker}
+use Rattle.std.proofs.lemmas.List.Elements.{All-cons, All-nil, All-weaker}
 use Rattle.std.proofs.lemmas.List.Kept.{AllPairs-cons}
 use Rattle.lg_gram.specs.declared.reply.Place.{Place}
 use Rattle.lg_gram.specs.declared.reply.Reply.{Reply}
@@ -10,7 +10,7 @@ use Rattle.lg_script.specs.Commands.{CommandView, parses, lists, goes_on, makes,
 use Rattle.lg_script.specs.Histories.{is_published, reply_version, fresh, Precedes}
 use Rattle.lg_session.specs.Legal.{Holding, Run, AnswerIs, Answered, so_far, next}
 use Rattle.lg_session.specs.Turns.{added, IsTimely}
-use Rattle.lg_session.proofs.Carried.{carried, grown}
+use Rattle.lg_session.proofs.Carried.{carried}
 
 -- the places of the commands from that number on whose edits were published
 abbrev pub published_from : ℕ → ℕ → List Reply → List Place
@@ -27,10 +27,10 @@ pub record Rest (run : Run) (session n : ℕ) (journal : List Place) (held : Opt
 -- nothing is left
 pub ended : (run : Run) (session n : ℕ) (held : Option Holding) → Rest run session n run.journal held [] []
 ended run session n held = record {
-    journal_is = sym (append-nil run.journal);
-    there = All-nil (λ r. reply_version r ≤ length run.journal);
-    rise = AllPairs-cons Precedes (At (length run.journal)) [] (All-nil (Precedes (At (length run.journal)))) (λ i j d a b. absurd (omega (arith, b)));
-    answered = so_far n held [];
+  journal_is = sym (append-nil run.journal);
+  there = All-nil (λ r. reply_version r ≤ length run.journal);
+  rise = AllPairs-cons Precedes (At (length run.journal)) [] (All-nil (Precedes (At (length run.journal)))) (λ i j d a b. absurd (omega (arith, b)));
+  answered = so_far n held [];
 }
 
 -- ---- versions rise
@@ -110,10 +110,10 @@ answers_first run session n journal new held then command commands r rs is answe
     let whole : length run.journal ≡ length new + length more = ap length rest.journal_is ∙ length-append new more in
     let there : reply_version r ≤ length new = in_time command r (length new) timely in
     let same : run.journal ≡ journal ++ published_from session n (r ∷ rs) = rest.journal_is ∙ ap (λ (l : List Place). l ++ more) is ∙ append_assoc journal (added p r) more
-        ∙ ap (λ (l : List Place). journal ++ l) (sym (published_cons session n r rs)) in
+    ∙ ap (λ (l : List Place). journal ++ l) (sym (published_cons session n r rs)) in
     let then_answer = carried (record run { journal = new }) more p held then command r answer there in record {
-        journal_is = same;
-        there = All-cons (λ r. reply_version r ≤ length run.journal) r rs (omega (arith, there, whole)) rest.there;
-        rise = rises p command commands r rs (length journal) (length new) long timely rest.rise;
-        answered = next n held then command commands r rs (subst (λ (l : List Place). AnswerIs (record run { journal = l }) p held command r then) (sym rest.journal_is) then_answer) rest.answered;
+      journal_is = same;
+      there = All-cons (λ r. reply_version r ≤ length run.journal) r rs (omega (arith, there, whole)) rest.there;
+      rise = rises p command commands r rs (length journal) (length new) long timely rest.rise;
+      answered = next n held then command commands r rs (subst (λ (l : List Place). AnswerIs (record run { journal = l }) p held command r then) (sym rest.journal_is) then_answer) rest.answered;
     }

@@ -45,17 +45,12 @@ pub fn run_sessions<R: Threads + Sync, E: Engine>(
         session = after;
         replies.push(reply)?;
     }
-    outcome(alloc, session.journal, replies)
+    outcome_of(alloc, session.into_journal(), replies)
 }
 
 // The outcome of one session.
-fn outcome(
-    alloc: Global,
-    journal: Vec<Place>,
-    replies: Vec<Reply>,
-) -> Result<Outcome, NoMemory>
-    ensures journal { IfOk result (λ outcome. outcome.journal ≡ journal.items) }
-    ensures replies { IfOk result (λ outcome. outcome.replies ≡ replies.items ∷ []) }
+fn outcome_of(alloc: Global, journal: Vec<Place>, replies: Vec<Reply>) -> Result<Outcome, NoMemory>
+    ensures { IfOk result (λ outcome. (outcome.journal ≡ journal.items) × (outcome.replies ≡ replies.items ∷ [])) }
 {
     let mut lists = Vec::new(alloc);
     lists.push(Replies::of(replies))?;

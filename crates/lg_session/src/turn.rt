@@ -21,7 +21,7 @@ pub(crate) fn turn<'a, R: Threads + Sync, E: Engine>(
     rt: &R,
     alloc: Global,
     engine: &E,
-    mut session: Session<'a, E::Held>,
+    session: Session<'a, E::Held>,
     place: Place,
     command: &Command,
 ) -> Result<(Session<'a, E::Held>, Reply), NoMemory>
@@ -37,7 +37,17 @@ pub(crate) fn turn<'a, R: Threads + Sync, E: Engine>(
         }
         Command::More => go_on(alloc, engine, session),
         Command::Edit(edit) => {
-            let reply = make(alloc, &mut session.view, &mut session.journal, place, edit)?;
+            let Session {
+                mut view,
+                mut journal,
+                held,
+            } = session;
+            let reply = make(alloc, &mut view, &mut journal, place, edit)?;
+            let session = Session {
+                view,
+                journal,
+                held,
+            };
             Ok((session, reply))
         }
         Command::Version => {

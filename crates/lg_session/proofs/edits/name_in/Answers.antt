@@ -1,4 +1,4 @@
-use Rattle.std.proofs.Common.{◌≡◌, ℕ, List, [], Option, None, unwrap_or, slice_index_or, slice_get, map, sym, ap, ◌∙◌}
+use Rattle.std.proofs.Common.{◌≡◌, ℕ, List, [], Option, unwrap_or, slice_index_or, sym, ap, ◌∙◌}
 use Rattle.std.proofs.lemmas.Option.{unwrap_or-slice_get}
 use Rattle.lg_gram.specs.RawTrees.{raw_tree_of}
 use Rattle.lg_gram.specs.Filled.{macro_names}

@@ -1,4 +1,3 @@
-use Rattle.std.proofs.Common.{◌≡◌, Option, Some, ℕ}
 use Rattle.lg_session.proofs.Turned.{more, no_more}
 use Rattle.lg_session.proofs.turn.go_on.Goals as goal
 
