@@ -7,3 +7,4 @@ pub mod Alone
 pub mod Meanings
 pub mod OneScript
 pub mod Some
+pub mod Bounds

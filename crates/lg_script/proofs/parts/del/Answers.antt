@@ -1,5 +1,6 @@
 use Rattle.std.proofs.Common.{ℕ, List, Ok, codes, inl, inr, refl, sym, subst}
-use Rattle.lg_script.specs.Commands.{makes, removes, CommandIs, del, no_del}
+use Rattle.lg_edit.specs.Edits.{removes}
+use Rattle.lg_script.specs.Commands.{makes, CommandIs, del, no_del}
 use Rattle.lg_script.proofs.Commanded.{nothing, something, fails}
 use Rattle.lg_script.proofs.parts.del.Goals as goal
 use Rattle.lg_script.proofs.parts.del.Goals.{then-is_empty-via-then-is_empty, then-is_empty-via-else-is_empty+then-not-is_word}
