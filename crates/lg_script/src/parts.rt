@@ -53,10 +53,7 @@ pub(crate) fn command_of(
 fn parse(alloc: Global, line: u32, rest: &[u8]) -> Result<Command, ScriptError>
     ensures { TellsCommand line (codes "parse") rest.now result }
 {
-    match Text::of(alloc, rest) {
-        Ok(sentence) => Ok(Command::Parse(sentence)),
-        Err(_) => Err(ScriptError::NoMemory),
-    }
+    Ok(Command::Parse(Text::of(alloc, rest)?))
 }
 
 fn list(alloc: Global, line: u32, rest: &[u8]) -> Result<Command, ScriptError>
@@ -65,10 +62,10 @@ fn list(alloc: Global, line: u32, rest: &[u8]) -> Result<Command, ScriptError>
 {
     match listing_of(rest) {
         None => Err(ScriptError::BadNumber(line)),
-        Some(listing) => match Text::of(alloc, listing.sentence) {
-            Ok(sentence) => Ok(Command::List(listing.from, listing.want, sentence)),
-            Err(_) => Err(ScriptError::NoMemory),
-        },
+        Some(listing) => {
+            let sentence = Text::of(alloc, listing.sentence)?;
+            Ok(Command::List(listing.from, listing.want, sentence))
+        }
     }
 }
 
@@ -128,10 +125,7 @@ fn del(alloc: Global, line: u32, rest: &[u8]) -> Result<Command, ScriptError>
     if rest.is_empty() || !is_word(rest) {
         return Err(ScriptError::BadEdit(line));
     }
-    match Text::of(alloc, rest) {
-        Ok(word) => Ok(Command::Edit(Edit::Del(word))),
-        Err(_) => Err(ScriptError::NoMemory),
-    }
+    Ok(Command::Edit(Edit::Del(Text::of(alloc, rest)?)))
 }
 
 /// Whether no blank is among the bytes.
