@@ -1,6 +1,6 @@
 //! Commands by their word and what follows it.
 
-ghost use Rattle.std.specs.Prelude.{◌≡◌, ◌↔◌, true, codes};
+ghost use Rattle.std.specs.Prelude.{◌≡◌, ◌↔◌, true, codes, Ok, IfOk};
 ghost use Rattle.std.specs.List.{AllByRecursion};
 ghost use Rattle.lg_gram.specs.declared.entry.Item.{Item};
 ghost use Rattle.lg_gram.specs.declared.entry.ItemKind.TheVariants as kinds;
@@ -8,6 +8,7 @@ ghost use Rattle.lg_edit.specs.Edits.{DefinesWords, DefinesOneMacro};
 ghost use Rattle.lg_gram.specs.EntryViews.{entry_view};
 ghost use Rattle.lg_lex.specs.declared.run.Separators.TheVariants.{Blanks};
 ghost use Rattle.lg_lex.specs.Runs.{AreInner};
+ghost use Rattle.lg_script.specs.Commands.{CommandIs, command_view};
 ghost use Rattle.lg_script.specs.Parts.{EndsInner};
 ghost use Rattle.lg_script.specs.Telling.{TellsCommand, IsRefusal};
 
@@ -15,7 +16,7 @@ use crate::command::Command;
 use crate::line::first_word;
 use crate::listing::listing_of;
 use crate::script_error::ScriptError;
-use lg_base::Text;
+use lg_base::{NoMemory, Text};
 use lg_dictread::{EntryError, read_entry};
 use lg_edit::Edit;
 use lg_gram::{Item, ItemKind, RawEntry};
@@ -32,7 +33,7 @@ pub(crate) fn command_of(
     ensures { TellsCommand line word.now rest.now result }
 {
     if word == b"parse".as_slice() {
-        parse(alloc, line, rest)
+        Ok(parse(alloc, rest)?)
     } else if word == b"list".as_slice() {
         list(alloc, line, rest)
     } else if word == b"more".as_slice() {
@@ -50,8 +51,8 @@ pub(crate) fn command_of(
     }
 }
 
-fn parse(alloc: Global, line: u32, rest: &[u8]) -> Result<Command, ScriptError>
-    ensures { TellsCommand line (codes "parse") rest.now result }
+fn parse(alloc: Global, rest: &[u8]) -> Result<Command, NoMemory>
+    ensures { IfOk result (λ command. CommandIs (codes "parse") rest.now (Ok (command_view command))) }
 {
     Ok(Command::Parse(Text::of(alloc, rest)?))
 }
