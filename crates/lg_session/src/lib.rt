@@ -3,6 +3,8 @@
 
 pub mod engine;
 pub mod outcome;
+pub mod run;
 
 pub use engine::{Engine, Opening};
 pub use outcome::Outcome;
+pub use run::run_sessions;
