@@ -15,6 +15,6 @@ mod tests;
 
 pub use command::Command;
 pub use commands::{Commands, Scripts};
-pub use law::exactly_one_script;
+pub use law::{exactly_one_script, scripts_keep_bounds};
 pub use read::read_script;
 pub use script_error::ScriptError;
