@@ -10,8 +10,8 @@ const DIGITS: usize = 7;
 /// The greatest number.
 const GREATEST: u64 = 1_000_000;
 
-/// The number from 1 to 1,000,000 that one to seven digits write.
-pub(crate) fn number_of(digits: &[u8]) -> Option<u64>
+/// The number from 1 to 1,000,000 that one to seven digits write. None where the bytes write none. No memory.
+pub fn number_of(digits: &[u8]) -> Option<u64>
     ensures { MatchOption result ((n : ℕ) → IsNumber digits.now n → ⊥) (λ n. IsNumber digits.now n) }
 {
     if digits.len() > DIGITS {
