@@ -1,6 +1,7 @@
 pub mod Entries
 pub mod Kept
 pub mod EntryTexts
+pub mod EntryBounds
 pub mod NewNames
 pub mod ItemAnswers
 pub mod Measured

@@ -24,5 +24,7 @@ mod word_file;
 pub use dict_error::{DictError, WordFileError};
 pub use dict_text::read_dict;
 pub use entry_text::{EntryError, read_entry};
-pub use law::{exactly_one_dictionary, exactly_one_entry, exactly_one_entry_text};
+pub use law::{
+    entry_texts_keep_bounds, exactly_one_dictionary, exactly_one_entry, exactly_one_entry_text,
+};
 pub use limits::FILE;

@@ -9,5 +9,7 @@ pub mod Costs
 pub mod Words
 pub mod Lexemes
 pub mod AllOf
+pub mod References
 pub mod Depths
 pub mod Prices
+pub mod EntryBounds

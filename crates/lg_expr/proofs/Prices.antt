@@ -7,7 +7,7 @@ use Rattle.lg_base.specs.Costs.{IsCostNumber}
 use Rattle.lg_gram.specs.Filled.{Formulas, put_in, filled, filled_in, filled_level}
 use Rattle.lg_gram.specs.Formulas.{is_small_price, prices_are_small, prices_in_are_small}
 use Rattle.lg_gram.specs.Limits.{LEVEL}
-use Rattle.lg_gram.specs.RawTrees.{RawTree, raw_trees_of}
+use Rattle.lg_gram.specs.RawTrees.{RawTree, raw_trees_of, macros_of}
 use Rattle.lg_gram.specs.Trees.{Tree}
 use Rattle.lg_lex.specs.Tokens.{Lexeme}
 use Rattle.lg_expr.specs.declared.part.Operator.{Operator}
@@ -20,7 +20,7 @@ use Rattle.lg_expr.specs.Grammar.{Alternatives, alternative, or_else, Factors, f
 use Rattle.lg_expr.specs.Reading.{StandFor}
 use Rattle.lg_expr.specs.Fits.{rules_of, Fits, AllFit, FilledFits}
 use Rattle.lg_expr.proofs.AllOf.{all_append, all_left, all_right}
-use Rattle.lg_expr.proofs.Depths.{tree_shallow, tree_within, tree_level_kept}
+use Rattle.lg_expr.proofs.Depths.{tree_shallow, reached_shallow, tree_within, tree_level_kept}
 
 -- a cost that a part writes is within its bounds
 abbrev pub HasSmallCost : Part → Type 0
@@ -110,15 +110,18 @@ module _ (formulas : Formulas) (all_fit : AllFit formulas) where
   tree_small : (a : Alternatives) → AllByRecursion HasSmallCost (spelled a) → IsSmall (tree a)
   tree_small a h = small_joined Or (members 0 a) (members_small a 0 h)
 
-  module _ (written : (x : Lexeme) → (part_of_lexeme x ≡ wrong) ⊎ Writes x (part_of_lexeme x)) (limit : ℕ) (low : limit ≤ LEVEL) where
-    pub expression_fits : (ts : List (Lexeme × ℕ)) (e : RawTree) (n : ℕ) (rest : List (Lexeme × ℕ))
+  module _ (written : (x : Lexeme) → (part_of_lexeme x ≡ wrong) ⊎ Writes x (part_of_lexeme x)) where
+    pub derivation_small : (front : List (Lexeme × ℕ)) (a : Alternatives) → map (λ (t : Lexeme × ℕ). part_of_lexeme t.0) front ≡ spelled a ++ ends ∷ [] → IsSmall (tree a)
+    derivation_small front a spells = tree_small a (all_left HasSmallCost (spelled a) (ends ∷ []) (subst (AllByRecursion HasSmallCost) spells (tokens_small written front)))
+
+    pub expression_fits : (limit : ℕ) → limit ≤ LEVEL → (ts : List (Lexeme × ℕ)) (e : RawTree) (n : ℕ) (rest : List (Lexeme × ℕ))
         → StandFor (Lexeme × ℕ) (λ t. part_of_lexeme t.0) (rules_of formulas limit) ts e n rest → FilledFits formulas n e
-    expression_fits ts e n rest h =
+    expression_fits limit low ts e n rest h =
         let a = h.derivation in
-        let all = subst (AllByRecursion HasSmallCost) h.spells (tokens_small written h.front) in
-        let small = tree_small a (all_left HasSmallCost (spelled a) (ends ∷ []) all) in
+        let small = derivation_small h.front a h.spells in
         let within = tree_within formulas limit a h.keeps in
-        let kept = tree_level_kept formulas limit a h.keeps in
-        let deep = tree_shallow formulas all_fit (filled_level formulas (level a) (tree a)) a (omega arith) (omega arith) in
+        let kept = tree_level_kept (rules_of formulas limit) a h.keeps in
+        let reached = filled_level formulas (level a) (tree a) in
+        let deep = tree_shallow formulas reached a (omega arith) (reached_shallow formulas all_fit reached (macros_of (tree a)) (omega arith)) in
         let fits : FilledFits formulas (level a) (tree a) = record { level_fits = record { few = omega arith; depth = deep }; prices = small } in
         subst (λ (t : RawTree). FilledFits formulas n t) h.means (subst (λ (k : ℕ). FilledFits formulas k (tree a)) h.level_is fits)

@@ -1,4 +1,6 @@
-ghost use Rattle.std.specs.Prelude.{◌≡◌, ℕ, ◌≤◌, List, ◌⊎◌};
+ghost use Rattle.std.specs.Prelude.{◌≡◌, ℕ, ◌^◌, ◌<◌, ◌≤◌, List, length, ◌⊎◌};
+ghost use Rattle.lg_gram.specs.EntryBounds.{IsEntryInBounds};
+ghost use Rattle.lg_gram.specs.EntryViews.{EntryView};
 ghost use Rattle.lg_gram.specs.Filled.{Formulas};
 ghost use Rattle.lg_gram.specs.Limits.{LEVEL};
 ghost use Rattle.lg_gram.specs.RawTrees.{RawTree};
@@ -41,6 +43,18 @@ pub fn expressions_fit()
     ensures { (formulas : Formulas) (limit : ℕ) (ts : List (Lexeme × ℕ)) (e : RawTree) (written : ℕ) (rest : List (Lexeme × ℕ)) →
         AllFit formulas → limit ≤ LEVEL → StandFor (Lexeme × ℕ) (λ t. part_of_lexeme t.0) (rules_of formulas limit) ts e written rest
         → FilledFits formulas written e }
+{
+    parts_are_written();
+}
+
+/// An entry whose expression is read from fewer than 2^32 tokens, under rules by which at most 200 brackets may be open, is
+/// within its bounds.
+///
+/// The function does nothing: a caller whose proof needs the fact calls it.
+pub fn expressions_keep_bounds()
+    ensures { (r : Rules) (ts : List (Lexeme × ℕ)) (e : EntryView) (rest : List (Lexeme × ℕ)) →
+        r.limit ≤ LEVEL → length ts < 2 ^ 32 → StandFor (Lexeme × ℕ) (λ t. part_of_lexeme t.0) r ts e.expr e.level rest
+        → IsEntryInBounds e }
 {
     parts_are_written();
 }

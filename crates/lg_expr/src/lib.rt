@@ -16,7 +16,7 @@ mod tests;
 mod word;
 
 pub use fault::{Fault, Refusal};
-pub use law::{exactly_one, expressions_fit, parts_are_written};
+pub use law::{exactly_one, expressions_fit, expressions_keep_bounds, parts_are_written};
 pub use macros::{Known, Macros};
 pub use part::{Bracket, Operator, Part};
 pub use reader::{Progress, State, step};

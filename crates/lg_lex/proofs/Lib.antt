@@ -8,3 +8,4 @@ pub mod ValidFronts
 pub mod TokenTexts
 pub mod AfterMark
 pub mod Sections
+pub mod TokenCounts

@@ -8,7 +8,7 @@ ghost use Rattle.lg_lex.specs.declared.marks.Marks.{Marks};
 ghost use Rattle.lg_lex.specs.declared.place.Place.{Place};
 ghost use Rattle.lg_lex.specs.declared.run.Separators.{Separators};
 ghost use Rattle.lg_lex.specs.Classes.{line_feed};
-ghost use Rattle.lg_lex.specs.Tokens.{Lexeme, AreTokens, HasUtf8};
+ghost use Rattle.lg_lex.specs.Tokens.{Lexeme, AreTokens, IsText, HasUtf8};
 ghost use Rattle.lg_lex.specs.Lexing.{between, lex, tokens_from};
 ghost use Rattle.lg_lex.specs.Sections.{IsClosed, moved};
 ghost use Rattle.lg_lex.specs.Runs.{AreRuns, outside, runs_of};
@@ -30,6 +30,13 @@ pub fn sections_keep_their_tokens()
         → IsClosed marks section
         → drop from text ≡ section ++ drop (from + length section) text
         → tokens_from marks text from ≡ map (moved from) (tokens_from marks section 0) ++ tokens_from marks text (from + length section) }
+{}
+
+/// A text has no more tokens than bytes.
+pub fn tokens_are_no_more_than_bytes()
+    ensures { (marks : Marks) (tokens : List (Lexeme × ℕ)) (bytes : List ℕ)
+        → IsText marks bytes tokens
+        → length tokens ≤ length bytes }
 {}
 
 /// The tokens of a text that is UTF-8 are UTF-8.

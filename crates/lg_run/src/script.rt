@@ -9,7 +9,7 @@ ghost use Rattle.lg_run.specs.Reads.{AsksInOrder, Tells, HasCause, IsNoFault};
 use crate::inputs::read_file;
 use crate::stop::Stop;
 use lg_base::Files;
-use lg_script::{Command, read_script};
+use lg_script::{Command, read_script, scripts_keep_bounds};
 use std::alloc::Global;
 
 // The most edits of all scripts.
@@ -40,6 +40,7 @@ fn commands_of<'a>(alloc: Global, name: &'a str, bytes: &[u8]) -> Result<Vec<Com
     ensures bounds { IfOk result (λ commands. AreInBounds (map command_view commands.items)) }
     ensures calm { IsNoFault result }
 {
+    scripts_keep_bounds();
     match read_script(alloc, bytes) {
         Ok(commands) => {
             if edit_count(&commands) > EDITS {

@@ -6,4 +6,7 @@ pub mod LineParts
 pub mod Alone
 pub mod Meanings
 pub mod OneScript
+pub mod SomeLine
+pub mod SomeCommand
 pub mod Some
+pub mod Bounds

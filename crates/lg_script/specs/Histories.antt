@@ -1,8 +1,7 @@
 -- What a journal makes of a dictionary, and what has to hold of the journal and of the answers to edits.
-use Rattle.std.specs.Prelude.{◌≡◌, ◌≤◌, ◌<◌, ℕ, zero, suc, ◌+◌, ◌-◌, ◌==◌, Bool, true, false, List, [], ◌∷◌, length, map, take, All, AllPairs, filter, Option, Some, None, slice_get, slice_index_or}
+use Rattle.std.specs.Prelude.{◌≡◌, ◌≤◌, ◌<◌, ℕ, zero, suc, ◌-◌, ◌==◌, Bool, true, false, List, [], ◌∷◌, length, map, take, All, AllPairs, filter, Option, Some, None, slice_get, slice_index_or}
 use Rattle.std.specs.List.{enumerate_from}
 use Rattle.std.specs.Option.{is_some}
-use Rattle.lg_gram.specs.EntryViews.{EntryView}
 use Rattle.lg_gram.specs.Filled.{macro_names}
 use Rattle.lg_gram.specs.declared.edit.EditRefusal.{EditRefusal}
 use Rattle.lg_gram.specs.declared.edit.EditRefusal.TheVariants.{UnknownMacro}

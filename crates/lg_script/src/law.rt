@@ -1,7 +1,10 @@
-ghost use Rattle.std.specs.Prelude.{◌≡◌, ℕ, List};
+ghost use Rattle.std.specs.Prelude.{◌≡◌, ◌≤◌, ℕ, List, length, Ok};
+ghost use Rattle.lg_dictread.specs.Limits.{FILE};
+ghost use Rattle.lg_script.specs.Bounds.{AreInBounds};
+ghost use Rattle.lg_script.specs.Commands.{CommandView};
 ghost use Rattle.lg_script.specs.Scripts.{Outcome, ScriptIs};
 
-use lg_dictread::exactly_one_entry_text;
+use lg_dictread::{entry_texts_keep_bounds, exactly_one_entry_text};
 use lg_lex::bytes_are_utf8_or_at_fault;
 
 /// A script stands for one outcome: its commands, or its first fault.
@@ -13,4 +16,14 @@ pub fn exactly_one_script()
 {
     bytes_are_utf8_or_at_fault();
     exactly_one_entry_text();
+}
+
+/// The commands of a script of at most 67,108,864 bytes are within their bounds: its sentences are UTF-8, its numbers lie
+/// in their range, and its edits are as `lg_edit::check` asks.
+///
+/// The function does nothing: a caller whose proof needs the fact calls it.
+pub fn scripts_keep_bounds()
+    ensures { (bytes : List ℕ) (commands : List CommandView) → length bytes ≤ FILE → ScriptIs bytes (Ok commands) → AreInBounds commands }
+{
+    entry_texts_keep_bounds();
 }

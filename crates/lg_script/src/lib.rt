@@ -6,7 +6,7 @@ pub mod commands;
 mod law;
 mod line;
 mod listing;
-mod number;
+pub mod number;
 mod parts;
 mod read;
 mod script_error;
@@ -15,7 +15,7 @@ mod tests;
 
 pub use command::Command;
 pub use commands::{Commands, Scripts};
-pub use law::exactly_one_script;
+pub use law::{exactly_one_script, scripts_keep_bounds};
 pub use number::number_of;
 pub use read::read_script;
 pub use script_error::ScriptError;

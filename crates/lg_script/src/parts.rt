@@ -1,6 +1,6 @@
 //! Commands by their word and what follows it.
 
-ghost use Rattle.std.specs.Prelude.{◌≡◌, ◌↔◌, true, codes};
+ghost use Rattle.std.specs.Prelude.{◌≡◌, ◌↔◌, true, codes, Ok, IfOk};
 ghost use Rattle.std.specs.List.{AllByRecursion};
 ghost use Rattle.lg_gram.specs.declared.entry.Item.{Item};
 ghost use Rattle.lg_gram.specs.declared.entry.ItemKind.TheVariants as kinds;
@@ -8,6 +8,7 @@ ghost use Rattle.lg_edit.specs.Edits.{DefinesWords, DefinesOneMacro};
 ghost use Rattle.lg_gram.specs.EntryViews.{entry_view};
 ghost use Rattle.lg_lex.specs.declared.run.Separators.TheVariants.{Blanks};
 ghost use Rattle.lg_lex.specs.Runs.{AreInner};
+ghost use Rattle.lg_script.specs.Commands.{CommandIs, command_view};
 ghost use Rattle.lg_script.specs.Parts.{EndsInner};
 ghost use Rattle.lg_script.specs.Telling.{TellsCommand, IsRefusal};
 
@@ -15,7 +16,7 @@ use crate::command::Command;
 use crate::line::first_word;
 use crate::listing::listing_of;
 use crate::script_error::ScriptError;
-use lg_base::Text;
+use lg_base::{NoMemory, Text};
 use lg_dictread::{EntryError, read_entry};
 use lg_edit::Edit;
 use lg_gram::{Item, ItemKind, RawEntry};
@@ -32,7 +33,7 @@ pub(crate) fn command_of(
     ensures { TellsCommand line word.now rest.now result }
 {
     if word == b"parse".as_slice() {
-        parse(alloc, line, rest)
+        Ok(parse(alloc, rest)?)
     } else if word == b"list".as_slice() {
         list(alloc, line, rest)
     } else if word == b"more".as_slice() {
@@ -50,13 +51,10 @@ pub(crate) fn command_of(
     }
 }
 
-fn parse(alloc: Global, line: u32, rest: &[u8]) -> Result<Command, ScriptError>
-    ensures { TellsCommand line (codes "parse") rest.now result }
+fn parse(alloc: Global, rest: &[u8]) -> Result<Command, NoMemory>
+    ensures { IfOk result (λ command. CommandIs (codes "parse") rest.now (Ok (command_view command))) }
 {
-    match Text::of(alloc, rest) {
-        Ok(sentence) => Ok(Command::Parse(sentence)),
-        Err(_) => Err(ScriptError::NoMemory),
-    }
+    Ok(Command::Parse(Text::of(alloc, rest)?))
 }
 
 fn list(alloc: Global, line: u32, rest: &[u8]) -> Result<Command, ScriptError>
@@ -65,10 +63,10 @@ fn list(alloc: Global, line: u32, rest: &[u8]) -> Result<Command, ScriptError>
 {
     match listing_of(rest) {
         None => Err(ScriptError::BadNumber(line)),
-        Some(listing) => match Text::of(alloc, listing.sentence) {
-            Ok(sentence) => Ok(Command::List(listing.from, listing.want, sentence)),
-            Err(_) => Err(ScriptError::NoMemory),
-        },
+        Some(listing) => {
+            let sentence = Text::of(alloc, listing.sentence)?;
+            Ok(Command::List(listing.from, listing.want, sentence))
+        }
     }
 }
 
@@ -128,10 +126,7 @@ fn del(alloc: Global, line: u32, rest: &[u8]) -> Result<Command, ScriptError>
     if rest.is_empty() || !is_word(rest) {
         return Err(ScriptError::BadEdit(line));
     }
-    match Text::of(alloc, rest) {
-        Ok(word) => Ok(Command::Edit(Edit::Del(word))),
-        Err(_) => Err(ScriptError::NoMemory),
-    }
+    Ok(Command::Edit(Edit::Del(Text::of(alloc, rest)?)))
 }
 
 /// Whether no blank is among the bytes.

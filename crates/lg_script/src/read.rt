@@ -32,9 +32,7 @@ fn read_text(alloc: Global, text: &[u8]) -> Result<Vec<Command>, ScriptError>
     let mut number: u32 = 1;
     loop {
         let (line, rest) = first_line(left);
-        if let Err(error) = add_line(alloc, &mut commands, number, line) {
-            return Err(error);
-        }
+        add_line(alloc, &mut commands, number, line)?;
         match rest {
             Some(rest) => left = rest,
             None => return Ok(commands),
@@ -52,14 +50,10 @@ fn add_line(
 ) -> Result<(), ScriptError>
     ensures { AddsLine number line.now commands.old.items commands.new.items result }
 {
-    match read_line(alloc, number, line) {
-        Ok(Some(command)) => match commands.push(command) {
-            Ok(()) => Ok(()),
-            Err(_) => Err(ScriptError::NoMemory),
-        },
-        Ok(None) => Ok(()),
-        Err(error) => Err(error),
+    if let Some(command) = read_line(alloc, number, line)? {
+        commands.push(command)?;
     }
+    Ok(())
 }
 
 /// The command of a line, or none where it is passed over.
@@ -71,8 +65,5 @@ fn read_line(alloc: Global, number: u32, line: &[u8]) -> Result<Option<Command>,
         return Ok(None);
     }
     let (word, behind) = first_word(body);
-    match command_of(alloc, number, word, trim(behind)) {
-        Ok(command) => Ok(Some(command)),
-        Err(error) => Err(error),
-    }
+    Ok(Some(command_of(alloc, number, word, trim(behind))?))
 }

@@ -1,3 +1,5 @@
+use lg_base::NoMemory;
+use std::alloc::AllocFailed;
 use thiserror::Error;
 
 /// Why a text is no script: the first fault. Lines count from 1, up to 2^32 - 1.
@@ -18,4 +20,26 @@ pub enum ScriptError {
     /// The line of an edit that is no entry of words alone or of one macro alone, or of a `del` without one word.
     #[error("line {0}: edit")]
     BadEdit(u32),
+}
+
+impl From<NoMemory> for ScriptError {
+    ghost use Rattle.std.specs.Prelude.{◌≡◌};
+    ghost use Rattle.lg_script.specs.declared.script_error.ScriptError.TheVariants as errors;
+
+    ghost from_gives = { λ _ error. error ≡ errors.NoMemory };
+
+    fn from(_error: NoMemory) -> ScriptError {
+        ScriptError::NoMemory
+    }
+}
+
+impl<T: Drop> From<AllocFailed<T>> for ScriptError {
+    ghost use Rattle.std.specs.Prelude.{◌≡◌};
+    ghost use Rattle.lg_script.specs.declared.script_error.ScriptError.TheVariants as errors;
+
+    ghost from_gives = { λ _ error. error ≡ errors.NoMemory };
+
+    fn from(_error: AllocFailed<T>) -> ScriptError {
+        ScriptError::NoMemory
+    }
 }

@@ -14,6 +14,6 @@ returns-then-is_empty c = (
   ]),
 )
 
-pub returns-in-Ok : goal.returns-in-Ok
-returns-in-Ok c = subst (λ (s : List ℕ). CommandIs (codes "del") c.args.rest.now (Ok (makes (removes s)))) (sym c.in-Ok.ensures)
+pub returns : goal.returns
+returns c = subst (λ (s : List ℕ). CommandIs (codes "del") c.args.rest.now (Ok (makes (removes s)))) (sym c.in_ok-of.ensures)
     (del c.args.rest.now (something c.args.rest.now c.is_empty.result c.is_empty.ensures c.if-is_empty.false) (c.is_word.ensures.0 c.if-not-is_word.false))

@@ -5,7 +5,7 @@ use Rattle.lg_script.proofs.parts.list.Goals as goal
 pub returns-in-None : goal.returns-in-None
 returns-in-None c = (refl, no_list c.args.rest.now c.in-None.ensures)
 
-pub returns-in-Ok : goal.returns-in-Ok
-returns-in-Ok c =
+pub returns-in_ok-sentence-in-Some : goal.returns-in_ok-sentence-in-Some
+returns-in_ok-sentence-in-Some c =
     let l = c.in-Some.listing in
-    list c.args.rest.now l.from l.want c.in-Ok.sentence (subst (λ (s : List ℕ). IsListing c.args.rest.now l.from l.want s) (sym c.in-Ok.ensures) c.in-Some.ensures)
+    list c.args.rest.now l.from l.want c.in_ok-sentence-in-Some.sentence (subst (λ (s : List ℕ). IsListing c.args.rest.now l.from l.want s) (sym c.in_ok-sentence-in-Some.ensures) c.in-Some.ensures)

@@ -14,8 +14,8 @@ returns-then-is_empty c =
       ]),
     )
 
-pub returns-in-Ok : goal.returns-in-Ok
-returns-in-Ok c =
+pub returns : goal.returns
+returns c =
     let body = c.skip_blanks-body.result.now in
     let some = something body c.is_empty.result c.is_empty.ensures c.if-is_empty.false in
     record {
@@ -24,5 +24,5 @@ returns-in-Ok c =
       rest = c.trim.result.now;
       says = c.body_of.ensures;
       command = line_is _ body _ _ _ c.skip_blanks-body.ensures.skips c.skip_blanks-body.ensures.begins some c.if-body-eq37.false c.first_word.ensures.split c.first_word.ensures.inner c.first_word.ensures.ends c.trim.ensures;
-      is = c.in-Ok.ensures;
+      is = c.in_ok-command_of.ensures;
     }

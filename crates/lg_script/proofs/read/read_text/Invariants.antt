@@ -5,8 +5,8 @@ use Rattle.lg_script.proofs.Texts.{Leads}
 use Rattle.lg_script.proofs.read.read_text.Given as goal
 
 -- what is left gives the rest of the answer, from the line of some number on
-abbrev pub invariant-loop-error : goal.invariant-loop-error
-invariant-loop-error l = (n : ℕ) × (l.number ≡ min n LINES_COUNTED) × Leads n l.left l.text (map command_view l.commands.items)
+abbrev pub invariant-loop-commands : goal.invariant-loop-commands
+invariant-loop-commands l = (n : ℕ) × (l.number ≡ min n LINES_COUNTED) × Leads n l.left l.text (map command_view l.commands.items)
 
-abbrev pub decreases-loop-error : goal.decreases-loop-error
-decreases-loop-error l = length l.left
+abbrev pub decreases-loop-commands : goal.decreases-loop-commands
+decreases-loop-commands l = length l.left
