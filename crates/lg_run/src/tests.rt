@@ -4,6 +4,7 @@ mod post_processing;
 mod refusals;
 mod rows;
 mod samples;
+mod sessions;
 mod words;
 
 use super::*;

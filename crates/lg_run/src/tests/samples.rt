@@ -390,3 +390,79 @@ link 1 2 MV 0 0
 link 2 3 J 0 0
 page shown 2 examined 2 next 3 end
 ";
+
+#[test]
+fn session_sample(rt: HostRuntime) -> Result<(), Fail> {
+    let alloc = rt.alloc();
+    let mut files = dictionary_of(alloc, ATTACHMENT_DICT.as_bytes())?;
+    files.add("k", SESSION_KNOW.as_bytes())?;
+    files.add("s1", SESSION_SCRIPT.as_bytes())?;
+    let words = words_of(alloc, "run|d|k|s1")?;
+    expect(&rt, alloc, files, &words, Status::Done, SESSION_OUT, "")
+}
+
+const SESSION_KNOW: &str = r"% A phrase after an object belongs to the object.
+none: MV { O };
+";
+
+const SESSION_SCRIPT: &str = r"% A noun is added, and then a verb. After that one reading is asked for at a time.
+parse the cat ran
+set cat: <noun>;
+parse the cat ran
+set met: S- & O+ & {@MV+};
+list 1 1 I met the cat in the park
+more
+del park
+more
+set dog: <animal>;
+del dig
+version
+";
+
+const SESSION_OUT: &str = r"1.1 parse version 0
+linkage 1 unused 3 cost 0.000 length 0
+word 0 the null
+word 1 cat null
+word 2 ran null
+page shown 1 examined 1 next 2 end
+1.2 set version 1
+1.3 parse version 1
+linkage 1 unused 0 cost 0.000 length 2
+word 0 the the - D 0.000
+word 1 cat cat D S 0.000
+word 2 ran ran S - 0.000
+link 0 1 D 0 0
+link 1 2 S 0 0
+page shown 1 examined 1 next 2 end
+1.4 set version 2
+1.5 list version 2
+linkage 1 unused 0 cost 0.000 length 8
+word 0 I I - S 0.000
+word 1 met met S O 0.000
+word 2 the the - D 0.000
+word 3 cat cat D,O @M 0.000
+word 4 in in M J 0.000
+word 5 the the - D 0.000
+word 6 park park D,J - 0.000
+link 0 1 S 0 0
+link 1 3 O 0 1
+link 2 3 D 0 0
+link 3 4 M 0 0
+link 4 6 J 0 1
+link 5 6 D 0 0
+page shown 1 examined 1 next 2 more
+1.6 more version 2
+fail 2 rule 1 link 1 4
+page shown 0 examined 1 next 3 end
+1.7 del version 3
+1.8 more version 2
+page shown 0 examined 0 next 3 end
+1.9 set refused at 3: unknown macro <animal>
+1.10 del refused at 3: no such word
+1.11 version 3
+journal 3
+edit 1 1.2
+edit 2 1.4
+edit 3 1.7
+done
+";

@@ -18,3 +18,6 @@ returns-in-Ok-clause-told c =
 
 pub returns-clause-told : goal.returns-clause-told
 returns-clause-told c = told_script c.args.name.now c.args.bytes.now c.in-Err.error c.in-Err.ensures
+
+pub returns-in-Ok-clause-bounds : goal.returns-in-Ok-clause-bounds
+returns-in-Ok-clause-bounds c = c.scripts_keep_bounds.ensures c.args.bytes.now (map command_view c.in-Ok.commands.items) c.requires c.in-Ok.ensures
