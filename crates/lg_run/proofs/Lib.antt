@@ -3,3 +3,4 @@ pub mod Commands
 pub mod Readings
 pub mod Dictionaries
 pub mod Ends
+pub mod Writing
