@@ -4,3 +4,5 @@ pub mod Readings
 pub mod Dictionaries
 pub mod Ends
 pub mod Writing
+pub mod Printed
+pub mod Turned

@@ -17,7 +17,10 @@ use Rattle.lg_text.specs.Replies.{reply_text}
 use Rattle.lg_run.specs.Documents.{reply_texts, session_texts}
 use Rattle.lg_run.specs.Lines.{joined}
 use Rattle.lg_run.specs.Written.{Writes}
+use Rattle.lg_run.specs.Inputs.{Given}
+use Rattle.lg_run.specs.Answers.{IsDocument, Documents}
 use Rattle.lg_run.specs.declared.outcome.Halt.{Halt}
+use Rattle.lg_run.specs.declared.outcome.Halt.TheVariants.{Memory, Output}
 use Rattle.std.proofs.Math.Seq.{take-append_seam, take-append-add}
 
 -- a front part of the bytes is written, and this rest is left
@@ -61,6 +64,12 @@ written_front {old} {now} {all} next piece left w e front =
 pub written_last : {old now : Option (List ℕ)} {all rest : List ℕ} (next : Option (List ℕ)) (piece : List ℕ) (r : Result (Unit {0}) Halt) → WrittenTo old now all rest → rest ≡ piece → Writes now next piece r → Writes old next all r
 written_last next piece (Ok x) w e grown = written_all (written_more next piece [] w (e ∙ sym (append-nil piece)) grown) refl
 written_last next piece (Err halt) w e front = written_front next piece [] w (e ∙ sym (append-nil piece)) front
+
+-- the document of a command, or a front part of it
+pub document_written : (old new : Option (List ℕ)) (given : Given) (document : List ℕ) (r : Result (Unit {0}) Halt) → IsDocument given document → Writes old new document r → Documents given old new r
+document_written old new given document (Ok x) is w = (document, is, w)
+document_written old new given document (Err Output) is w = (document, is, w)
+document_written old new given document (Err Memory) is w = inr (document, is, w)
 
 -- ---- the texts of answers
 
