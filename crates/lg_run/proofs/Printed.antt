@@ -1,5 +1,5 @@
 -- The answers of sessions that are legal can be printed.
-use Rattle.std.proofs.Common.{◌≡◌, ℕ, ◌<◌, ◌^◌, ◌+◌, suc, List, [], ◌∷◌, Option, Some, All, length, slice_get, refl}
+use Rattle.std.proofs.Common.{◌≡◌, ℕ, ◌+◌, suc, List, [], ◌∷◌, Option, Some, All, slice_get, refl}
 use Rattle.std.proofs.lemmas.List.Elements.{All-weaker}
 use Rattle.lg_gram.specs.Linkages.{Linkage}
 use Rattle.lg_gram.specs.declared.listing.PageItem.{PageItem}
@@ -11,10 +11,9 @@ use Rattle.lg_edit.specs.Edits.{puts, sets, removes}
 use Rattle.lg_knowread.specs.declared.knowledge.Knowledge.{Knowledge}
 use Rattle.lg_answer.specs.Pages.{IsLinkageFor}
 use Rattle.lg_answer.specs.declared.options.Options.{Options}
-use Rattle.lg_script.specs.Bounds.{AreInBounds}
 use Rattle.lg_script.specs.Commands.{CommandView}
 use Rattle.lg_script.specs.Kinds.{kind_of}
-use Rattle.lg_session.specs.Legal.{Run, Holding, AsksFor, parse, list, AnswerIs, published, refused, version, listed, beyond, more, no_more, Answered, so_far, next, IsLegal}
+use Rattle.lg_session.specs.Legal.{Run, Holding, parse, list, AnswerIs, published, refused, version, listed, beyond, more, no_more, Answered, so_far, next, IsLegal}
 use Rattle.lg_text.specs.Replies.{IsAnswerTo, IsPrintableReply}
 use Rattle.lg_text.specs.Texts.{IsPrintable}
 use Rattle.lg_run.specs.Documents.{listings}

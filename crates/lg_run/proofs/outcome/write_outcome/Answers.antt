@@ -6,14 +6,11 @@ use Rattle.std.proofs.lemmas.Slice.Zip.{either_empty_from_Zip}
 use Rattle.std.specs.Iterator.Adapters.{zip_first, zip_second}
 use Rattle.std.specs.Slice.Iter.{iter_rest}
 use Rattle.lg_gram.specs.declared.reply.Place.{Place}
-use Rattle.lg_gram.specs.declared.reply.Reply.{Reply}
 use Rattle.lg_script.specs.declared.command.Command.{Command}
 use Rattle.lg_script.specs.Commands.{CommandView, command_view}
 use Rattle.lg_session.specs.Legal.{script_views}
 use Rattle.lg_text.specs.Replies.{journal_text}
-use Rattle.lg_run.specs.Documents.{reply_texts, session_texts}
-use Rattle.lg_run.specs.Lines.{joined}
-use Rattle.lg_run.specs.Written.{ArePrintable, AreAllPrintable, Writes}
+use Rattle.lg_run.specs.Written.{AreAllPrintable}
 use Rattle.lg_run.proofs.Writing.{written_more, written_last, written_front, written_so_far, no_sessions, next_session}
 use Rattle.lg_run.proofs.outcome.write_outcome.Goals as goal
 

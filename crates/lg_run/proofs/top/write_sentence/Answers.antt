@@ -1,4 +1,4 @@
-use Rattle.std.proofs.Common.{List, ℕ, sym, subst}
+use Rattle.std.proofs.Common.{sym, subst}
 use Rattle.lg_run.specs.Documents.{DocumentIs}
 use Rattle.lg_run.specs.Inputs.{OneGiven}
 use Rattle.lg_run.proofs.Writing.{document_written}

@@ -1,4 +1,4 @@
-use Rattle.std.proofs.Common.{◌≡◌, ℕ, List, sym, ap, subst, ◌∙◌}
+use Rattle.std.proofs.Common.{◌≡◌, ℕ, List, subst, ◌∙◌}
 use Rattle.lg_answer.specs.Pages.{IsListing}
 use Rattle.lg_run.specs.Documents.{wanted}
 use Rattle.lg_run.specs.Listers.{Lister}
