@@ -7,3 +7,6 @@ pub mod Ends
 pub mod Verdicts
 pub mod Told
 pub mod Givens
+pub mod Writing
+pub mod Printed
+pub mod Turned

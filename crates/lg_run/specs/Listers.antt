@@ -1,8 +1,10 @@
 -- What lists the sentences of a session, and what it holds of a listing.
-use Rattle.std.specs.Prelude.{◌≡◌, ℕ, ◌<◌, ◌^◌, min, length}
+use Rattle.std.specs.Prelude.{◌≡◌, ◌+◌, ◌-◌, ◌≤◌, ◌<◌, ◌^◌, min, List, length, All}
+use Rattle.lg_gram.specs.declared.listing.Page.{Page}
+use Rattle.lg_gram.specs.declared.listing.Token.{Token}
 use Rattle.lg_dict.specs.Dictionary.{Dictionary}
 use Rattle.lg_knowread.specs.declared.knowledge.Knowledge.{Knowledge}
-use Rattle.lg_answer.specs.Pages.{IsListing}
+use Rattle.lg_answer.specs.Pages.{IsListing, IsPage, IsLinkageFor}
 use Rattle.lg_answer.specs.declared.options.Options.{Options}
 use Rattle.lg_session.specs.Engines.{Progress}
 use Rattle.lg_run.specs.Words.{AreInRange}
@@ -23,3 +25,11 @@ pub record StandsFor (options : Options) (held : Held) (dict : Dictionary) (prog
   pub same_tokens : progress.tokens ≡ held.listing.tokens
   pub position : held.listing.position ≡ min progress.position (length held.listing.candidates)
   pub want : held.want ≡ wanted options progress.want
+
+-- a page of what is held was turned: the page, with the tokens beside which its linkages may be printed, and what is held then
+pub record Turns (l : Lister) (held next : Held) (tokens : List Token) (page : Page) : Type 0 where
+  pub shown : IsPage l.know held.listing.candidates held.listing.position held.want l.options.examine page
+  pub moved : next ≡ record held { listing = record held.listing { position = page.next - 1 } }
+  pub same_tokens : tokens ≡ held.listing.tokens
+  pub printable : All (λ item. IsLinkageFor tokens item.linkage) page.items
+  pub near : page.next - 1 ≤ held.listing.position + 1000000

@@ -11,7 +11,7 @@ use Rattle.lg_script.specs.Commands.{CommandView}
 use Rattle.lg_script.specs.Kinds.{kind_of}
 use Rattle.lg_text.specs.Replies.{IsAnswerTo, IsPrintableReply}
 use Rattle.lg_run.specs.declared.outcome.Halt.{Halt}
-use Rattle.lg_run.specs.declared.outcome.Halt.TheVariants.{Memory, Output}
+use Rattle.lg_run.specs.declared.outcome.Halt.TheVariants.{Output}
 
 -- each answer is one that its command can have, and can be printed
 abbrev pub ArePrintable : List CommandView → List Reply → Type 0

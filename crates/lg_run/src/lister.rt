@@ -5,7 +5,7 @@ ghost use Rattle.lg_answer.specs.Pages.{IsListing};
 ghost use Rattle.lg_session.specs.Engines.{Progress, IsOpened, start_of};
 ghost use Rattle.lg_run.specs.Words.{AreInRange};
 ghost use Rattle.lg_run.specs.Documents.{listings};
-ghost use Rattle.lg_run.specs.Listers.{StandsFor};
+ghost use Rattle.lg_run.specs.Listers.{StandsFor, Turns};
 
 use lg_answer::{AnswerRefusal, Listing, Options};
 use lg_base::{NoMemory, Text, Texts};
@@ -58,7 +58,9 @@ impl<'a> Lister<'a> {
         &self,
         alloc: Global,
         held: Held,
-    ) -> Result<(Held, Tokens, Page), NoMemory> {
+    ) -> Result<(Held, Tokens, Page), NoMemory>
+        ensures { IfOk result (λ r. Turns self.now held r.0 r.1 r.2) }
+    {
         let Held { listing, want } = held;
         let (listing, page) = listing.page(alloc, self.know, want, self.options.examine)?;
         let tokens = copied(alloc, listing.tokens())?;

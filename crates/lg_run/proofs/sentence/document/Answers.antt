@@ -1,5 +1,4 @@
-use Rattle.std.proofs.Common.{◌≡◌, ℕ, List, IfOk, subst}
-use Rattle.lg_gram.specs.declared.listing.Bound.{Bound}
+use Rattle.std.proofs.Common.{◌≡◌, ℕ, subst}
 use Rattle.lg_gram.specs.declared.listing.Page.{Page}
 use Rattle.lg_dict.specs.Dictionary.{Dictionary}
 use Rattle.lg_answer.specs.declared.refusal.AnswerRefusal.TheVariants.{Beyond}
@@ -25,4 +24,4 @@ returns-in-Err-Beyond c =
     let refused : IsRefused c.of.result c.args.sentence.now (Beyond b) = subst (IsRefused c.of.result c.args.sentence.now) c.in-Err-Beyond.field-0-is c.in-Err-Beyond.ensures.refused in
     of_each c.bound_text.result (λ text. text.items ≡ bound_line b) (λ text. DocumentIs c.args.options c.args.dict.now c.args.sentence.now text.items)
     (λ text h. beyond b (subst (λ (d : Dictionary). IsBeyond d c.args.sentence.now b) c.of.ensures refused) h)
-    (subst (λ (x : Bound). IfOk c.bound_text.result (λ text. text.items ≡ bound_line x)) c.in-Err-Beyond.bound-is c.bound_text.ensures)
+    (rw c.in-Err-Beyond.field-0-is at c.bound_text.ensures)
