@@ -1,7 +1,8 @@
 -- What is left of a session's answers gives the rest of what has to hold of them.
-use Rattle.std.proofs.Common.{◌≡◌, ℕ, suc, ◌+◌, ◌≤◌, List, [], ◌∷◌, ◌++◌, length, map, filter, All, AllPairs, Option, refl, ap, sym, subst, ◌∙◌, arith, append_assoc, append-nil, length-append}
+use Rattle.std.proofs.Common.{◌≡◌, ℕ, suc, ◌+◌, ◌≤◌, ◌==◌, List, [], ◌∷◌, ◌++◌, length, map, filter, All, AllPairs, Option, refl, ap, sym, subst, ◌∙◌, arith, append_assoc, append-nil, length-append, eq-eqb}
 use Rattle.std.specs.List.{enumerate_from}
-use Rattle.std.proofs.lemmas.List.Elements.{All-cons, All-nil, All-weaker}
+use Rattle.std.proofs.lemmas.List.Sums.{length-filter, count_by-le-length}
+use Rattle.std.proofs.lemmas.List.Elements.{filter-append, All-cons, All-nil, All-weaker}
 use Rattle.std.proofs.lemmas.List.Kept.{AllPairs-cons}
 use Rattle.lg_gram.specs.declared.reply.Place.{Place}
 use Rattle.lg_gram.specs.declared.reply.Reply.{Reply}
@@ -16,10 +17,19 @@ use Rattle.lg_session.proofs.Carried.{carried}
 abbrev pub published_from : ℕ → ℕ → List Reply → List Place
 published_from session n replies = map (λ n. record { session = session; command = n.0 }) (filter (λ n. is_published n.1) (enumerate_from n replies))
 
--- The answers from that number on, by what is held and the journal so far. They end with the journal of the run, name no version
--- that is not there, and rise from the version that has been reached.
+-- the part of a journal that is a session's own
+abbrev pub own_of : ℕ → List Place → List Place
+own_of session journal = filter (λ p. p.session == session) journal
+
+own_fewer : (session : ℕ) (journal : List Place) → length (own_of session journal) ≤ length journal
+own_fewer session journal = omega (arith, length-filter (λ (p : Place). p.session == session) journal, count_by-le-length (λ (p : Place). p.session == session) journal)
+
+-- The answers from that number on, by what is held and the journal so far. The run's journal goes on with the session's own edits
+-- that they publish, among those of others. They name no version that is not there, and rise from the version that was reached.
 pub record Rest (run : Run) (session n : ℕ) (journal : List Place) (held : Option Holding) (commands : List CommandView) (replies : List Reply) : Type 0 where
-  pub journal_is : run.journal ≡ journal ++ published_from session n replies
+  pub more : List Place
+  pub grows : run.journal ≡ journal ++ more
+  pub own : own_of session more ≡ published_from session n replies
   pub there : All (λ r. reply_version r ≤ length run.journal) replies
   pub rise : AllPairs Precedes (At (length journal) ∷ fresh commands replies)
   pub answered : Answered run session n held commands replies
@@ -27,7 +37,9 @@ pub record Rest (run : Run) (session n : ℕ) (journal : List Place) (held : Opt
 -- nothing is left
 pub ended : (run : Run) (session n : ℕ) (held : Option Holding) → Rest run session n run.journal held [] []
 ended run session n held = record {
-  journal_is = sym (append-nil run.journal);
+  more = [];
+  grows = sym (append-nil run.journal);
+  own = refl;
   there = All-nil (λ r. reply_version r ≤ length run.journal);
   rise = AllPairs-cons Precedes (At (length run.journal)) [] (All-nil (Precedes (At (length run.journal)))) (λ i j d a b. absurd (omega (arith, b)));
   answered = so_far n held [];
@@ -65,21 +77,21 @@ between k m r rs first le same all =
     (AllPairs-cons Precedes r rs (all_follow r (At m) rs (omega (arith, same)) behind) (pairs_after (At m) rs all))
 
 -- an answer names a version past those before it if it made one
-reached : (p : Place) (r : Reply) (k : ℕ) → reply_version r ≡ k + length (added p r) → Precedes (At k) r
-reached p (Listed n tokens page stats) k is = omega (arith, is)
-reached p (Beyond n bound) k is = omega (arith, is)
-reached p (Published n) k is = omega (arith, is)
-reached p (Refused n cause name) k is = omega (arith, is)
-reached p (At n) k is = omega (arith, is)
-reached p NoListing k is = omega (arith, is)
+reached : (p : Place) (r : Reply) (k : ℕ) → k + length (added p r) ≤ reply_version r → Precedes (At k) r
+reached p (Listed n tokens page stats) k past = omega (arith, past)
+reached p (Beyond n bound) k past = omega (arith, past)
+reached p (Published n) k past = omega (arith, past)
+reached p (Refused n cause name) k past = omega (arith, past)
+reached p (At n) k past = omega (arith, past)
+reached p NoListing k past = omega (arith, past)
 
-rises : (p : Place) (command : CommandView) (commands : List CommandView) (r : Reply) (rs : List Reply) (k m : ℕ) → m ≡ k + length (added p r) → IsTimely command r m
+rises : (p : Place) (command : CommandView) (commands : List CommandView) (r : Reply) (rs : List Reply) (k m : ℕ) → k + length (added p r) ≤ m → IsTimely command r m
     → AllPairs Precedes (At m ∷ fresh commands rs) → AllPairs Precedes (At k ∷ fresh (command ∷ commands) (r ∷ rs))
-rises p goes_on commands r rs k m is timely all = lower k m (fresh commands rs) (omega (arith, is)) all
-rises p (parses text) commands r rs k m is timely all = between k m r (fresh commands rs) (reached p r k (timely ∙ is)) (omega (arith, is)) timely all
-rises p (lists first want text) commands r rs k m is timely all = between k m r (fresh commands rs) (reached p r k (timely ∙ is)) (omega (arith, is)) timely all
-rises p (makes edit) commands r rs k m is timely all = between k m r (fresh commands rs) (reached p r k (timely ∙ is)) (omega (arith, is)) timely all
-rises p asks commands r rs k m is timely all = between k m r (fresh commands rs) (reached p r k (timely ∙ is)) (omega (arith, is)) timely all
+rises p goes_on commands r rs k m past timely all = lower k m (fresh commands rs) (omega (arith, past)) all
+rises p (parses text) commands r rs k m past timely all = between k m r (fresh commands rs) (reached p r k (omega (arith, past, timely))) (omega (arith, past)) timely all
+rises p (lists first want text) commands r rs k m past timely all = between k m r (fresh commands rs) (reached p r k (omega (arith, past, timely))) (omega (arith, past)) timely all
+rises p (makes edit) commands r rs k m past timely all = between k m r (fresh commands rs) (reached p r k (omega (arith, past, timely))) (omega (arith, past)) timely all
+rises p asks commands r rs k m past timely all = between k m r (fresh commands rs) (reached p r k (omega (arith, past, timely))) (omega (arith, past)) timely all
 
 in_time : (command : CommandView) (r : Reply) (m : ℕ) → IsTimely command r m → reply_version r ≤ m
 in_time goes_on r m timely = timely
@@ -99,21 +111,30 @@ published_cons session n (Refused m cause name) rs = refl
 published_cons session n (At m) rs = refl
 published_cons session n NoListing rs = refl
 
-pub answers_first : (run : Run) (session n : ℕ) (journal new : List Place) (held then : Option Holding) (command : CommandView) (commands : List CommandView) (r : Reply) (rs : List Reply)
-    → new ≡ journal ++ added (record { session = session; command = n }) r
+-- the places of an answer are its session's own
+pub own_added : (p : Place) (r : Reply) → own_of p.session (added p r) ≡ added p r
+own_added p (Published n) = rw (eq-eqb p.session p.session refl) refl
+own_added p (Listed n tokens page stats) = refl
+own_added p (Beyond n bound) = refl
+own_added p (Refused n cause name) = refl
+own_added p (At n) = refl
+own_added p NoListing = refl
+
+pub answers_first : (run : Run) (session n : ℕ) (journal new more : List Place) (held then : Option Holding) (command : CommandView) (commands : List CommandView) (r : Reply) (rs : List Reply)
+    → new ≡ journal ++ more → own_of session more ≡ added (record { session = session; command = n }) r
     → AnswerIs (record run { journal = new }) (record { session = session; command = n }) held command r then → IsTimely command r (length new)
     → Rest run session (n + 1) new then commands rs → Rest run session n journal held (command ∷ commands) (r ∷ rs)
-answers_first run session n journal new held then command commands r rs is answer timely rest =
+answers_first run session n journal new more held then command commands r rs is own answer timely rest =
     let p : Place = record { session = session; command = n } in
-    let more : List Place = published_from session (n + 1) rs in
-    let long : length new ≡ length journal + length (added p r) = ap length is ∙ length-append journal (added p r) in
-    let whole : length run.journal ≡ length new + length more = ap length rest.journal_is ∙ length-append new more in
+    let long : length new ≡ length journal + length more = ap length is ∙ length-append journal more in
+    let whole : length run.journal ≡ length new + length rest.more = ap length rest.grows ∙ length-append new rest.more in
+    let past : length (added p r) ≤ length more = subst (λ (l : List Place). length l ≤ length more) own (own_fewer session more) in
     let there : reply_version r ≤ length new = in_time command r (length new) timely in
-    let same : run.journal ≡ journal ++ published_from session n (r ∷ rs) = rest.journal_is ∙ ap (λ (l : List Place). l ++ more) is ∙ append_assoc journal (added p r) more
-    ∙ ap (λ (l : List Place). journal ++ l) (sym (published_cons session n r rs)) in
-    let then_answer = carried (record run { journal = new }) more p held then command r answer there in record {
-      journal_is = same;
+    let then_answer = carried (record run { journal = new }) rest.more p held then command r answer there in record {
+      more = more ++ rest.more;
+      grows = rest.grows ∙ ap (λ (l : List Place). l ++ rest.more) is ∙ append_assoc journal more rest.more;
+      own = filter-append (λ (q : Place). q.session == session) more rest.more ∙ (λ i. own i ++ rest.own i) ∙ sym (published_cons session n r rs);
       there = All-cons (λ r. reply_version r ≤ length run.journal) r rs (omega (arith, there, whole)) rest.there;
-      rise = rises p command commands r rs (length journal) (length new) long timely rest.rise;
-      answered = next n held then command commands r rs (subst (λ (l : List Place). AnswerIs (record run { journal = l }) p held command r then) (sym rest.journal_is) then_answer) rest.answered;
+      rise = rises p command commands r rs (length journal) (length new) (omega (arith, long, past)) timely rest.rise;
+      answered = next n held then command commands r rs (subst (λ (l : List Place). AnswerIs (record run { journal = l }) p held command r then) (sym rest.grows) then_answer) rest.answered;
     }

@@ -12,7 +12,8 @@ use lg_edit::{Edit, apply, check};
 use lg_gram::{EditRefusal, Place, RawEntry, Reply};
 use std::alloc::Global;
 
-/// Publishes an edit that the dictionary accepts, or tells why it is refused.
+/// Publishes an edit that the dictionary accepts, or tells why it is refused. The only error is want of memory, and then the
+/// dictionary may have an edit that the journal lacks.
 pub(crate) fn make(
     alloc: Global,
     view: &mut View,
@@ -33,9 +34,8 @@ pub(crate) fn make(
         }
         Err(cause) => {
             let name = unknown_name(alloc, edit, cause)?;
-            let version = journal.len() as u64;
             Ok(Reply::Refused {
-                version,
+                version: journal.len() as u64,
                 cause,
                 name,
             })

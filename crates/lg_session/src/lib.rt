@@ -6,6 +6,8 @@ pub mod engine;
 pub mod outcome;
 pub mod run;
 mod session;
+#[cfg(test)]
+mod tests;
 mod turn;
 
 pub use engine::{Engine, Opening};

@@ -37,6 +37,7 @@ impl<'a, H: Drop> Session<'a, H> {
     {
         self.journal.len() as u64
     }
+
     /// The edits that were published, in their order.
     pub(crate) fn into_journal(self) -> Vec<Place>
         ensures { result ≡ self.entry.journal }

@@ -62,7 +62,7 @@ returns-clause-legal g c =
     let rest = all_reached (g.E.Engine.meaning c.args.engine.now) (g.E.Engine.stands c.args.engine.now) (script_views scripts) c.args.base.now 1 (map command_view items) c.loop-index.session replies c.loop-index.index all c.loop-index.invariant in
     IfOk-weaker c.outcome_of.result (λ (o : Outcome). (o.journal ≡ c.into_journal.result.items) × (o.replies ≡ replies ∷ []))
     (λ (o : Outcome). IsLegal (run_of (g.E.Engine.meaning c.args.engine.now) scripts c.args.base.now o.journal) o.replies)
-    (λ o h. alone_as (run_of (g.E.Engine.meaning c.args.engine.now) scripts c.args.base.now c.loop-index.session.journal.items) (map command_view items) replies views rest o.journal o.replies (h.0 ∙ (λ i. (c.into_journal.ensures i).items), h.1))
+    (λ o h. alone_as (run_of (g.E.Engine.meaning c.args.engine.now) scripts c.args.base.now c.loop-index.session.journal.items) (map command_view items) replies views c.loop-index.invariant.alone rest o.journal o.replies (h.0 ∙ (λ i. (c.into_journal.ensures i).items), h.1))
     c.outcome_of.ensures
 
 pub returns-clause-whole : goal.returns-clause-whole
