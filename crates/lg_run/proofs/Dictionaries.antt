@@ -1,7 +1,6 @@
 -- Reading a dictionary: its file, and then its text with its word files.
 use Rattle.std.proofs.Common.{◌≡◌, ℕ, ◌<◌, ◌≤◌, List, [], ◌∷◌, ◌++◌, length, map, ◌⊎◌, inl, inr, Option, None, Some, IfSome, IsSomeAnd, refl, sym, ◌∙◌, ap, subst, arith}
 use Rattle.std.proofs.lemmas.Bool.{cases_lt}
-use Rattle.std.proofs.lemmas.List.{append-nil}
 use Rattle.lg_base.specs.Contents.{Contents, file}
 use Rattle.std.proofs.lemmas.List.Folds.{flat_map-map}
 use Rattle.std.specs.FinMap.{from_entries}
@@ -15,7 +14,7 @@ use Rattle.lg_dictread.specs.Telling.{Answers, AsksFront, IsMissing, OnError, Is
 use Rattle.lg_dictread.specs.Texts.{Meaning, TextAnswer, refuse, DictionaryIs}
 use Rattle.lg_dictread.specs.DictTexts.{entry_meaning, DictionaryOf}
 use Rattle.lg_run.specs.Lines.{too_long_line, dict_line}
-use Rattle.lg_run.specs.Inputs.{Found, accepted, refused, missing, HasSome, IsOne, FileIs, absent, long, whole, dictionary_from, found_in, DictionaryReads, reads, DictionaryInput}
+use Rattle.lg_run.specs.Inputs.{accepted, refused, missing, HasSome, IsOne, FileIs, absent, long, whole, dictionary_from, found_in, DictionaryReads, reads, DictionaryInput}
 use Rattle.lg_run.specs.Reads.{AsksInOrder, Comes, TellsStop, IsFaultOf}
 use Rattle.lg_run.specs.Stops.{dict_status}
 use Rattle.lg_run.specs.declared.status.Status.TheVariants.{BadInput}

@@ -1,9 +1,8 @@
 -- How a run ends, by what was read and how it finishes.
-use Rattle.std.proofs.Common.{◌≡◌, ◌≢◌, ℕ, List, [], ◌⊎◌, inl, inr, Option, None, Some, IfSome, Vec, Result, Ok, Err, IfOk, refl, sym, ◌∙◌, subst}
+use Rattle.std.proofs.Common.{◌≡◌, ℕ, List, [], inl, inr, Option, None, Some, IfSome, Vec, Result, Ok, Err, IfOk, refl, sym, ◌∙◌, subst}
 use Rattle.std.specs.Io.KnownBytes.{Appends, Keeps}
 use Rattle.lg_base.specs.Contents.{Contents}
 use Rattle.lg_base.specs.Faults.{Rose}
-use Rattle.lg_base.specs.Sinks.{AppendsFront}
 use Rattle.lg_base.specs.declared.memory.NoMemory.{NoMemory as OutOfMemory}
 use Rattle.lg_dictread.specs.declared.dict_error.DictError.{DictError}
 use Rattle.lg_dictread.specs.declared.dict_error.DictError.TheVariants as errors
@@ -16,7 +15,7 @@ use Rattle.lg_run.specs.Words.{Task, TaskIs}
 use Rattle.lg_run.specs.Inputs.{Found, Reading, accepted, refused, IsOne, Given, InputsAre}
 use Rattle.lg_run.specs.Lines.{memory_line, dict_line, know_line, script_line}
 use Rattle.lg_run.specs.Stops.{dict_status, know_status, script_status, stop_status, stop_line, EndsAs, EndsWithLine}
-use Rattle.lg_run.specs.Reads.{AsksInOrder, Comes, TellsStop, IsFaultOf}
+use Rattle.lg_run.specs.Reads.{Comes, TellsStop, IsFaultOf}
 use Rattle.lg_run.specs.Answers.{WhereTold, IsNoTask, Caused, Told, AnswersRefused, AnswersAccepted, IsRefusal, too_long, dictionary, knowledge, script, too_many_edits, HasLine, WritesLine, Finishes, last_line, IsStopped}
 use Rattle.lg_run.specs.declared.stop.Stop.{Stop}
 use Rattle.lg_run.specs.declared.stop.Stop.TheVariants.{Memory, Unreadable, TooLong, Dictionary, Knowledge, Script, TooManyEdits}

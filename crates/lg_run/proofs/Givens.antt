@@ -1,14 +1,13 @@
 -- What a command has in hand, where memory did not run out.
 use Rattle.std.proofs.Common.{◌≡◌, ℕ, List, [], Result, Ok, Err, MatchResult, IfOk, refl, sym, subst}
 use Rattle.std.proofs.lemmas.List.{append-nil}
-use Rattle.lg_run.specs.Inputs.{Found, Reading, accepted, Given, Followed, given}
+use Rattle.lg_run.specs.Inputs.{Reading, accepted, Given, Followed, given}
 use Rattle.lg_run.specs.Reads.{Comes, TellsStop, Tells, FaultsOnlyBy, IsFaultOf, given_in}
 use Rattle.lg_run.specs.Stops.{stop_status, stop_line}
 use Rattle.lg_run.specs.Answers.{IsGivenInBounds}
 use Rattle.lg_run.specs.declared.inputs.Inputs.{Inputs}
 use Rattle.lg_run.specs.declared.stop.Stop.{Stop}
 use Rattle.lg_run.specs.declared.stop.Stop.TheVariants.{Memory}
-use Rattle.lg_run.specs.declared.status.Status.{Status}
 use Rattle.lg_run.proofs.Readings.{comes_next}
 
 -- the inputs are these, or memory ran out

@@ -1,9 +1,8 @@
 -- Readings one after another: that they come to one thing, what is asked for them, and what comes of them.
-use Rattle.std.proofs.Common.{◌≡◌, ℕ, ◌≤◌, List, [], ◌∷◌, ◌++◌, Option, None, Some, IfSome, refl, sym, ◌∙◌, ap, subst}
+use Rattle.std.proofs.Common.{◌≡◌, ℕ, List, [], ◌++◌, Option, None, Some, IfSome, refl, sym, ◌∙◌, ap, subst}
 use Rattle.std.proofs.lemmas.List.{append-nil, append_assoc}
 use Rattle.std.specs.declared.result.Result.{Result}
 use Rattle.std.specs.declared.result.Result.TheVariants.{Ok, Err}
-use Rattle.lg_base.specs.Files.{AsksWithin}
 use Rattle.lg_run.specs.Inputs.{Found, Reading, accepted, refused, missing, HasSome, IsOne, given, Followed, both, ends_refused, ends_missing}
 use Rattle.lg_run.specs.Reads.{AsksInOrder, Comes, TellsStop, Tells}
 use Rattle.lg_run.specs.Stops.{stop_status, stop_line}

@@ -1,16 +1,15 @@
 -- What is told of a text that names no further file.
-use Rattle.std.proofs.Common.{◌≡◌, ◌≤◌, ◌<◌, ℕ, List, [], ◌∷◌, map, true, false, nat_lt, count_by, if◌then◌else◌, Result, Ok, Err, MatchResult, IfOk, refl, sym, ap, subst}
+use Rattle.std.proofs.Common.{◌≤◌, ◌<◌, ℕ, List, [], count_by, if◌then◌else◌, Ok, Err, sym, ap, subst}
 use Rattle.std.proofs.lemmas.Bool.{lt-ltb, le-ltb}
 use Rattle.std.proofs.lemmas.List.{append-nil}
 use Rattle.lg_knowread.specs.declared.fault.KnowError.{KnowError}
 use Rattle.lg_knowread.specs.declared.fault.KnowError.TheVariants as know_errors
-use Rattle.lg_knowread.specs.declared.knowledge.Knowledge.{Knowledge}
 use Rattle.lg_knowread.specs.Reading.{KnowledgeIs, TellsKnowledge}
 use Rattle.lg_script.specs.declared.script_error.ScriptError.{ScriptError}
 use Rattle.lg_script.specs.declared.script_error.ScriptError.TheVariants as script_errors
 use Rattle.lg_script.specs.Commands.{CommandView}
 use Rattle.lg_script.specs.Scripts.{ScriptIs}
-use Rattle.lg_run.specs.Inputs.{Found, Reading, accepted, refused, EDITS, is_edit, found_knowledge, KnowledgeReads, reads_knowledge, found_script, ScriptReads, reads_script}
+use Rattle.lg_run.specs.Inputs.{Found, Reading, accepted, refused, EDITS, is_edit, KnowledgeReads, reads_knowledge, ScriptReads, reads_script}
 use Rattle.lg_run.specs.Lines.{know_line, script_line, edits_line}
 use Rattle.lg_run.specs.Reads.{Comes, TellsStop}
 use Rattle.lg_run.specs.Stops.{know_status, script_status}

@@ -1,11 +1,10 @@
 -- What comes of knowledge, of a script and of all inputs: something, and one thing alone.
-use Rattle.std.proofs.Common.{◌≡◌, ℕ, List, [], ◌∷◌, map, true, false, if◌then◌else◌, Result, Ok, Err, refl, ap}
+use Rattle.std.proofs.Common.{◌≡◌, ℕ, List, [], ◌∷◌, Result, refl, ap}
 use Rattle.lg_base.specs.Contents.{Contents}
 use Rattle.lg_dict.specs.Dictionary.{Dictionary}
 use Rattle.lg_knowread.specs.declared.fault.KnowError.{KnowError}
 use Rattle.lg_knowread.specs.declared.knowledge.Knowledge.{Knowledge}
 use Rattle.lg_knowread.specs.Reading.{KnowledgeIs}
-use Rattle.lg_script.specs.Commands.{CommandView}
 use Rattle.lg_script.specs.Scripts.{Outcome, ScriptIs}
 use Rattle.lg_answer.specs.declared.options.Options.{Options}
 use Rattle.lg_run.specs.Words.{Task, One, Run}

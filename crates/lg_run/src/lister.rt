@@ -54,11 +54,7 @@ impl<'a> Lister<'a> {
     }
 
     // The next page of a listing, with its tokens, and the listing after it.
-    fn page(
-        &self,
-        alloc: Global,
-        held: Held,
-    ) -> Result<(Held, Tokens, Page), NoMemory>
+    fn page(&self, alloc: Global, held: Held) -> Result<(Held, Tokens, Page), NoMemory>
         ensures { IfOk result (λ r. Turns self.now held r.0 r.1 r.2) }
     {
         let Held { listing, want } = held;

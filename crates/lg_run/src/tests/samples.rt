@@ -405,7 +405,8 @@ const SESSION_KNOW: &str = r"% A phrase after an object belongs to the object.
 none: MV { O };
 ";
 
-const SESSION_SCRIPT: &str = r"% A noun is added, and then a verb. After that one reading is asked for at a time.
+const SESSION_SCRIPT: &str =
+    r"% A noun is added, and then a verb. After that one reading is asked for at a time.
 parse the cat ran
 set cat: <noun>;
 parse the cat ran

@@ -90,7 +90,14 @@ journal 0
 done
 ";
     let knowledge = "none: A { B };";
-    documents(&rt, rt.alloc(), dictionary, knowledge, "parse x y z\n", document)
+    documents(
+        &rt,
+        rt.alloc(),
+        dictionary,
+        knowledge,
+        "parse x y z\n",
+        document,
+    )
 }
 
 const OF_B: &str = "\
@@ -137,7 +144,14 @@ done
     ];
     let document = all(alloc, &parts)?;
     let script = "parse x y\nset x: A+;\nparse x y\nmore\n";
-    documents(&rt, alloc, "x: B+; y: A- or B-;", "", script, document.as_str())
+    documents(
+        &rt,
+        alloc,
+        "x: B+; y: A- or B-;",
+        "",
+        script,
+        document.as_str(),
+    )
 }
 
 #[test]
@@ -410,6 +424,9 @@ fn sink_fails_at_second_call(rt: HostRuntime) -> Result<(), Fail> {
     let status = run(&rt, alloc, &words, &mut files, &mut out, &mut err);
     assert_eq!(rt; status, Status::WriteFault);
     assert_eq!(rt; out.bytes(), b"1.1 version 0\n1.2 ver".as_slice());
-    assert_eq!(rt; err.bytes(), b"lgparse: cannot write the output\n".as_slice());
+    assert_eq!(rt;
+        err.bytes(),
+        b"lgparse: cannot write the output\n".as_slice()
+    );
     Ok(())
 }

@@ -1,11 +1,11 @@
-use Rattle.std.proofs.Common.{ℕ, List, [], ◌∷◌, map, refl}
+use Rattle.std.proofs.Common.{[], ◌∷◌, map, refl}
 use Rattle.std.proofs.lemmas.Option.{IfSome_then}
-use Rattle.lg_script.specs.Commands.{command_view, CommandView}
+use Rattle.lg_script.specs.Commands.{command_view}
 use Rattle.lg_run.specs.Inputs.{ScriptInput, RunGiven, given}
 use Rattle.lg_run.specs.Stops.{stop_status, stop_line}
 use Rattle.lg_run.proofs.Readings.{asks_none, asks_first, asks_next, stops_first}
 use Rattle.lg_run.proofs.Verdicts.{one_script}
-use Rattle.lg_run.proofs.Givens.{given_told, given_bounds, given_calm}
+use Rattle.lg_run.proofs.Givens.{given_told}
 use Rattle.lg_run.proofs.inputs.after_knowledge.Goals as goal
 
 -- the script, and then nothing

@@ -1,4 +1,4 @@
-use Rattle.std.proofs.Common.{List, ℕ, Option, IfSome, subst}
+use Rattle.std.proofs.Common.{Option, IfSome, subst}
 use Rattle.std.proofs.lemmas.Option.{IfSome_then}
 use Rattle.lg_base.specs.Contents.{Contents}
 use Rattle.lg_run.specs.Inputs.{DictionaryInput, KnowledgeGiven}

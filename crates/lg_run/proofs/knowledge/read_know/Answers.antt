@@ -1,4 +1,4 @@
-use Rattle.std.proofs.Common.{ℕ, List, map, refl, subst}
+use Rattle.std.proofs.Common.{ℕ, List, refl, subst}
 use Rattle.std.proofs.lemmas.Option.{IfSome_then}
 use Rattle.lg_run.specs.Inputs.{FileIs, KnowledgeReads}
 use Rattle.lg_run.specs.Reads.{Tells}

@@ -1,4 +1,4 @@
-use Rattle.std.proofs.Common.{◌<◌, ◌≤◌, map, count_by, subst, sym, ap, arith}
+use Rattle.std.proofs.Common.{map, count_by, ap, arith}
 use Rattle.lg_script.specs.Commands.{command_view}
 use Rattle.lg_run.specs.Inputs.{is_edit}
 use Rattle.lg_run.proofs.Told.{told_script, few_edits, many_edits}
