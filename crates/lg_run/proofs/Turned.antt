@@ -90,4 +90,4 @@ module _ (l : Lister) (dict : Dictionary) (text : List ℕ) (want : Option ℕ) 
       → IsOpened (listings l.know l.options) (StandsFor l.options) dict (start_of text want tokens first) next page stats
   opened next tokens page stats low turns disjuncts kept =
       let on = goes_on l dict (start_of text want tokens first) held next tokens page (skipped_stands tokens turns.same_tokens) turns in
-      record { shows = on.shows; counts = record { listing = held.listing; of_text = skipped_listing; disjuncts = disjuncts; kept = kept }; stands = on.stands; near = omega (arith, on.near, low); }
+      record { shows = on.shows; counts = record { listing = held.listing; of_text = skipped_listing; disjuncts = disjuncts; kept = kept }; stands = on.stands; near = omega (arith, on.near, low) }

@@ -44,7 +44,7 @@ written_all {old} {now} w e = subst (Appends old now) (sym (w.split ∙ ap (λ (
 
 -- nothing more is a front part of all
 pub written_so_far : {old now : Option (List ℕ)} {all rest : List ℕ} → WrittenTo old now all rest → AppendsFront old now all
-written_so_far {old} {now} {all} {rest} w = record { count = length w.done; grown = subst (Appends old now) (sym (ap (take (length w.done)) w.split ∙ take-append_seam w.done rest)) w.grown; }
+written_so_far {old} {now} {all} {rest} w = record { count = length w.done; grown = subst (Appends old now) (sym (ap (take (length w.done)) w.split ∙ take-append_seam w.done rest)) w.grown }
 
 -- a front part of a front part
 front_of : (n : ℕ) (xs ys : List ℕ) → (k : ℕ) × (take k (xs ++ ys) ≡ take n xs)
@@ -58,7 +58,7 @@ written_front {old} {now} {all} next piece left w e front =
     let f = front_of front.count piece left in
     let is : take (length w.done + f.0) all ≡ w.done ++ take front.count piece =
     ap (take (length w.done + f.0)) (w.split ∙ ap (λ (l : List ℕ). w.done ++ l) e) ∙ take-append-add w.done (piece ++ left) f.0 ∙ ap (λ (l : List ℕ). w.done ++ l) f.1 in
-    record { count = length w.done + f.0; grown = subst (Appends old next) (sym is) (Appends-trans old now next w.done (take front.count piece) w.grown front.grown); }
+    record { count = length w.done + f.0; grown = subst (Appends old next) (sym is) (Appends-trans old now next w.done (take front.count piece) w.grown front.grown) }
 
 -- the last piece, or a front part of it
 pub written_last : {old now : Option (List ℕ)} {all rest : List ℕ} (next : Option (List ℕ)) (piece : List ℕ) (r : Result (Unit {0}) Halt) → WrittenTo old now all rest → rest ≡ piece → Writes now next piece r → Writes old next all r

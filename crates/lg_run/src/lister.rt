@@ -1,8 +1,5 @@
 //! What answers the sentences of a session.
-ghost use Rattle.std.specs.Prelude.{◌≡◌, ◌≤◌, ◌<◌, ◌^◌, ◌-◌, length, IfOk};
-ghost use Rattle.lg_dict.specs.Dictionary.{Dictionary};
-ghost use Rattle.lg_answer.specs.Pages.{IsListing};
-ghost use Rattle.lg_session.specs.Engines.{Progress, IsOpened, start_of};
+ghost use Rattle.std.specs.Prelude.{◌≡◌, ◌<◌, ◌^◌, length, IfOk};
 ghost use Rattle.lg_run.specs.Words.{AreInRange};
 ghost use Rattle.lg_run.specs.Documents.{listings};
 ghost use Rattle.lg_run.specs.Listers.{StandsFor, Turns};
@@ -54,11 +51,7 @@ impl<'a> Lister<'a> {
     }
 
     // The next page of a listing, with its tokens, and the listing after it.
-    fn page(
-        &self,
-        alloc: Global,
-        held: Held,
-    ) -> Result<(Held, Tokens, Page), NoMemory>
+    fn page(&self, alloc: Global, held: Held) -> Result<(Held, Tokens, Page), NoMemory>
         ensures { IfOk result (λ r. Turns self.now held r.0 r.1 r.2) }
     {
         let Held { listing, want } = held;
