@@ -1,8 +1,5 @@
 //! What answers the sentences of a session.
-ghost use Rattle.std.specs.Prelude.{◌≡◌, ◌≤◌, ◌<◌, ◌^◌, ◌-◌, length, IfOk};
-ghost use Rattle.lg_dict.specs.Dictionary.{Dictionary};
-ghost use Rattle.lg_answer.specs.Pages.{IsListing};
-ghost use Rattle.lg_session.specs.Engines.{Progress, IsOpened, start_of};
+ghost use Rattle.std.specs.Prelude.{◌≡◌, ◌<◌, ◌^◌, length, IfOk};
 ghost use Rattle.lg_run.specs.Words.{AreInRange};
 ghost use Rattle.lg_run.specs.Documents.{listings};
 ghost use Rattle.lg_run.specs.Listers.{StandsFor, Turns};

@@ -1,10 +1,10 @@
 //! What is written of sessions.
-ghost use Rattle.std.specs.Prelude.{◌≡◌, ◌+◌, ◌<◌, ◌^◌, length, map, All};
+ghost use Rattle.std.specs.Prelude.{◌<◌, ◌^◌, length, map, All};
 ghost use Rattle.lg_script.specs.Commands.{command_view};
 ghost use Rattle.lg_script.specs.Kinds.{kind_of};
 ghost use Rattle.lg_session.specs.Legal.{script_views};
-ghost use Rattle.lg_text.specs.Replies.{IsAnswerTo, IsPrintableReply, reply_text, journal_text};
-ghost use Rattle.lg_run.specs.Documents.{reply_texts, session_texts, outcome_text};
+ghost use Rattle.lg_text.specs.Replies.{IsAnswerTo, IsPrintableReply, reply_text};
+ghost use Rattle.lg_run.specs.Documents.{reply_texts, outcome_text};
 ghost use Rattle.lg_run.specs.Lines.{joined};
 ghost use Rattle.lg_run.specs.Written.{ArePrintable, AreAllPrintable, Writes, HasHaltCause};
 
