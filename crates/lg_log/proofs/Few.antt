@@ -1,13 +1,14 @@
 -- A history has no more codes than the sessions have together: all of them, listed, are that many.
-use Rattle.std.proofs.Common.{◌≡◌, ◌≢◌, ℕ, zero, suc, ◌+◌, ◌*◌, ◌^◌, ◌<◌, ◌≤◌, true, false, eqb, leb, ltb, List, [], ◌∷◌, ◌++◌, length, get_or, slice_index, sum, ⊎_elim, refl, ap, sym, ◌∙◌, subst, arith, length-append, true≢false, eq-eqb, ltb-true, leb-true, eqb-true, map}
+use Rattle.std.proofs.Common.{◌≡◌, ℕ, zero, suc, ◌+◌, ◌<◌, ◌≤◌, true, eqb, List, [], ◌∷◌, ◌++◌, length, get_or, sum, ⊎_elim, refl, ap, sym, ◌∙◌, subst, arith, length-append, true≢false, eq-eqb, eqb-true}
 use Rattle.std.specs.List.{list_any, list_all, range_with_len, IsDistinct}
-use Rattle.std.proofs.lemmas.Bool.{and_parts, or_cases, or_left, or_right, cases_Bool, eqb-false}
+use Rattle.std.proofs.lemmas.Bool.{and_parts, or_cases, or_left, or_right}
 use Rattle.std.proofs.lemmas.List.FromFn.{length-range_with_len}
 use Rattle.std.proofs.lemmas.List.Folds.{list_any-append}
 use Rattle.std.proofs.lemmas.List.Sums.{sum_by-cons}
 use Rattle.std.proofs.lemmas.Map.Made.{length-le_from_is_member}
 use Rattle.std.proofs.lemmas.Cmp.{nat_eq_equiv}
 use Rattle.lg_log.specs.Codes.{code_of, is_code, code_session, code_index}
+use Rattle.lg_log.proofs.CodeLaws.{codes_are_of_edits}
 
 -- a number of a range
 in_range : (a n i : ℕ) → i < n → list_any (eqb (a + i)) (range_with_len a n) ≡ true
@@ -50,11 +51,10 @@ listed from (suc k) i (n ∷ ns) h =
     ∙ or_right _ _ (subst (λ (c : ℕ). list_any (eqb c) (all_codes (from + 1) ns) ≡ true) same (listed (from + 1) k i ns h))
 
 code_is_listed : (counts : List ℕ) (code : ℕ) → is_code counts code ≡ true → list_any (eqb code) (all_codes 0 counts) ≡ true
-code_is_listed counts code h =
-    let parts = and_parts (leb (2 ^ 32) code) (ltb (code_index code) (slice_index counts (code_session code))) h in
-    let large : 2 ^ 32 ≤ code = leb-true _ _ parts.0 in
-    let same : code_of (0 + code_session code) (code_index code) ≡ code = omega arith in
-    subst (λ (c : ℕ). list_any (eqb c) (all_codes 0 counts) ≡ true) same (listed 0 (code_session code) (code_index code) counts (ltb-true _ _ parts.1))
+code_is_listed counts code good =
+    let edit = codes_are_of_edits counts code good in
+    let same : code_of (0 + code_session code) (code_index code) ≡ code = omega (arith, edit.0) in
+    subst (λ (c : ℕ). list_any (eqb c) (all_codes 0 counts) ≡ true) same (listed 0 (code_session code) (code_index code) counts edit.2)
 
 member_is_code : (counts codes : List ℕ) (q : ℕ) → list_all (is_code counts) codes ≡ true → list_any (eqb q) codes ≡ true → is_code counts q ≡ true
 member_is_code counts [] q good h = absurd (true≢false (sym h))

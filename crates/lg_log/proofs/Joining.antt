@@ -1,5 +1,5 @@
 -- One pass takes over what another knows and carries.
-use Rattle.std.proofs.Common.{◌≡◌, ◌≢◌, ℕ, true, false, eqb, ◌⊎◌, ⊎_elim, List, [], ◌∷◌, ◌++◌, set, refl, sym, ◌∙◌, true≢false}
+use Rattle.std.proofs.Common.{◌≡◌, ◌≢◌, ℕ, true, false, eqb, ⊎_elim, List, [], ◌∷◌, set, refl, sym, ◌∙◌, true≢false}
 use Rattle.std.specs.List.{list_any}
 use Rattle.std.proofs.lemmas.Bool.{or_cases}
 use Rattle.std.proofs.lemmas.List.Folds.{list_any-append}
@@ -12,7 +12,7 @@ use Rattle.lg_log.specs.Codes.{has_session, is_of}
 use Rattle.lg_log.specs.Views.{spent_view, joined}
 use Rattle.lg_log.specs.Rule.{Fits, IsKept}
 use Rattle.lg_log.proofs.HasAll.{has_joined}
-use Rattle.lg_log.proofs.Keeping.{Words, views_set, handed, handed_here, handed_else, still_fits}
+use Rattle.lg_log.proofs.Keeping.{views_set, handed, handed_here, handed_else, still_fits}
 
 none_of_nothing : (codes : List ℕ) → list_any (is_of []) codes ≡ false
 none_of_nothing [] = refl

@@ -1,4 +1,5 @@
 pub mod Lists
+pub mod CodeLaws
 pub mod Few
 pub mod HasAll
 pub mod Keeping

@@ -1,15 +1,16 @@
 -- A pass is ready after each of its steps.
-use Rattle.std.proofs.Common.{◌≡◌, ℕ, zero, suc, ◌+◌, ◌^◌, ◌<◌, ◌≤◌, Bool, true, false, eqb, List, [], ◌∷◌, ◌++◌, length, sum, refl, ap, sym, ◌∙◌, subst, arith, length-append, le_trans, leb, ltb, cond, le-leb, ltb-true, zero-le, get_or, slice_index}
+use Rattle.std.proofs.Common.{◌≡◌, ℕ, ◌+◌, ◌<◌, ◌≤◌, true, false, eqb, List, [], ◌∷◌, ◌++◌, length, sum, refl, ap, sym, ◌∙◌, subst, arith, length-append, le_trans, leb, le-leb, zero-le}
 use Rattle.std.specs.List.{list_any, list_all, IsDistinct}
-use Rattle.std.proofs.lemmas.Bool.{cond_both, cond-true, cond-false, lt-leb, and_parts, both_ways}
+use Rattle.std.proofs.lemmas.Bool.{cond_both, cond-true, cond-false, lt-leb, both_ways}
 use Rattle.std.proofs.lemmas.Map.Keys.{IsDistinct-push}
 use Rattle.std.proofs.lemmas.Cmp.{nat_eq_equiv}
 use Rattle.atomic_table.specs.Seated.{TableId}
 use Rattle.lg_log.specs.declared.view.View.{View}
-use Rattle.lg_log.specs.Codes.{is_code, code_session, code_index, is_of}
+use Rattle.lg_log.specs.Codes.{is_code, code_session, is_of}
 use Rattle.lg_log.specs.Passes.{LogId, Standing, longer_of, IsOther, CarriesAll}
 use Rattle.lg_log.specs.Views.{standing, first_view, sees, meets_end, joined, settled, IsReady}
 use Rattle.lg_log.specs.Steps.{Seated, IsNext}
+use Rattle.lg_log.proofs.CodeLaws.{codes_are_of_edits}
 use Rattle.lg_log.proofs.Lists.{all_push}
 
 pub ready_start : (table : TableId) (me : Seated) (counts seen : List ℕ) (capacity : ℕ) → me ≡ (first_view counts, []) → table.words ≡ sum counts + 1 → seen ≡ [] → sum counts ≤ capacity → IsReady table me seen capacity
@@ -77,14 +78,6 @@ next_word_is_there seat table me seen capacity r there = let words : seat.words 
 pub is_other : (seat : TableId) (v : View) (code : ℕ) (pass : Standing) → standing seat v ≡ pass → v.live ≡ true → IsNext v code → IsOther pass code
 is_other seat v code pass is live next = subst (λ (p : Standing). IsOther p code) is (next.good live, next.other)
 
-in_list : (counts : List ℕ) (i : ℕ) → 0 < get_or counts i 0 → i < length counts
-in_list [] i some = absurd (omega arith)
-in_list (n ∷ ns) zero some = omega arith
-in_list (n ∷ ns) (suc i) some = let less = in_list ns i some in omega arith
-
 -- a pass that carries all sessions finds no other code
 pub no_other : (pass : Standing) (code : ℕ) → CarriesAll pass → IsOther pass code → ⊥
-no_other pass code all other =
-    let parts = and_parts (leb (2 ^ 32) code) (ltb (code_index code) (slice_index pass.log.counts (code_session code))) other.0 in
-    let less : code_index code < slice_index pass.log.counts (code_session code) = ltb-true _ _ parts.1 in
-    both_ways (is_of pass.sessions code) other.1 (all (code_session code) (in_list pass.log.counts (code_session code) (omega arith)))
+no_other pass code all other = both_ways (is_of pass.sessions code) other.1 (all (code_session code) (codes_are_of_edits pass.log.counts code other.0).1)

@@ -1,7 +1,7 @@
 -- A new log, and how its sessions are dealt.
-use Rattle.std.proofs.Common.{◌≡◌, ◌≢◌, ℕ, zero, suc, ◌+◌, ◌-◌, ◌<◌, ◌≤◌, true, false, eqb, ◌⊎◌, ⊎_elim, List, [], ◌∷◌, ◌++◌, length, set, replicate, take, drop, sum, map, refl, ap, sym, ◌∙◌, subst, arith, ne_eqb, true≢false}
-use Rattle.std.specs.List.{list_any, range_with_len, IsDistinct, AllByRecursion}
-use Rattle.std.proofs.lemmas.Bool.{or_cases, or_left, or_right, both_ways, cases_Bool}
+use Rattle.std.proofs.Common.{◌≡◌, ◌≢◌, ℕ, zero, suc, ◌+◌, ◌-◌, ◌<◌, true, false, eqb, ⊎_elim, List, [], ◌∷◌, ◌++◌, length, set, replicate, take, drop, sum, map, refl, ap, sym, ◌∙◌, subst, arith, ne_eqb, true≢false}
+use Rattle.std.specs.List.{range_with_len, IsDistinct, AllByRecursion}
+use Rattle.std.proofs.lemmas.Bool.{or_cases, or_left, or_right, both_ways}
 use Rattle.std.proofs.lemmas.List.FromFn.{map-range_with_len_more}
 use mathlib.Core.Option.{some, some-injective, some-ne-none}
 use lib.ListN.{get_elem?}
@@ -12,7 +12,7 @@ use Rattle.lg_log.specs.Passes.{LogId, Standing, at_start}
 use Rattle.lg_log.specs.Views.{first_view, without_first, first_alone}
 use Rattle.lg_log.specs.Rule.{Fits, IsKept}
 use Rattle.lg_log.proofs.HasAll.{has_itself, has_of_fewer}
-use Rattle.lg_log.proofs.Keeping.{Words, views_set, views_push, handed, handed_here, handed_else, still_fits}
+use Rattle.lg_log.proofs.Keeping.{views_set, views_push, handed, handed_here, handed_else, still_fits}
 use Rattle.lg_log.proofs.Reading.{no_accounts}
 
 distinct_none : IsDistinct eqb []

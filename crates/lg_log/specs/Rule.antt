@@ -1,5 +1,5 @@
 -- The rule of a log: what is always true of its words and of all views.
-use Rattle.std.specs.Prelude.{◌≡◌, ℕ, ◌+◌, true, eqb, List, ◌++◌, length, sum, replicate}
+use Rattle.std.specs.Prelude.{◌≡◌, ◌↔◌, ℕ, ◌+◌, ◌<◌, true, eqb, List, ◌++◌, length, sum, replicate, slice_index}
 use Rattle.std.specs.List.{list_all, IsDistinct, AllByRecursion}
 use mathlib.Core.Option.{some}
 use lib.ListN.{get_elem?}
@@ -31,3 +31,21 @@ pub record IsKept (counts : List ℕ) (state : State (Unit {0}) View) : Type 0 w
   pub owner : ℕ → ℕ
   pub is_history : IsHistory counts state.words history
   pub fit : (pass : ℕ) (v : View) → get_elem? state.views pass ≡ some v → Fits counts history owner pass v
+
+-- In every state of a log, the word just after all that a pass has seen is 0 exactly where the pass has seen the whole history.
+abbrev pub ZeroIsTheEnd : Type 0
+ZeroIsTheEnd =
+    (counts : List ℕ) (state : State (Unit {0}) View) (kept : IsKept counts state) (pass : ℕ) (v : View) → get_elem? state.views pass ≡ some v
+    → (slice_index state.words (length v.seen) ≡ 0) ↔ (kept.history ≡ v.seen)
+
+-- In every state of a log, a pass that carries every session has seen the whole history.
+abbrev pub AllSessionsSeeAll : Type 0
+AllSessionsSeeAll =
+    (counts : List ℕ) (state : State (Unit {0}) View) (kept : IsKept counts state) (pass : ℕ) (v : View) → get_elem? state.views pass ≡ some v
+    → ((session : ℕ) → session < length counts → has_session v.sessions session ≡ true) → kept.history ≡ v.seen
+
+-- In every state of a log, no session is carried by two passes.
+abbrev pub NoSessionTwice : Type 0
+NoSessionTwice =
+    (counts : List ℕ) (state : State (Unit {0}) View) → IsKept counts state → (a b : ℕ) (v w : View) → get_elem? state.views a ≡ some v → get_elem? state.views b ≡ some w
+    → (session : ℕ) → has_session v.sessions session ≡ true → has_session w.sessions session ≡ true → a ≡ b

@@ -1,6 +1,6 @@
 //! The codes of edits.
 ghost use Rattle.std.specs.Prelude.{◌≡◌, ◌<◌, ◌≤◌, ◌^◌};
-ghost use Rattle.lg_log.specs.Codes.{code_of, code_session, code_index};
+ghost use Rattle.lg_log.specs.Codes.{code_of, code_session, code_index, EditsHaveCodes, CodesAreOfEdits};
 
 // A session has so many numbers for its codes.
 const CODES: u64 = 1 << 32;
@@ -30,3 +30,9 @@ pub fn index_of(code: u64) -> u32
 {
     (code % CODES) as u32
 }
+
+/// What holds of codes: each edit of a log has one, which tells its session and its index, and each code is one of an edit.
+pub fn code_laws()
+    ensures edits { EditsHaveCodes }
+    ensures codes { CodesAreOfEdits }
+{}

@@ -14,6 +14,7 @@ pub mod steps;
 mod tests;
 pub mod view;
 
-pub use codes::{code, index_of, session_of};
+pub use codes::{code, code_laws, index_of, session_of};
 pub use log::Log;
 pub use pass::Pass;
+pub use rule::log_laws;

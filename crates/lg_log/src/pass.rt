@@ -12,8 +12,8 @@ use std::marker::Model;
 
 /// What one thread uses a log with: how far it has seen, and the sessions that it carries. No two passes carry one session.
 ///
-/// Contracts see the log, the sessions, the codes that were seen, and two numbers that no code has: `ends`, how often `look`
-/// found no code, and `end_at`, how many codes were seen when it last did.
+/// Contracts see the log, the sessions, the codes that were seen, and two numbers that they alone know: `ends`, how often `look`
+/// found no code, and `end_at`, how many codes had been seen when it last did.
 #[derive(Drop)]
 pub struct Pass {
     pub(crate) seat: Seat<(), View>,
@@ -56,15 +56,15 @@ impl Pass {
         ensures whole { CarriesAll self.old → result ≡ None }
         ensures few { length self.new.seen ≤ sum self.new.log.counts }
     {
-        let found = log
+        let next = log
             .table
             .shared
             .load::<Look>(&mut self.seat, self.seen.len());
-        if found == 0 {
+        if next == 0 {
             return None;
         }
-        append(&mut self.seen, found);
-        Some(found)
+        append(&mut self.seen, next);
+        Some(next)
     }
 
     /// Publishes a code just after all that was seen, and has then seen it. The pass carries its session, and has not seen it.

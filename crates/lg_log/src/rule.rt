@@ -1,5 +1,5 @@
 //! What is always true of the words of a log and of all views.
-ghost use Rattle.lg_log.specs.Rule.{IsKept};
+ghost use Rattle.lg_log.specs.Rule.{IsKept, ZeroIsTheEnd, AllSessionsSeeAll, NoSessionTwice};
 ghost use Rattle.lg_log.specs.Views.{first_view};
 
 use crate::view::View;
@@ -13,3 +13,11 @@ impl TableRule<(), View, Vec<u32>> for LogRule {
 
     ghost first = { λ counts. first_view counts.items };
 }
+
+/// What holds of every log at every time: a pass finds a zero exactly where it has seen the whole history, a pass that carries
+/// every session has seen the whole history, and no session is carried by two passes.
+pub fn log_laws()
+    ensures end { ZeroIsTheEnd }
+    ensures whole { AllSessionsSeeAll }
+    ensures apart { NoSessionTwice }
+{}

@@ -1,4 +1,3 @@
-use Rattle.std.proofs.Common.{◌≡◌}
 use Rattle.lg_log.proofs.Splitting.{starts, sessions_differ, left_is, given_is, passes_are}
 use Rattle.lg_log.proofs.pass.Pass.deal.Goals as goal
 

@@ -1,5 +1,4 @@
-use Rattle.std.proofs.Common.{◌≡◌, ℕ, ◌<◌, ap, ◌∙◌, arith, vec_capacity}
-use Rattle.atomic_table.specs.Seated.{TableId}
+use Rattle.std.proofs.Common.{◌∙◌, arith, vec_capacity}
 use Rattle.lg_log.proofs.Joining.{join_allows}
 use Rattle.lg_log.proofs.Reading.{settle_allows}
 use Rattle.lg_log.proofs.Ready.{same_table, next_word_is_there}

@@ -1,4 +1,4 @@
-use Rattle.std.proofs.Common.{◌≡◌, ℕ, ◌<◌, sym, ap, ◌∙◌, length, List, true, false, eqb, vec_capacity}
+use Rattle.std.proofs.Common.{◌≡◌, ℕ, ap, ◌∙◌, length, List, true, false, eqb, vec_capacity}
 use Rattle.std.specs.List.{list_any}
 use Rattle.lg_log.specs.Codes.{is_code, is_of}
 use Rattle.lg_log.specs.Passes.{Standing}

@@ -1,4 +1,4 @@
-use Rattle.std.proofs.Common.{◌≡◌, ◌<◌, sym, ap, arith, List, ℕ, eqb, subst, vec_capacity}
+use Rattle.std.proofs.Common.{sym, ap, arith, eqb, subst, vec_capacity}
 use Rattle.std.specs.List.{IsDistinct}
 use Rattle.lg_log.specs.Passes.{Standing}
 use Rattle.lg_log.proofs.Ready.{same_table, next_word_is_there}
