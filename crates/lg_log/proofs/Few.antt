@@ -10,8 +10,8 @@ use Rattle.std.proofs.lemmas.Cmp.{nat_eq_equiv}
 use Rattle.lg_log.specs.Codes.{code_of, is_code, code_session, code_index}
 use Rattle.lg_log.proofs.CodeLaws.{codes_are_of_edits}
 
--- a number of a range
-in_range : (a n i : ℕ) → i < n → list_any (eqb (a + i)) (range_with_len a n) ≡ true
+-- a number of a range is in it
+pub in_range : (a n i : ℕ) → i < n → list_any (eqb (a + i)) (range_with_len a n) ≡ true
 in_range a zero i h = absurd (omega arith)
 in_range a (suc n) zero h = or_left (eqb (a + 0) a) (list_any (eqb (a + 0)) (range_with_len (a + 1) n)) (eq-eqb (a + 0) a (omega arith))
 in_range a (suc n) (suc i) h =

@@ -18,7 +18,7 @@ pub record IsHistory (counts words history : List ℕ) : Type 0 where
   pub distinct : IsDistinct eqb history
 
 -- The view of the pass of this number has seen a beginning of the history, with all codes in it of the sessions that it carries.
--- These have the pass for their owner. So has each account of its note seen a beginning of what the view has seen.
+-- These have the pass for their owner. Each account of its note has, in the same way, seen a beginning of what the view has seen.
 pub record Fits (counts history : List ℕ) (owner : ℕ → ℕ) (pass : ℕ) (v : View) : Type 0 where
   pub same : v.live ≡ true → v.counts ≡ counts
   pub all : HasAllOf v.sessions v.seen history

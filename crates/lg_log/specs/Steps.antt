@@ -34,6 +34,6 @@ Looks step me found after = (after.1 ≡ me.1) × (found ≡ 0 → after.0 ≡ m
 abbrev pub Publishes : Step (Unit {0}) → Seated → ℕ → Seated → Type 0
 Publishes step me found after = (after.1 ≡ me.1) × (found ≡ 0 → (after.0 ≡ sees me.0 step.second) × HasRoom me.0) × (found ≢ 0 → Finds me found after)
 
--- The note is struck out.
+-- The note is struck out, and each account of it has all codes of its sessions in what the view has seen.
 abbrev pub Settles : Step (Unit {0}) → Seated → ℕ → Seated → Type 0
 Settles step me found after = (after.1 ≡ me.1) × (after.0 ≡ settled me.0) × AllByRecursion (λ (a : Account). HasAllOf a.sessions a.seen me.0.seen) me.0.note
