@@ -1,0 +1,10 @@
+pub mod Lists
+pub mod CodeLaws
+pub mod Few
+pub mod HasAll
+pub mod Keeping
+pub mod Reading
+pub mod Publishing
+pub mod Joining
+pub mod Splitting
+pub mod Ready

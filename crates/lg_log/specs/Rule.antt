@@ -1,0 +1,51 @@
+-- The rule of a log: what is always true of its words and of all views.
+use Rattle.std.specs.Prelude.{◌≡◌, ◌↔◌, ℕ, ◌+◌, ◌<◌, true, eqb, List, ◌++◌, length, sum, replicate, slice_index}
+use Rattle.std.specs.List.{list_all, IsDistinct, AllByRecursion}
+use mathlib.Core.Option.{some}
+use lib.ListN.{get_elem?}
+use Rattle.atomic_table.specs.Table.{State}
+use Rattle.lg_log.specs.declared.view.Account.{Account}
+use Rattle.lg_log.specs.declared.view.View.{View}
+use Rattle.lg_log.specs.Codes.{is_code, has_session}
+use Rattle.lg_log.specs.Passes.{HasAllOf}
+
+-- The words are the history, and zeros behind it. Its codes are codes of the log and differ. There is one word more than there are codes.
+pub record IsHistory (counts words history : List ℕ) : Type 0 where
+  pub zeros : ℕ
+  pub words_are : words ≡ history ++ replicate zeros 0
+  pub size : length history + zeros ≡ sum counts + 1
+  pub codes : list_all (is_code counts) history ≡ true
+  pub distinct : IsDistinct eqb history
+
+-- The view of the pass of this number has seen a beginning of the history, with all codes in it of the sessions that it carries.
+-- These have the pass for their owner. Each account of its note has, in the same way, seen a beginning of what the view has seen.
+pub record Fits (counts history : List ℕ) (owner : ℕ → ℕ) (pass : ℕ) (v : View) : Type 0 where
+  pub same : v.live ≡ true → v.counts ≡ counts
+  pub all : HasAllOf v.sessions v.seen history
+  pub owned : (session : ℕ) → has_session v.sessions session ≡ true → owner session ≡ pass
+  pub noted : AllByRecursion (λ (a : Account). HasAllOf a.sessions a.seen v.seen) v.note
+
+-- There is one history, and one owner of each session, that all views fit.
+pub record IsKept (counts : List ℕ) (state : State (Unit {0}) View) : Type 0 where
+  pub history : List ℕ
+  pub owner : ℕ → ℕ
+  pub is_history : IsHistory counts state.words history
+  pub fit : (pass : ℕ) (v : View) → get_elem? state.views pass ≡ some v → Fits counts history owner pass v
+
+-- In every state of a log, the word just after all that a pass has seen is 0 exactly where the pass has seen the whole history.
+abbrev pub ZeroIsTheEnd : Type 0
+ZeroIsTheEnd =
+    (counts : List ℕ) (state : State (Unit {0}) View) (kept : IsKept counts state) (pass : ℕ) (v : View) → get_elem? state.views pass ≡ some v
+    → (slice_index state.words (length v.seen) ≡ 0) ↔ (kept.history ≡ v.seen)
+
+-- In every state of a log, a pass that carries every session has seen the whole history.
+abbrev pub AllSessionsSeeAll : Type 0
+AllSessionsSeeAll =
+    (counts : List ℕ) (state : State (Unit {0}) View) (kept : IsKept counts state) (pass : ℕ) (v : View) → get_elem? state.views pass ≡ some v
+    → ((session : ℕ) → session < length counts → has_session v.sessions session ≡ true) → kept.history ≡ v.seen
+
+-- In every state of a log, no session is carried by two passes.
+abbrev pub NoSessionTwice : Type 0
+NoSessionTwice =
+    (counts : List ℕ) (state : State (Unit {0}) View) → IsKept counts state → (a b : ℕ) (v w : View) → get_elem? state.views a ≡ some v → get_elem? state.views b ≡ some w
+    → (session : ℕ) → has_session v.sessions session ≡ true → has_session w.sessions session ≡ true → a ≡ b
