@@ -1,7 +1,10 @@
 -- How cost numbers are read: by the place of the point.
-use Rattle.std.proofs.Common.{◌≡◌, ◌≢◌, ℕ, zero, suc, ◌+◌, ◌-◌, ◌*◌, ◌<◌, Bool, false, nat_eq, ℤ, pos, negsuc, List, [], ◌∷◌, ◌++◌, length, take, drop, get_or, Option, None, Some, position, length-append, refl, ap, sym, ◌∙◌, subst, arith, le_refl}
+use Rattle.std.proofs.Common.{◌≡◌, ◌≢◌, ℕ, zero, suc, ◌+◌, ◌-◌, ◌*◌, ◌<◌, Bool, true, false, nat_eq, ℤ, pos, neg_ℤ, List, [], ◌∷◌, ◌++◌, length, take, drop, get_or, Option, None, Some, position, length-append, refl, ap, sym, ◌∙◌, subst, arith, le_refl}
+use lib.Pointwise.{pointwise}
 use Rattle.std.specs.List.{position_or_len}
+use Rattle.std.specs.Char.{digit_value}
 use Rattle.std.specs.Str.Parse.{AllDigits, digits_value}
+use Rattle.std.proofs.lemmas.Bool.{true≢false}
 use Rattle.std.proofs.lemmas.Bool.Decides.{nat_tests}
 use Rattle.std.proofs.lemmas.List.Sums.{position_or_len_is}
 use Rattle.std.proofs.lemmas.List.Quantifiers.{position-Some}
@@ -10,8 +13,9 @@ use Rattle.std.proofs.Math.Seq.{get_or-append_seam, take-append_seam, drop-appen
 use Rattle.std.proofs.Math.ListN.{get_or-append}
 use Rattle.std.proofs.lemmas.List.{take-append-drop, take_rest}
 use Rattle.std.specs.Option.{SomeIff}
-use Rattle.lg_base.specs.Costs.{AreDigits, part_value, CostForm, ReadsForm, IsCostNumber}
+use Rattle.lg_base.specs.Costs.{AreDigits, part_value, CostForm, ReadsForm, IsSize, ReadsSize, IsCostNumber, ReadsCost}
 use Rattle.lg_base.specs.Costs.CostForm.{Whole, WholeAndPart, Part}
+use Rattle.lg_base.specs.Costs.IsCostNumber.{Plain, Negated}
 
 abbrev pub is_point : ℕ → Bool
 is_point byte = nat_eq byte 46
@@ -132,11 +136,47 @@ read_both bytes (suc k) _ place whole part front back =
     form-from_FormAt bytes (1000 * whole + part) (Some (suc k)) (sym place)
     (front.0, back.0, ap (λ n. 1000 * n + part) front.1 ∙ ap (λ n. 1000 * digits_value 10 (take (suc k) bytes) + n) back.1)
 
--- what has no form, or a value that is too large, is no cost number
-pub refused_form : (bytes : List ℕ) → ReadsForm bytes None → (cost : ℤ) → ¬ IsCostNumber bytes cost
-refused_form bytes formless (pos value) number = formless value number.0
-refused_form bytes formless (negsuc n) number = number
+-- what has no form, or a value that is too large, is no cost number without a sign
+pub refused_form : (bytes : List ℕ) → ReadsForm bytes None → ReadsSize bytes None
+refused_form bytes formless size is = formless size is.0
 
-pub refused_value : (bytes : List ℕ) (value : ℕ) → CostForm bytes value → 10000000 < value → (cost : ℤ) → ¬ IsCostNumber bytes cost
-refused_value bytes value form large (pos other) number = omega (arith, form_once bytes value other form number.0, number.1)
-refused_value bytes value form large (negsuc n) number = number
+pub refused_value : (bytes : List ℕ) (value : ℕ) → CostForm bytes value → 10000000 < value → ReadsSize bytes None
+refused_value bytes value form large size is = omega (arith, form_once bytes value size form is.0, is.1)
+
+-- bytes that are the same have the same first byte
+pub same_first : (a b : ℕ) (cs ds : List ℕ) → a ∷ cs ≡ b ∷ ds → a ≡ b
+same_first a b cs ds same = ap (λ (text : List ℕ). get_or text 0 0) same
+
+-- no form begins with a minus sign
+pub no_signed_form : (unsigned : List ℕ) (value : ℕ) → ¬ CostForm (45 ∷ unsigned) value
+no_signed_form unsigned value (Whole digits is) = let first = digits.0.1.0 in omega arith
+no_signed_form unsigned value (WholeAndPart [] part split digits after is) = let some = digits.0.0 in omega arith
+no_signed_form unsigned value (WholeAndPart (c ∷ cs) part split digits after is) =
+    let first = same_first 45 c unsigned (cs ++ 46 ∷ part) split in let digit = subst (λ d. digit_value d < 10) (sym first) digits.0.1.0 in omega arith
+no_signed_form unsigned value (Part part split digits is) = omega (arith, same_first 45 46 unsigned part split)
+
+-- what is left of bytes that a minus sign begins, and bytes that it does not begin
+pub sign_taken : (bytes unsigned : List ℕ) → pointwise nat_eq (take 1 bytes) (45 ∷ []) ≡ true → unsigned ≡ drop 1 bytes → bytes ≡ 45 ∷ unsigned
+sign_taken [] unsigned same _ = absurd cc
+sign_taken (b ∷ bs) unsigned same is = let first : b ≡ 45 = grind (arith, nat_tests) in ap (λ c. c ∷ bs) first ∙ ap (λ rest. 45 ∷ rest) (sym is)
+
+pub no_sign_taken : (bytes : List ℕ) → pointwise nat_eq (take 1 bytes) (45 ∷ []) ≡ false → (unsigned : List ℕ) → bytes ≢ 45 ∷ unsigned
+no_sign_taken bytes other unsigned is = true≢false (ap (λ text. pointwise nat_eq (take 1 text) (45 ∷ [])) (sym is) ∙ other)
+
+-- behind a minus sign stands the size that it negates
+pub negated : (bytes unsigned : List ℕ) → bytes ≡ 45 ∷ unsigned → (cost : ℤ) → IsCostNumber bytes cost → (size : ℕ) × IsSize unsigned size × (cost ≡ neg_ℤ (pos size))
+negated bytes unsigned split cost (Plain size is same) = absurd (no_signed_form unsigned size (subst (λ text. CostForm text size) split is.0))
+negated bytes unsigned split cost (Negated other size begins is same) =
+    let rest : other ≡ unsigned = ap (drop 1) (sym begins ∙ split) in
+    (size, subst (λ text. IsSize text size) rest is, same)
+
+-- and other bytes are the size itself
+pub plain : (bytes : List ℕ) → ((unsigned : List ℕ) → bytes ≢ 45 ∷ unsigned) → (cost : ℤ) → IsCostNumber bytes cost → (size : ℕ) × IsSize bytes size × (cost ≡ pos size)
+plain bytes other cost (Plain size is same) = (size, is, same)
+plain bytes other cost (Negated unsigned size begins is same) = absurd (other unsigned begins)
+
+pub refused_negated : (bytes unsigned : List ℕ) → bytes ≡ 45 ∷ unsigned → ReadsSize unsigned None → ReadsCost bytes None
+refused_negated bytes unsigned split none cost number = let found = negated bytes unsigned split cost number in none found.0 found.1
+
+pub refused_plain : (bytes : List ℕ) → ((unsigned : List ℕ) → bytes ≢ 45 ∷ unsigned) → ReadsSize bytes None → ReadsCost bytes None
+refused_plain bytes other none cost number = let found = plain bytes other cost number in none found.0 found.1

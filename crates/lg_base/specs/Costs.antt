@@ -45,19 +45,28 @@ abbrev pub ReadsForm : List ℕ → Option ℕ → Type 0
 ReadsForm bytes (Some value) = CostForm bytes value
 ReadsForm bytes None = (value : ℕ) → ¬ CostForm bytes value
 
--- the bytes are a cost number, at most 10000.000, and this is its cost
-abbrev pub IsCostNumber : List ℕ → ℤ → Type 0
-IsCostNumber bytes (pos value) = CostForm bytes value × (value ≤ 10 ^ 7)
-IsCostNumber bytes (negsuc _) = ⊥
+-- the bytes are a cost number without a sign, at most 10000.000, and these are its thousandths
+abbrev pub IsSize : List ℕ → ℕ → Type 0
+IsSize bytes size = CostForm bytes size × (size ≤ 10 ^ 7)
+
+-- the answer to these bytes: their thousandths where they are a cost number without a sign, and else None
+abbrev pub ReadsSize : List ℕ → Option ℕ → Type 0
+ReadsSize bytes (Some size) = IsSize bytes size
+ReadsSize bytes None = (size : ℕ) → ¬ IsSize bytes size
+
+-- the bytes are a cost number and this is its cost, which a minus sign (45) negates
+pub data IsCostNumber (bytes : List ℕ) (cost : ℤ) : Type 0 where
+  Plain : (size : ℕ) → IsSize bytes size → cost ≡ pos size → IsCostNumber bytes cost
+  Negated : (unsigned : List ℕ) (size : ℕ) → bytes ≡ 45 ∷ unsigned → IsSize unsigned size → cost ≡ neg_ℤ (pos size) → IsCostNumber bytes cost
 
 -- the answer to these bytes: the cost where they are a cost number, and else None
 abbrev pub ReadsCost : List ℕ → Option ℤ → Type 0
 ReadsCost bytes (Some cost) = IsCostNumber bytes cost
 ReadsCost bytes None = (cost : ℤ) → ¬ IsCostNumber bytes cost
 
--- reading a printed cost that is not negative and at most 10000.000 gives it back
+-- reading a printed cost that is at most 10000.000 from zero gives it back
 abbrev pub IsReadBack : Type 0
-IsReadBack = (value : ℕ) → value ≤ 10 ^ 7 → (answer : Option ℤ) → ReadsCost (cost_text (pos value)) answer → answer ≡ Some (pos value)
+IsReadBack = (cost : ℤ) → unsigned_abs cost ≤ 10 ^ 7 → (answer : Option ℤ) → ReadsCost (cost_text cost) answer → answer ≡ Some cost
 
 -- the same bytes are a cost number for one cost alone
 abbrev pub HasOneCost : Type 0

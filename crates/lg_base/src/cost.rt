@@ -2,7 +2,7 @@
 ghost use Rattle.std.specs.Prelude.{◌≡◌, ◌+ℤ◌, ◌++◌, ◌^◌, ◌<◌, ◌≤◌, ◌==◌, OnOk, OnErr, IfOk, IfSome, string_bytes, unsigned_abs, position, length};
 ghost use Rattle.std.specs.Option.{SomeIff};
 ghost use Rattle.std.specs.Str.Parse.{digits_value};
-ghost use Rattle.lg_base.specs.Costs.{IsWithinCosts, cost_text, sign_of, AreDigits, part_value, ReadsForm, ReadsCost, IsReadBack, HasOneCost};
+ghost use Rattle.lg_base.specs.Costs.{IsWithinCosts, cost_text, sign_of, AreDigits, part_value, ReadsForm, ReadsSize, ReadsCost, IsReadBack, HasOneCost};
 
 use crate::memory::NoMemory;
 use crate::printing::write_bytes;
@@ -93,21 +93,27 @@ const WHOLE_DIGITS: usize = 5;
 
 const PART_DIGITS: usize = 3;
 
-// The largest cost number, 10000.000.
+// The largest cost number without its sign, 10000.000.
 const LARGEST: u32 = 10_000_000;
 
 /// The cost that the bytes write, or `None` exactly where they are no cost number.
 ///
-/// A cost number is one to five digits; or one to five digits, a point and one to three digits; or a point and one to
-/// three digits. It is at most 10000.000, and has no sign.
+/// A cost number has an optional `-` in front, and then: one to five digits; or one to five digits, a point and one to
+/// three digits; or a point and one to three digits. Without its sign it is at most 10000.000. The sign negates it, and
+/// `-0` is 0.
 pub fn parse_cost(bytes: &[u8]) -> Option<Cost>
     ensures { ReadsCost bytes.now result }
 {
-    let value = parse_form(bytes)?;
-    if value > LARGEST {
-        return None;
+    match bytes.strip_prefix(b"-") {
+        Some(unsigned) => {
+            let size = parse_size(unsigned)?;
+            Some(Cost::of(-i64::from(size)))
+        }
+        None => {
+            let size = parse_size(bytes)?;
+            Some(Cost::of(i64::from(size)))
+        }
     }
-    Some(Cost::of(i64::from(value)))
 }
 
 /// What holds of cost numbers: a printed one is read back, and the same bytes are never two of them.
@@ -115,6 +121,18 @@ pub fn cost_number_laws()
     ensures read_back { IsReadBack }
     ensures once { HasOneCost }
 {}
+
+// The thousandths of a cost number without a sign.
+fn parse_size(bytes: &[u8]) -> Option<u32>
+    ensures value { ReadsSize bytes.now result }
+    ensures bound { IfSome result (λ size. size ≤ 10 ^ 7) }
+{
+    let size = parse_form(bytes)?;
+    if size > LARGEST {
+        return None;
+    }
+    Some(size)
+}
 
 // The thousandths that the bytes stand for in one of the three forms, which the place of the point tells apart.
 fn parse_form(bytes: &[u8]) -> Option<u32>

@@ -1,15 +1,32 @@
-use Rattle.std.proofs.Common.{◌≡◌, pos, sym, subst, rules}
-use Rattle.lg_base.specs.Costs.{ReadsCost, IsCostNumber}
-use Rattle.lg_base.proofs.CostReading.{refused_form, refused_value}
+-- The sign is taken or it is not.
+use Rattle.std.proofs.Common.{◌≡◌, pos, neg_ℤ, sym, subst, arith, rules}
+use Rattle.std.proofs.lemmas.Int.{ints}
+use Rattle.lg_base.specs.Costs.{ReadsCost}
+use Rattle.lg_base.specs.Costs.IsCostNumber.{Plain, Negated}
+use Rattle.lg_base.proofs.CostReading.{sign_taken, no_sign_taken, refused_negated, refused_plain}
 use Rattle.lg_base.proofs.cost.parse_cost.Goals as goal
 
-pub returns-in_err-value : goal.returns-in_err-value
-returns-in_err-value c = subst (ReadsCost _) (sym c.from_residual.ensures) (refused_form _ c.in_err-value.ensures)
+pub returns-in_err-size-in-Some : goal.returns-in_err-size-in-Some
+returns-in_err-size-in-Some c =
+    let cut = c.in-Some.ensures.cases in
+    subst (ReadsCost _) (sym c.from_residual.ensures)
+    (refused_negated _ _ (sign_taken _ _ cut.0 cut.1) c.in_err-size-in-Some.ensures.value)
 
-pub returns-then-value-gt-LARGEST : goal.returns-then-value-gt-LARGEST
-returns-then-value-gt-LARGEST c = refused_value _ _ c.in_ok-value.ensures c.if-value-gt-LARGEST.true
+pub returns-in_err-size-in-None : goal.returns-in_err-size-in-None
+returns-in_err-size-in-None c =
+    subst (ReadsCost _) (sym c.from_residual-in_err-size-in-None.ensures)
+    (refused_plain _ (no_sign_taken _ c.in-None.ensures.cases) c.in_err-size-in-None.ensures.value)
 
-pub returns : goal.returns
-returns c =
-    let same : c.of.result ≡ pos c.in_ok-value.value = search rules in
-    subst (IsCostNumber c.args.bytes.now) (sym same) (c.in_ok-value.ensures, c.if-value-gt-LARGEST.false)
+pub returns-in_ok-size-in-Some : goal.returns-in_ok-size-in-Some
+returns-in_ok-size-in-Some c =
+    let cut = c.in-Some.ensures.cases in
+    let small = c.in_ok-size-in-Some.ensures.bound in
+    let of = c.of.ensures in
+    let from = c.from.ensures in
+    let cost : c.of.result ≡ neg_ℤ (pos c.in_ok-size-in-Some.size) = omega (arith, ints) in
+    Negated _ _ (sign_taken _ _ cut.0 cut.1) c.in_ok-size-in-Some.ensures.value cost
+
+pub returns-in_ok-size-in-None : goal.returns-in_ok-size-in-None
+returns-in_ok-size-in-None c =
+    let same : c.of-in-None.result ≡ pos c.in_ok-size-in-None.size = search rules in
+    Plain _ c.in_ok-size-in-None.ensures.value same
