@@ -13,7 +13,7 @@ use Rattle.std.proofs.lemmas.Map.Keys.{Less-from_sorted}
 use Rattle.std.proofs.lemmas.Map.Lookups.{CmpEqualImpliesEq, exact_unsigned}
 use Rattle.lg_gram.specs.declared.disjunct.Disjunct.{Disjunct}
 use Rattle.lg_gram.specs.Disjuncts.{disjunct_cmp}
-use Rattle.lg_gram.specs.Linkages.{Linkage, linkage_cmp, tie_cmp, unlinked, total_cost, total_length}
+use Rattle.lg_gram.specs.Linkages.{Linkage, link_cmp, linkage_cmp, tie_cmp, unlinked, total_cost, total_length}
 use Rattle.lg_gram.specs.Problems.{IsProblem}
 use Rattle.lg_gram.specs.Rules.{Belongs}
 use Rattle.lg_gram.proofs.Orders.{disjuncts_total}
@@ -70,6 +70,17 @@ exact_links k l h =
     let lplace = exact_unsigned k.lplace l.lplace (first_equal (nat_cmp k.lplace l.lplace) _ places) in
     let rplace = exact_unsigned k.rplace l.rplace (second_equal (nat_cmp k.lplace l.lplace) _ places) in
     λ i. record { left = sym left i; lplace = lplace i; right = sym right i; rplace = rplace i }
+
+-- links that compare alike are one
+pub same_link : CmpEqualImpliesEq link_cmp
+same_link k l h =
+    let later = second_equal (nat_cmp k.left l.left) _ h in
+    let last = second_equal (nat_cmp k.right l.right) _ later in
+    let left = exact_unsigned k.left l.left (first_equal (nat_cmp k.left l.left) _ h) in
+    let right = exact_unsigned k.right l.right (first_equal (nat_cmp k.right l.right) _ later) in
+    let lplace = exact_unsigned k.lplace l.lplace (first_equal (nat_cmp k.lplace l.lplace) _ last) in
+    let rplace = exact_unsigned k.rplace l.rplace (second_equal (nat_cmp k.lplace l.lplace) _ last) in
+    λ i. record { left = left i; lplace = lplace i; right = right i; rplace = rplace i }
 
 same_choice : (ds : List Disjunct) (x y : Option Disjunct) → IsStrictlySortedBy disjunct_cmp ds →
     ((d : Disjunct) → x ≡ Some d → Contains ds d) → ((d : Disjunct) → y ≡ Some d → Contains ds d) → option_cmp disjunct_cmp x y ≡ Equal → x ≡ y

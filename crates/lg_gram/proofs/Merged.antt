@@ -52,12 +52,8 @@ pub written_label : (a b : Connector) → IsName (name_of a) → IsName (name_of
 written_label a b p q same =
     let x = written_parts a.caps a.subs p.written in
     let y = written_parts b.caps b.subs q.written in
-    is_written_from a.caps (merged a.subs b.subs) (record {
-      some = x.some;
-      few = omega (arith, x.few, y.few, ap length same, length-merged a.subs b.subs);
-      capitals = x.capitals;
-      subscripts = subscripts_merged a.subs b.subs x.subscripts y.subscripts;
-    })
+    is_written_from a.caps (merged a.subs b.subs) x.some (omega (arith, x.few, y.few, ap length same, length-merged a.subs b.subs))
+    x.capitals (subscripts_merged a.subs b.subs x.subscripts y.subscripts)
 
 -- what is written so is the label
 pub label_given : (a b : Connector) → IsName (name_of a) → IsName (name_of b) → a.caps ≡ b.caps → (caps letters : List ℕ) → caps ≡ a.caps → letters ≡ merged a.subs b.subs →

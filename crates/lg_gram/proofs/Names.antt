@@ -11,7 +11,8 @@ use Rattle.std.proofs.lemmas.List.{length-replicate, take_at, drop_at, drop-repl
 use Rattle.std.proofs.lemmas.Bool.Decides.{nat_tests}
 use Rattle.std.specs.List.{list_all, prefix_len, suffix_len}
 use borrow.Rule.Slice.PartMut.{put_mid}
-use Rattle.lg_gram.specs.Names.{IsName, is_capital, is_subscript, is_written, WrittenParts, trimmed, STAR}
+use Rattle.lg_gram.specs.Limits.{LETTERS}
+use Rattle.lg_gram.specs.Names.{IsName, is_capital, is_subscript, is_written, NamesAreWritten, trimmed, STAR}
 use Rattle.lg_gram.specs.Connectors.{Connector, name_of, connector_text, connector_cmp}
 use Rattle.lg_gram.specs.Stored.{IsStored, stored}
 
@@ -25,17 +26,6 @@ packed_parts caps subs h =
     rw (take_at caps zeros (length caps) refl, drop_at caps zeros (length caps) refl, drop-replicate {X = ℕ} (length caps) 16 0, drop-replicate {X = ℕ} (length caps + length subs - length caps) (16 - length caps) 0, count)
     (sym (append_assoc caps subs _))
 
-pub written_parts : (caps subs : List ℕ) → is_written caps subs ≡ true → WrittenParts caps subs
-written_parts caps subs h = record {
-  some = grind (arith, nat_tests);
-  few = grind (arith, nat_tests);
-  capitals = grind (arith, nat_tests);
-  subscripts = grind (arith, nat_tests);
-}
-
-pub is_written_from : (caps subs : List ℕ) → WrittenParts caps subs → is_written caps subs ≡ true
-is_written_from caps subs h = grind (arith, nat_tests, h.some, h.few, h.capitals, h.subscripts)
-
 -- the capitals of a name are those at its front
 pub prefix_len-caps : (caps subs : List ℕ) → list_all is_capital caps ≡ true → list_all is_subscript subs ≡ true → prefix_len is_capital (caps ++ subs) ≡ length caps
 prefix_len-caps [] [] all rest = refl
@@ -47,6 +37,21 @@ prefix_len-caps (b ∷ caps) subs all rest =
     let parts = and_parts (is_capital b) (list_all is_capital caps) all in
     ap (λ (x : Bool). cond x (1 + prefix_len is_capital (caps ++ subs)) 0) parts.0 ∙ omega (arith, prefix_len-caps caps subs parts.1 rest)
 
+pub written_parts : NamesAreWritten
+written_parts caps subs h =
+    let capitals : list_all is_capital caps ≡ true = grind (arith, nat_tests) in
+    let subscripts : list_all is_subscript subs ≡ true = grind (arith, nat_tests) in
+    record {
+      some = grind (arith, nat_tests);
+      few = grind (arith, nat_tests);
+      capitals = capitals;
+      subscripts = subscripts;
+      front = prefix_len-caps caps subs capitals subscripts;
+    }
+
+pub is_written_from : (caps subs : List ℕ) → 0 < length caps → length caps + length subs ≤ LETTERS → list_all is_capital caps ≡ true → list_all is_subscript subs ≡ true → is_written caps subs ≡ true
+is_written_from caps subs some few capitals subscripts = grind (arith, nat_tests)
+
 list_all-take : (p : ℕ → Bool) (xs : List ℕ) (n : ℕ) → list_all p xs ≡ true → list_all p (take n xs) ≡ true
 list_all-take p [] n h = rw take-nil refl
 list_all-take p (x ∷ xs) zero h = refl
@@ -56,12 +61,8 @@ list_all-take p (x ∷ xs) (suc n) h = let parts = and_parts (p x) (list_all p x
 pub trimmed_written : (caps subs : List ℕ) → is_written caps subs ≡ true → is_written caps (trimmed subs) ≡ true
 trimmed_written caps subs h =
     let parts = written_parts caps subs h in
-    is_written_from caps (trimmed subs) (record {
-      some = parts.some;
-      few = omega (arith, parts.few, length-take (length subs - suffix_len (λ b. b == STAR) subs) subs);
-      capitals = parts.capitals;
-      subscripts = list_all-take is_subscript subs _ parts.subscripts;
-    })
+    is_written_from caps (trimmed subs) parts.some (omega (arith, parts.few, length-take (length subs - suffix_len (λ b. b == STAR) subs) subs))
+    parts.capitals (list_all-take is_subscript subs _ parts.subscripts)
 
 -- a name that is written as it may be is stored so
 pub stored_so : (caps subs : List ℕ) → is_written caps subs ≡ true → trimmed subs ≡ subs → IsStored (stored (record { caps = caps; subs = subs }))

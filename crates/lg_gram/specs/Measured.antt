@@ -1,14 +1,22 @@
--- The measures that an expression passes.
-use Rattle.std.specs.Prelude.{ℕ, ◌≤◌, min, max, Option, Some, None, nat_lt, true, false, if◌then◌else◌}
+-- The measures of an expression, and those that it passes.
+use Rattle.std.specs.Prelude.{◌≡◌, ℕ, ◌≤◌, min, max, Option, Some, None, nat_lt, true, false, if◌then◌else◌}
 use Rattle.lg_gram.specs.Limits.{FORMULA_NODES, FORMULA_CHOICES, SIDE, COUNTED, SIDE_COUNTED}
 use Rattle.lg_gram.specs.Measures.{node_count, choice_count, side_count}
 use Rattle.lg_gram.specs.Trees.{Tree}
+use Rattle.lg_gram.specs.declared.sizes.Sizes.{Sizes}
 use Rattle.lg_gram.specs.declared.measures.Excess.{Excess}
 use Rattle.lg_gram.specs.declared.measures.Excess.TheVariants.{Nodes, Choices, Side}
 
 -- the connectors on the side that has more of them
 abbrev pub longest_side : Tree → ℕ
 longest_side t = max (side_count false t) (side_count true t)
+
+-- the sizes are those of the expression
+pub record HasSizes (t : Tree) (sizes : Sizes) : Type 0 where
+  pub nodes : sizes.nodes ≡ node_count t
+  pub choices : sizes.choices ≡ choice_count t
+  pub left : sizes.left ≡ side_count false t
+  pub right : sizes.right ≡ side_count true t
 
 -- the expression keeps to the measures
 pub record IsSmall (t : Tree) : Type 0 where

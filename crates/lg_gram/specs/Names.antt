@@ -1,6 +1,6 @@
 -- Names: of connectors, and of links, where they are called labels.
-use Rattle.std.specs.Prelude.{◌≡◌, ℕ, ◌+◌, ◌-◌, ◌<◌, ◌≤◌, List, length, take, Bool, true, ◌&&◌, ◌||◌, ◌==◌, nat_le, nat_lt}
-use Rattle.std.specs.List.{list_all, suffix_len}
+use Rattle.std.specs.Prelude.{◌≡◌, ℕ, ◌+◌, ◌-◌, ◌<◌, ◌≤◌, List, ◌++◌, length, take, Bool, true, ◌&&◌, ◌||◌, ◌==◌, nat_le, nat_lt}
+use Rattle.std.specs.List.{list_all, prefix_len, suffix_len}
 use Rattle.lg_gram.specs.Limits.{LETTERS}
 
 -- capital letters, and then subscripts
@@ -31,6 +31,11 @@ pub record WrittenParts (caps subs : List ℕ) : Type 0 where
   pub few : length caps + length subs ≤ LETTERS
   pub capitals : list_all is_capital caps ≡ true
   pub subscripts : list_all is_subscript subs ≡ true
+  -- the capitals are those that the text begins with
+  pub front : prefix_len is_capital (caps ++ subs) ≡ length caps
+
+abbrev pub NamesAreWritten : Type 0
+NamesAreWritten = (caps subs : List ℕ) → is_written caps subs ≡ true → WrittenParts caps subs
 
 -- without the stars at the end
 abbrev pub trimmed : List ℕ → List ℕ

@@ -1,10 +1,13 @@
 //! Formulas: what a dictionary gives each word.
-ghost use Rattle.std.specs.Prelude.{◌≡◌, MatchOption, IfOk};
+ghost use Rattle.std.specs.Prelude.{◌≡◌, ◌≤◌, MatchOption, IfOk};
+ghost use Rattle.lg_gram.specs.Limits.{FORMULA_CHOICES};
 ghost use Rattle.lg_gram.specs.Trees.{tree_of};
-ghost use Rattle.lg_gram.specs.Measures.{node_count};
+ghost use Rattle.lg_gram.specs.Measures.{node_count, choice_count, side_count};
+ghost use Rattle.lg_gram.specs.Measured.{HasSizes};
 ghost use Rattle.lg_gram.specs.Formulas.{IsFormula};
 
-use crate::expr::{Expr, are_prices_small, choices, depth, longest_side, nodes};
+use crate::expr::Expr;
+use crate::sizes::{Sizes, are_prices_small, depth, sizes_of};
 use lg_base::NoMemory;
 use std::alloc::Global;
 use std::marker::Model;
@@ -26,7 +29,7 @@ const DEPTH: u32 = 602;
 #[derive(Debug, Drop)]
 pub struct Formula {
     body: Body,
-    nodes: u64,
+    sizes: Sizes,
 }
 
 /// Where the expression of a formula is held.
@@ -42,7 +45,7 @@ impl Model for Formula {
     ghost use Rattle.lg_gram.specs.declared.expr.Expr.{Expr as Seen};
     ghost use Rattle.std.specs.Prelude.{◌≡◌};
     ghost use Rattle.lg_gram.specs.Trees.{tree_of};
-    ghost use Rattle.lg_gram.specs.Measures.{node_count};
+    ghost use Rattle.lg_gram.specs.Measured.{HasSizes};
     ghost use Rattle.lg_gram.specs.Formulas.{IsFormula};
     ghost use Rattle.lg_gram.specs.Bodies.{held_in};
 
@@ -55,7 +58,7 @@ impl Model for Formula {
 
     ghost view = { λ f. held_in f.body };
 
-    ghost invariant = { λ f. IsFormula (tree_of (held_in f.body)) × (f.nodes ≡ node_count (tree_of (held_in f.body))) };
+    ghost invariant = { λ f. IsFormula (tree_of (held_in f.body)) × HasSizes (tree_of (held_in f.body)) f.sizes };
 }
 
 impl Formula {
@@ -63,15 +66,15 @@ impl Formula {
     pub fn of(expr: Expr) -> Option<Formula>
         ensures { MatchOption result (IsFormula (tree_of expr) → ⊥) (λ f. (f ≡ expr) × IsFormula (tree_of expr)) }
     {
-        let nodes = nodes(&expr);
-        let fits = nodes <= NODES
-            && choices(&expr) <= CHOICES
-            && longest_side(&expr) <= SIDE
+        let sizes = sizes_of(&expr);
+        let fits = sizes.nodes <= NODES
+            && sizes.choices <= CHOICES
+            && sizes.longest_side() <= SIDE
             && depth(&expr) <= DEPTH
             && are_prices_small(&expr);
         if fits {
             let body = Body::Own(expr);
-            Some(Formula { body, nodes })
+            Some(Formula { body, sizes })
         } else {
             None
         }
@@ -82,9 +85,9 @@ impl Formula {
         requires { IsFormula (tree_of expr) }
         ensures { result ≡ expr }
     {
-        let nodes = nodes(&expr);
+        let sizes = sizes_of(&expr);
         let body = Body::Own(expr);
-        Formula { body, nodes }
+        Formula { body, sizes }
     }
 
     /// The expression.
@@ -102,21 +105,43 @@ impl Formula {
     pub fn nodes(&self) -> u64
         ensures { result ≡ node_count (tree_of self.now) }
     {
-        self.nodes
+        self.sizes.nodes
+    }
+
+    /// How many choices the expression has. The time is constant.
+    pub fn choices(&self) -> u64
+        ensures value { result ≡ choice_count (tree_of self.now) }
+        ensures few { result ≤ FORMULA_CHOICES }
+    {
+        self.sizes.choices
+    }
+
+    /// How many connectors the expression has on a side, `true` the right, where it has the most. The time is constant.
+    pub fn side(&self, right: bool) -> u32
+        ensures { result ≡ side_count right (tree_of self.now) }
+    {
+        self.sizes.side(right)
+    }
+
+    // The sizes of the expression.
+    pub(crate) fn sizes(&self) -> Sizes
+        ensures { HasSizes (tree_of self.now) result }
+    {
+        self.sizes
     }
 
     /// The same formula, whose copies share its expression with it and take a constant time.
     pub fn shared(self, alloc: Global) -> Result<Formula, NoMemory>
         ensures { IfOk result (λ shared. shared ≡ self) }
     {
-        let nodes = self.nodes;
+        let sizes = self.sizes;
         let shared = match self.body {
             Body::Own(expr) => Arc::new(alloc, expr)?,
             Body::Shared(expr) => expr,
         };
         Ok(Formula {
             body: Body::Shared(shared),
-            nodes,
+            sizes,
         })
     }
 
@@ -130,7 +155,7 @@ impl Formula {
         };
         Ok(Formula {
             body,
-            nodes: self.nodes,
+            sizes: self.sizes,
         })
     }
 }

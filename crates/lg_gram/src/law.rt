@@ -1,28 +1,36 @@
 //! Laws of the grammar, each the contract of a function without a body.
-ghost use Rattle.std.specs.Prelude.{◌≡◌, ℕ, true, List, length};
+ghost use Rattle.std.specs.Prelude.{◌≡◌, ℕ, List, length};
 ghost use Rattle.std.specs.Cmp.{IsTotalOrder};
-ghost use Rattle.lg_gram.specs.Names.{is_written, WrittenParts};
+ghost use Rattle.lg_gram.specs.Names.{NamesAreWritten};
 ghost use Rattle.lg_gram.specs.Connectors.{connector_cmp, ConnectorsToldApart};
 ghost use Rattle.lg_gram.specs.Trees.{Tree};
 ghost use Rattle.lg_gram.specs.Measures.{choices_of, choice_count};
-ghost use Rattle.lg_gram.specs.Linkages.{linkage_cmp};
+ghost use Rattle.lg_gram.specs.Linkages.{link_cmp, linkage_cmp};
 ghost use Rattle.lg_gram.specs.Levels.{TellsApart};
 ghost use Rattle.lg_gram.specs.Pairs.{PairsDecide};
-ghost use Rattle.std.specs.declared.cmp.Ordering.TheVariants.{Less};
+ghost use Rattle.std.specs.declared.cmp.Ordering.TheVariants.{Less, Equal};
 ghost use Rattle.lg_gram.specs.Problems.{IsProblem};
 ghost use Rattle.lg_gram.specs.Rules.{Good};
 ghost use Rattle.lg_gram.specs.Ground.{mary_ran, mary_ran_linked, mary_ran_unlinked, linked_twice, crossed};
 ghost use Rattle.lg_gram.specs.declared.disjunct.Disjunct.{Disjunct};
+ghost use Rattle.lg_gram.specs.declared.linkage.Link.{Link};
 
-/// A name that may be written has one capital letter or more, at most 16 letters, and letters of the two kinds alone.
+/// A name that may be written has one capital letter or more, at most 16 letters, and letters of the two kinds alone;
+/// its capital letters are those that its text begins with.
 pub fn names_are_written()
-    ensures { (caps subs : List ℕ) → is_written caps subs ≡ true → WrittenParts caps subs }
+    ensures { NamesAreWritten }
 {}
 
 /// The order of connectors is total, and tells connectors of one direction apart.
 pub fn connectors_are_ordered()
     ensures total { IsTotalOrder connector_cmp }
     ensures exact { ConnectorsToldApart }
+{}
+
+/// The order of links is total, and tells links apart.
+pub fn links_are_ordered()
+    ensures total { IsTotalOrder link_cmp }
+    ensures exact { (k l : Link) → link_cmp k l ≡ Equal → k ≡ l }
 {}
 
 /// The order of linkages is total, and tells the linkages of one problem apart.

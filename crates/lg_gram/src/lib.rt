@@ -16,6 +16,7 @@ pub mod measures;
 pub mod order;
 pub mod problem;
 pub mod reply;
+pub mod sizes;
 #[cfg(test)]
 mod tests;
 
@@ -23,7 +24,7 @@ pub use connector::{Connector, Connectors, link_label, matches};
 pub use disjunct::{Chosen, Disjunct, Disjuncts, Positions};
 pub use edit::EditRefusal;
 pub use entry::{Entry, Item, ItemKind, Items, RawEntry, RawExpr, RawExprs};
-pub use expr::{Expr, Exprs, choices, longest_side, nodes};
+pub use expr::{Expr, Exprs};
 pub use formula::Formula;
 pub use label::{Label, capitals};
 pub use linkage::{Link, Linkage, Links};
@@ -32,3 +33,4 @@ pub use macros::Macros;
 pub use measures::{Excess, filled_formula, first_excess};
 pub use problem::Problem;
 pub use reply::{CommandKind, Place, Places, Replies, Reply, ReplyLists};
+pub use sizes::{choices, longest_side, nodes};

@@ -9,8 +9,9 @@ ghost use Rattle.lg_gram.specs.RawTrees.{raw_tree_of, raw_trees_in, raw_items, m
 ghost use Rattle.lg_gram.specs.Filled.{filled, filled_in, put_in, macro_names, is_unknown, FirstUnknown, level_within, level_reached, highest, filled_level};
 
 use crate::entry::{RawExpr, RawExprs};
-use crate::expr::{Expr, Exprs, choices, side_length};
+use crate::expr::{Expr, Exprs};
 use crate::formula::Formula;
+use crate::sizes::Sizes;
 use lg_base::{NoMemory, Text};
 use std::alloc::Global;
 use std::ops::ControlFlow;
@@ -30,75 +31,6 @@ pub trait Macros {
         ensures limits { IfSome result (λ m. IsFormula (tree_of m.0.now)) };
 }
 
-// Where the counts of nodes and of choices stop.
-const COUNTED: u64 = 1 << 40;
-
-/// The measures of an expression with its macros put in: its nodes, its choices, and the connectors that it has on each
-/// side where it has the most. Counting stops at 2^40, and at 2^32 - 1 for a side.
-#[derive(Clone, Copy, Debug)]
-pub struct Sizes {
-    pub nodes: u64,
-    pub choices: u64,
-    pub left: u32,
-    pub right: u32,
-}
-
-impl Sizes {
-    /// Of no members, joined by `&`.
-    fn of_all() -> Sizes
-        ensures { result ≡ record { nodes = 1; choices = 1; left = 0; right = 0 } }
-    {
-        Sizes {
-            nodes: 1,
-            choices: 1,
-            left: 0,
-            right: 0,
-        }
-    }
-
-    /// Of no members, joined by `or`.
-    fn of_any() -> Sizes
-        ensures { result ≡ record { nodes = 1; choices = 0; left = 0; right = 0 } }
-    {
-        Sizes {
-            nodes: 1,
-            choices: 0,
-            left: 0,
-            right: 0,
-        }
-    }
-
-    /// With one more member, joined by `&`.
-    fn and(self, member: Sizes) -> Sizes
-        ensures nodes { result.nodes ≡ min (self.nodes + member.nodes) COUNTED }
-        ensures choices { result.choices ≡ min (self.choices * member.choices) COUNTED }
-        ensures left { result.left ≡ min (self.left + member.left) SIDE_COUNTED }
-        ensures right { result.right ≡ min (self.right + member.right) SIDE_COUNTED }
-    {
-        Sizes {
-            nodes: self.nodes.saturating_add(member.nodes).min(COUNTED),
-            choices: self.choices.saturating_mul(member.choices).min(COUNTED),
-            left: self.left.saturating_add(member.left),
-            right: self.right.saturating_add(member.right),
-        }
-    }
-
-    /// With one more member, joined by `or`.
-    fn or(self, member: Sizes) -> Sizes
-        ensures nodes { result.nodes ≡ min (self.nodes + member.nodes) COUNTED }
-        ensures choices { result.choices ≡ min (self.choices + member.choices) COUNTED }
-        ensures left { result.left ≡ max self.left member.left }
-        ensures right { result.right ≡ max self.right member.right }
-    {
-        Sizes {
-            nodes: self.nodes.saturating_add(member.nodes).min(COUNTED),
-            choices: self.choices.saturating_add(member.choices).min(COUNTED),
-            left: self.left.max(member.left),
-            right: self.right.max(member.right),
-        }
-    }
-}
-
 /// The measures of an expression with its macros put in, in one pass.
 #[cycle(filled_sizes)]
 pub fn filled_sizes<M: Macros>(raw: &RawExpr, macros: &M) -> Sizes
@@ -109,22 +41,11 @@ pub fn filled_sizes<M: Macros>(raw: &RawExpr, macros: &M) -> Sizes
 {
     match raw {
         RawExpr::Empty => Sizes::of_all(),
-        RawExpr::Conn(c) => Sizes {
-            nodes: 1,
-            choices: 1,
-            left: u32::from(!c.is_right()),
-            right: u32::from(c.is_right()),
-        },
+        RawExpr::Conn(c) => Sizes::of_leaf(c),
         RawExpr::Named(name, _) => macro_sizes(name, macros),
         RawExpr::And(members) => sizes_of_all(members, macros),
         RawExpr::Or(members) => sizes_of_any(members, macros),
-        RawExpr::Priced(inner, _) => {
-            let sizes = filled_sizes(inner, macros);
-            Sizes {
-                nodes: (1 + sizes.nodes).min(COUNTED),
-                ..sizes
-            }
-        }
+        RawExpr::Priced(inner, _) => filled_sizes(inner, macros).priced(),
     }
 }
 
@@ -164,12 +85,7 @@ fn macro_sizes<M: Macros>(name: &Text, macros: &M) -> Sizes
 {
     match macros.named(name.bytes()) {
         None => Sizes::of_all(),
-        Some((formula, _)) => Sizes {
-            nodes: formula.nodes(),
-            choices: choices(formula.expr()),
-            left: side_length(formula.expr(), false),
-            right: side_length(formula.expr(), true),
-        },
+        Some((formula, _)) => formula.sizes(),
     }
 }
 

@@ -33,7 +33,7 @@ pub fn first_excess<M: Macros>(raw: &RawExpr, macros: &M) -> Option<Excess>
     if sizes.choices > CHOICES {
         return Some(Excess::Choices(sizes.choices));
     }
-    let side = sizes.left.max(sizes.right);
+    let side = sizes.longest_side();
     if side > SIDE {
         return Some(Excess::Side(side));
     }

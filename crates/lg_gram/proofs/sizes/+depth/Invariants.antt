@@ -1,7 +1,7 @@
 use Rattle.std.proofs.Common.{◌≡◌, min, max, ◌≤◌, drop}
 use Rattle.lg_gram.specs.Trees.{expr_items, trees_in}
 use Rattle.lg_gram.specs.Measures.{depth_in}
-use Rattle.lg_gram.proofs.expr.+depth.Given as goal
+use Rattle.lg_gram.proofs.sizes.+depth.Given as goal
 
 abbrev pub invariant-depth_of_deepest-loop-member : goal.invariant-depth_of_deepest-loop-member
 invariant-depth_of_deepest-loop-member l =
