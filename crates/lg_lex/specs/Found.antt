@@ -1,5 +1,5 @@
 -- What the token that a search finds stands for.
-use Rattle.std.specs.Prelude.{ℕ, List, []}
+use Rattle.std.specs.Prelude.{ℕ, ◌+◌, List, [], length}
 use Rattle.lg_lex.specs.declared.marks.Class.{Class}
 use Rattle.lg_lex.specs.declared.marks.Class.TheVariants.{Blank, LineEnd, Percent, Quote, Sign, Other}
 use Rattle.lg_lex.specs.declared.token.Token.{Token}
@@ -27,3 +27,10 @@ following (tokens.Sign b) rest = rest
 following (tokens.Quoted w) rest = rest
 following (tokens.Plain w) rest = rest
 following tokens.Broken rest = []
+
+-- the number of its bytes: a quoted token has its two quotes, and a broken one is its quote alone
+abbrev pub width : Token → ℕ
+width (tokens.Sign b) = 1
+width (tokens.Quoted w) = length w.now + 2
+width (tokens.Plain w) = length w.now
+width tokens.Broken = 1

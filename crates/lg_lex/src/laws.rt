@@ -1,7 +1,7 @@
 //! Facts about what the contracts of this crate cite, each proved of every text. The functions do nothing: a caller
 //! whose proof needs a fact calls its function.
 
-ghost use Rattle.std.specs.Prelude.{◌≡◌, ℕ, ◌+◌, ◌≤◌, false, List, ◌∷◌, ◌++◌, length, map, take, drop, slice_range, ◌⊎◌};
+ghost use Rattle.std.specs.Prelude.{◌≡◌, ℕ, ◌+◌, ◌<◌, ◌≤◌, false, List, ◌∷◌, ◌++◌, length, map, take, drop, slice_range, ◌⊎◌};
 ghost use Rattle.std.specs.List.{list_any, AllByRecursion};
 ghost use Rattle.std.specs.Str.{IsUtf8, IsValidUpTo};
 ghost use Rattle.lg_lex.specs.declared.marks.Marks.{Marks};
@@ -9,10 +9,14 @@ ghost use Rattle.lg_lex.specs.declared.place.Place.{Place};
 ghost use Rattle.lg_lex.specs.declared.run.Separators.{Separators};
 ghost use Rattle.lg_lex.specs.Classes.{line_feed};
 ghost use Rattle.lg_lex.specs.Tokens.{Lexeme, AreTokens, IsText, HasUtf8};
+ghost use Rattle.lg_lex.specs.Marked.{without_mark};
+ghost use Rattle.lg_lex.specs.Spots.{IsSpot};
 ghost use Rattle.lg_lex.specs.Lexing.{between, lex, tokens_from};
 ghost use Rattle.lg_lex.specs.Sections.{IsClosed, moved};
 ghost use Rattle.lg_lex.specs.Runs.{AreRuns, outside, runs_of};
 ghost use Rattle.lg_lex.specs.Places.{first_place, capped, is_line_feed, place_of, place_after};
+
+use crate::spot::Spot;
 
 /// A text has one list of tokens, and `lex` gives it.
 pub fn tokens_are_one_list()
@@ -61,6 +65,21 @@ pub fn bytes_are_utf8_or_at_fault()
     ensures some { (bytes : List ℕ) → IsUtf8 bytes ⊎ ((n : ℕ) × IsValidUpTo bytes n) }
     ensures one { (bytes : List ℕ) (n m : ℕ) → IsValidUpTo bytes n → IsValidUpTo bytes m → n ≡ m }
     ensures apart { (bytes : List ℕ) (n : ℕ) → IsValidUpTo bytes n → IsUtf8 bytes → ⊥ }
+{}
+
+/// A text that is UTF-8 is so after its byte order mark, and on each side of a byte of ASCII.
+pub fn parts_are_utf8()
+    ensures after_mark { (text : List ℕ) → IsUtf8 text → IsUtf8 (without_mark text) }
+    ensures before_ascii { (a : List ℕ) (b : ℕ) (rest : List ℕ)
+        → b < 128
+        → IsUtf8 (a ++ b ∷ rest)
+        → IsUtf8 a × IsUtf8 (b ∷ rest) }
+    ensures after_ascii { (b : ℕ) (rest : List ℕ) → b < 128 → IsUtf8 (b ∷ rest) → IsUtf8 rest }
+{}
+
+/// The first spot is that of the first byte of every text.
+pub fn texts_start_at_the_first_spot()
+    ensures { (text : List ℕ) → IsSpot text Spot.START }
 {}
 
 /// The places of a text add up, from its first byte or from one place to a later one, and a column counts from the

@@ -16,8 +16,9 @@ mod token;
 mod utf8;
 
 pub use laws::{
-    bytes_are_utf8_or_at_fault, places_add_up, runs_are_one_list, sections_keep_their_tokens,
-    tokens_are_no_more_than_bytes, tokens_are_one_list, tokens_are_utf8,
+    bytes_are_utf8_or_at_fault, parts_are_utf8, places_add_up, runs_are_one_list,
+    sections_keep_their_tokens, texts_start_at_the_first_spot, tokens_are_no_more_than_bytes,
+    tokens_are_one_list, tokens_are_utf8,
 };
 pub use marks::{Class, Marks, class_of};
 pub use place::{Place, place_at};

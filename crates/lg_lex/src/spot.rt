@@ -1,5 +1,5 @@
-ghost use Rattle.std.specs.Prelude.{◌≡◌, ◌≤◌, ◌<◌, [], ◌∷◌, length, IfSome, MatchOption};
-ghost use Rattle.lg_lex.specs.Found.{lexeme_of, following};
+ghost use Rattle.std.specs.Prelude.{◌≡◌, ◌+◌, ◌≤◌, ◌<◌, [], ◌∷◌, length, IfSome, MatchOption};
+ghost use Rattle.lg_lex.specs.Found.{lexeme_of, following, width};
 ghost use Rattle.lg_lex.specs.Lexing.{tokens_from};
 ghost use Rattle.lg_lex.specs.Spots.{IsSpot};
 
@@ -58,6 +58,7 @@ pub fn next_spotted(marks: Marks, text: &[u8], from: Spot) -> Option<Spotted<'_>
         (tokens_from marks text.now from.at ≡ [])
         (λ f. tokens_from marks text.now from.at
         ≡ (lexeme_of f.token, f.start.at) ∷ following f.token (tokens_from marks text.now f.end.at)) }
+    ensures wide { IfSome result (λ f. f.end.at ≡ f.start.at + width f.token) }
 {
     let found = next_token(marks, text, from.at)?;
     let start = from.on_to(text, found.start);

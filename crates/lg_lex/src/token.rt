@@ -2,7 +2,7 @@ ghost use Rattle.std.specs.Prelude.{◌≡◌, ℕ, ◌+◌, ◌<◌, ◌≤◌,
 ghost use Rattle.lg_lex.specs.Classes.{class_of};
 ghost use Rattle.lg_lex.specs.Lexing.{tokens_from};
 ghost use Rattle.lg_lex.specs.Tokens.{broken, plain, quoted};
-ghost use Rattle.lg_lex.specs.Found.{BeginsToken, lexeme_of, following};
+ghost use Rattle.lg_lex.specs.Found.{BeginsToken, lexeme_of, following, width};
 ghost use Rattle.lg_lex.specs.declared.marks.Class.TheVariants.{Other, Quote};
 
 use crate::marks::{Class, Marks, class_of};
@@ -102,38 +102,24 @@ pub fn next_token(marks: Marks, text: &[u8], from: usize) -> Option<Found<'_>>
         (tokens_from marks text.now from ≡ [])
         (λ f. tokens_from marks text.now from
         ≡ (lexeme_of f.token, f.start) ∷ following f.token (tokens_from marks text.now f.end)) }
+    ensures wide { IfSome result (λ f. f.end ≡ f.start + width f.token) }
 {
     let start = gap_end(marks, text, from);
     if start == text.len() {
         return None;
     }
     let b = text[start];
-    match class_of(marks, b) {
-        Class::Sign => Some(Found {
-            token: Token::Sign(b),
-            start,
-            end: start + 1,
-        }),
+    let (token, end) = match class_of(marks, b) {
+        Class::Sign => (Token::Sign(b), start + 1),
         Class::Quote => match closing_quote(marks, text, start) {
-            Some(end) => Some(Found {
-                token: Token::Quoted(&text[start + 1..end]),
-                start,
-                end: end + 1,
-            }),
-            None => Some(Found {
-                token: Token::Broken,
-                start,
-                end: start + 1,
-            }),
+            Some(close) => (Token::Quoted(&text[start + 1..close]), close + 1),
+            None => (Token::Broken, start + 1),
         },
         Class::Other => {
             let end = plain_end(marks, text, start);
-            Some(Found {
-                token: Token::Plain(&text[start..end]),
-                start,
-                end,
-            })
+            (Token::Plain(&text[start..end]), end)
         }
         Class::Blank | Class::LineEnd | Class::Percent => unreachable!(),
-    }
+    };
+    Some(Found { token, start, end })
 }
