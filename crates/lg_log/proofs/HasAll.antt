@@ -1,10 +1,11 @@
 -- Lists that begin another, with all codes of some sessions.
 use Rattle.std.proofs.Common.{◌≡◌, ℕ, ◌<◌, ◌≤◌, true, false, eqb, leb, List, [], ◌∷◌, ◌++◌, length, refl, ap, sym, ◌∙◌, subst, arith, append_assoc, append-nil, leb-true, leb-false}
 use Rattle.std.specs.List.{list_any}
-use Rattle.std.proofs.lemmas.Bool.{or_parts, or_from, cond_both, both_ways, false_from_ne_true}
+use Rattle.std.proofs.lemmas.Bool.{or_parts, or_from, or_left, or_right, cond_both, both_ways, false_from_ne_true}
 use Rattle.std.proofs.lemmas.List.Folds.{list_any-append}
 use Rattle.lg_log.specs.Codes.{code_session, has_session, is_of}
 use Rattle.lg_log.specs.Passes.{longer_of, HasAllOf}
+use Rattle.lg_log.specs.Rule.{JoinsCompose, JoinsKeepBoth}
 use Rattle.lg_log.proofs.Lists.{none_parts, none_push, shorter_begins}
 
 -- a list begins itself
@@ -60,3 +61,24 @@ has_joined a xs b ys whole f g = cond_both (leb (length ys) (length xs)) xs ys
     let less : length xs < length ys = leb-false _ _ e in
     let t = has_of_longer a xs whole ys g.rest f g.begins (omega arith) in
     (record { rest = g.rest; begins = g.begins; none = none_of_both a b g.rest t.1 g.none }, t.0, has_itself b ys))
+
+pub joins_compose : JoinsCompose
+joins_compose sessions carried seen joined whole first second among = record {
+  rest = first.rest ++ second.rest;
+  begins = second.begins ∙ ap (λ (l : List ℕ). l ++ second.rest) first.begins ∙ append_assoc seen first.rest second.rest;
+  none = list_any-append (is_of sessions) first.rest second.rest
+      ∙ or_from (list_any (is_of sessions) first.rest) (list_any (is_of sessions) second.rest) first.none (none_of_fewer carried sessions among second.rest second.none);
+}
+
+-- the sessions of either are of both
+pub first_of_both : (mine others : List ℕ) (session : ℕ) → has_session mine session ≡ true → has_session (mine ++ others) session ≡ true
+first_of_both mine others session has = list_any-append (eqb session) mine others ∙ or_left (has_session mine session) (has_session others session) has
+
+pub second_of_both : (mine others : List ℕ) (session : ℕ) → has_session others session ≡ true → has_session (mine ++ others) session ≡ true
+second_of_both mine others session has = list_any-append (eqb session) mine others ∙ or_right (has_session mine session) (has_session others session) has
+
+pub joins_keep_both : JoinsKeepBoth
+joins_keep_both mine others seen_by_me seen_by_other joined whole f g h = (
+  joins_compose mine (mine ++ others) seen_by_me joined whole f h (first_of_both mine others),
+  joins_compose others (mine ++ others) seen_by_other joined whole g h (second_of_both mine others),
+)

@@ -1,7 +1,7 @@
 -- One pass takes over what another knows and carries.
 use Rattle.std.proofs.Common.{◌≡◌, ◌≢◌, ℕ, true, false, eqb, ⊎_elim, List, [], ◌∷◌, set, refl, sym, ◌∙◌, true≢false}
 use Rattle.std.specs.List.{list_any}
-use Rattle.std.proofs.lemmas.Bool.{or_cases}
+use Rattle.std.proofs.lemmas.Bool.{or_cases, both_ways}
 use Rattle.std.proofs.lemmas.List.Folds.{list_any-append}
 use mathlib.Core.Option.{some}
 use lib.ListN.{get_elem?}
@@ -11,7 +11,7 @@ use Rattle.lg_log.specs.declared.view.View.{View}
 use Rattle.lg_log.specs.Codes.{has_session, is_of}
 use Rattle.lg_log.specs.Views.{spent_view, joined}
 use Rattle.lg_log.specs.Rule.{Fits, IsKept}
-use Rattle.lg_log.proofs.HasAll.{has_joined}
+use Rattle.lg_log.proofs.HasAll.{has_joined, first_of_both, second_of_both}
 use Rattle.lg_log.proofs.Keeping.{views_set, handed, handed_here, handed_else, still_fits}
 
 none_of_nothing : (codes : List ℕ) → list_any (is_of []) codes ≡ false
@@ -24,10 +24,12 @@ spent_fits counts history owner pass = record {
   all = record { rest = history; begins = refl; none = none_of_nothing history };
   owned = λ session has. absurd (true≢false (sym has));
   noted = tt;
+  accounts = tt;
+  spent = λ _. refl;
 }
 
-pub join_allows : (counts : List ℕ) (pass : ℕ) (v : View) (other : ℕ) (w : View) → Joins (IsKept counts) pass v other w (joined v w) spent_view
-join_allows counts pass v other w s k at apart there =
+pub join_allows : (counts : List ℕ) (pass : ℕ) (v : View) (other : ℕ) (w : View) → v.live ≡ true → Joins (IsKept counts) pass v other w (joined v w) spent_view
+join_allows counts pass v other w live s k at apart there =
     let f = k.fit pass v at in
     let g = k.fit other w (sym (set_else s.views pass other (joined v w) apart) ∙ there) in
     let owner : ℕ → ℕ = handed k.owner w.sessions pass in
@@ -40,6 +42,11 @@ join_allows counts pass v other w s k at apart there =
           (λ (its : has_session w.sessions session ≡ true). handed_here k.owner w.sessions pass session its)
           (or_cases (has_session v.sessions session) (has_session w.sessions session) (sym (list_any-append (eqb session) v.sessions w.sessions) ∙ has));
       noted = (all.1, (all.2, tt));
+      accounts = (
+        record { all = f.all; carried = first_of_both v.sessions w.sessions },
+        (record { all = g.all; carried = second_of_both v.sessions w.sessions }, tt),
+      );
+      spent = λ dead. absurd (both_ways v.live dead live);
     } in
     -- a third pass carries no session of either
     let third : (pass' : ℕ) (u : View) → pass' ≢ other → pass' ≢ pass → get_elem? s.views pass' ≡ some u → Fits counts k.history owner pass' u =

@@ -64,4 +64,4 @@ handed_else owner sessions pass session old here was = ⊎_elim
 -- a view fits other owners where it owns what it owned
 pub still_fits : (counts history : List ℕ) (owner owner' : ℕ → ℕ) (pass : ℕ) (v : View) → ((session : ℕ) → has_session v.sessions session ≡ true → owner session ≡ pass → owner' session ≡ pass)
     → Fits counts history owner pass v → Fits counts history owner' pass v
-still_fits counts history owner owner' pass v keep f = record { same = f.same; all = f.all; owned = λ session has. keep session has (f.owned session has); noted = f.noted }
+still_fits counts history owner owner' pass v keep f = record { same = f.same; all = f.all; owned = λ session has. keep session has (f.owned session has); noted = f.noted; accounts = f.accounts; spent = f.spent }

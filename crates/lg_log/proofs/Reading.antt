@@ -10,7 +10,7 @@ use Rattle.lg_log.specs.declared.view.View.{View}
 use Rattle.lg_log.specs.Codes.{is_code, code_session, has_session, is_of}
 use Rattle.lg_log.specs.Views.{sees, meets_end, settled}
 use Rattle.lg_log.specs.Passes.{HasAllOf}
-use Rattle.lg_log.specs.Rule.{Fits, IsKept, ZeroIsTheEnd, AllSessionsSeeAll, NoSessionTwice}
+use Rattle.lg_log.specs.Rule.{IsAccount, Fits, IsKept, ZeroIsTheEnd, AllSessionsSeeAll, NoSessionTwice}
 use Rattle.lg_log.specs.Steps.{Seated, IsNext, Looks, Settles}
 use Rattle.lg_log.proofs.CodeLaws.{codes_are_of_edits}
 use Rattle.lg_log.proofs.Lists.{get_or-after, first_zero, all_next, next_is_fresh}
@@ -64,11 +64,11 @@ all_sessions_see_all counts s k pass v at carries = sees_whole counts s k pass v
 pub no_session_twice : NoSessionTwice
 no_session_twice counts s k a b v w at_a at_b session first second = sym ((k.fit a v at_a).owned session first) ∙ (k.fit b w at_b).owned session second
 
--- a view with no note has an account of whatever it has seen
-pub no_accounts : (seen : List ℕ) (notes : List Account) → notes ≡ [] → AllByRecursion (λ (a : Account). HasAllOf a.sessions a.seen seen) notes
-no_accounts seen notes no_note = subst (λ (l : List Account). AllByRecursion (λ (a : Account). HasAllOf a.sessions a.seen seen) l) (sym no_note) tt
+-- of no account every fact holds
+pub none_noted : (P : Account → Type 0) (notes : List Account) → notes ≡ [] → AllByRecursion P notes
+none_noted P notes no_note = subst (λ (l : List Account). AllByRecursion P l) (sym no_note) tt
 
-module _ (counts : List ℕ) (s : Words) (k : IsKept counts s) (pass : ℕ) (v : View) (at : get_elem? s.views pass ≡ some v) (no_note : v.note ≡ []) where
+module _ (counts : List ℕ) (s : Words) (k : IsKept counts s) (pass : ℕ) (v : View) (at : get_elem? s.views pass ≡ some v) (no_note : v.note ≡ []) (live : v.live ≡ true) where
   abbrev IsFound : ℕ → Type 0
   IsFound found = (found ≢ 0) × Fits counts k.history k.owner pass (sees v found) × IsNext v found
 
@@ -85,7 +85,9 @@ module _ (counts : List ℕ) (s : Words) (k : IsKept counts s) (pass : ℕ) (v :
           same = f.same;
           all = record { rest = rest; begins = is ∙ sym (append_assoc v.seen (c ∷ []) rest); none = parts.1 };
           owned = f.owned;
-          noted = no_accounts (v.seen ++ c ∷ []) v.note no_note;
+          noted = none_noted (λ (a : Account). HasAllOf a.sessions a.seen (v.seen ++ c ∷ [])) v.note no_note;
+          accounts = none_noted (λ (a : Account). IsAccount k.history (sees v c) a) v.note no_note;
+          spent = λ dead. absurd (both_ways v.live dead live);
         },
         record {
           other = parts.0;
@@ -104,22 +106,22 @@ module _ (counts : List ℕ) (s : Words) (k : IsKept counts s) (pass : ℕ) (v :
   pub zero_or_found : ((get_or s.words (length v.seen) 0 ≡ 0) × (k.history ≡ v.seen)) ⊎ IsFound (get_or s.words (length v.seen) 0)
   zero_or_found = let all = (k.fit pass v at).all in found_by_rest all.rest all.begins all.none
 
-pub look_allows : (counts : List ℕ) (slots pass : ℕ) (me : Seated) → me.0.note ≡ []
+pub look_allows : (counts : List ℕ) (slots pass : ℕ) (me : Seated) → me.0.note ≡ [] → me.0.live ≡ true
     → Allows (IsKept counts) slots pass me (length me.0.seen) (λ n. n) (Looks (step slots (length me.0.seen) 0 0 none) me)
-look_allows counts slots pass me no_note s k size at small =
+look_allows counts slots pass me no_note live s k size at small =
     let i : ℕ = length me.0.seen in
     let n : ℕ = get_or s.words i 0 in
     let f = k.fit pass me.0 at in
     ⊎_elim
     (λ (t : (n ≡ 0) × (k.history ≡ me.0.seen)).
-    let ends : Fits counts k.history k.owner pass (meets_end me.0) = record { same = f.same; all = f.all; owned = f.owned; noted = f.noted } in
+    let ends : Fits counts k.history k.owner pass (meets_end me.0) = record { same = f.same; all = f.all; owned = f.owned; noted = f.noted; accounts = none_noted (λ (a : Account). IsAccount k.history (meets_end me.0) a) me.0.note no_note; spent = λ dead. absurd (both_ways me.0.live dead live) } in
     (meets_end me.0, keeps, tt, same_word counts s me.1 i pass (meets_end me.0) k ends, (refl, (λ _. refl), (λ some_code. absurd (some_code t.0)))))
     (λ (t : (n ≢ 0) × Fits counts k.history k.owner pass (sees me.0 n) × IsNext me.0 n).
     (sees me.0 n, keeps, tt, same_word counts s me.1 i pass (sees me.0 n) k t.1, (refl, (λ no_code. absurd (t.0 no_code)), (λ _. (refl, t.2)))))
-    (zero_or_found counts s k pass me.0 at no_note)
+    (zero_or_found counts s k pass me.0 at no_note live)
 
-pub settle_allows : (counts : List ℕ) (slots pass : ℕ) (me : Seated) → Allows (IsKept counts) slots pass me 0 (λ n. n) (Settles (step slots 0 0 0 none) me)
-settle_allows counts slots pass me s k size at small =
+pub settle_allows : (counts : List ℕ) (slots pass : ℕ) (me : Seated) → me.0.live ≡ true → Allows (IsKept counts) slots pass me 0 (λ n. n) (Settles (step slots 0 0 0 none) me)
+settle_allows counts slots pass me live s k size at small =
     let f = k.fit pass me.0 at in
-    let fits : Fits counts k.history k.owner pass (settled me.0) = record { same = f.same; all = f.all; owned = f.owned; noted = tt } in
+    let fits : Fits counts k.history k.owner pass (settled me.0) = record { same = f.same; all = f.all; owned = f.owned; noted = tt; accounts = tt; spent = λ dead. absurd (both_ways me.0.live dead live) } in
     (settled me.0, keeps, tt, same_word counts s me.1 0 pass (settled me.0) k fits, (refl, refl, f.noted))

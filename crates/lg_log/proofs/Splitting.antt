@@ -6,14 +6,15 @@ use Rattle.std.proofs.lemmas.List.FromFn.{map-range_with_len_more}
 use mathlib.Core.Option.{some, some-injective, some-ne-none}
 use lib.ListN.{get_elem?}
 use Rattle.atomic_table.specs.Table.{Splits, opening}
+use Rattle.lg_log.specs.declared.view.Account.{Account}
 use Rattle.lg_log.specs.declared.view.View.{View}
 use Rattle.lg_log.specs.Codes.{has_session}
-use Rattle.lg_log.specs.Passes.{LogId, Standing, at_start}
+use Rattle.lg_log.specs.Passes.{LogId, Standing, at_start, HasAllOf}
 use Rattle.lg_log.specs.Views.{first_view, without_first, first_alone}
-use Rattle.lg_log.specs.Rule.{Fits, IsKept}
+use Rattle.lg_log.specs.Rule.{IsAccount, Fits, IsKept}
 use Rattle.lg_log.proofs.HasAll.{has_itself, has_of_fewer}
 use Rattle.lg_log.proofs.Keeping.{views_set, views_push, handed, handed_here, handed_else, still_fits}
-use Rattle.lg_log.proofs.Reading.{no_accounts}
+use Rattle.lg_log.proofs.Reading.{none_noted}
 
 distinct_none : IsDistinct eqb []
 unfolding IsDistinct
@@ -28,7 +29,7 @@ opens counts words are = record {
 }
   where
     first_fits : Fits counts [] (λ _. 0) 0 (first_view counts)
-    first_fits = record { same = λ _. refl; all = has_itself (range_with_len 0 (length counts)) []; owned = λ _ _. refl; noted = tt }
+    first_fits = record { same = λ _. refl; all = has_itself (range_with_len 0 (length counts)) []; owned = λ _ _. refl; noted = tt; accounts = tt; spent = λ dead. absurd (true≢false dead) }
 
     only_first : (pass : ℕ) (v : View) → get_elem? (first_view counts ∷ []) pass ≡ some v → Fits counts [] (λ _. 0) pass v
     only_first zero v e = subst (λ (w : View). Fits counts [] (λ _. 0) 0 w) (some-injective (first_view counts) v e) first_fits
@@ -59,8 +60,8 @@ first_apart (x ∷ xs) distinct session first rest = ⊎_elim
     (λ (e : false ≡ true). true≢false (sym e))
     (or_cases (eqb session x) false first)
 
-pub split_allows : (counts : List ℕ) (pass : ℕ) (v : View) → v.note ≡ [] → IsDistinct eqb v.sessions → Splits (IsKept counts) pass v (without_first v) (first_alone v)
-split_allows counts pass v no_note distinct s k at =
+pub split_allows : (counts : List ℕ) (pass : ℕ) (v : View) → v.note ≡ [] → v.live ≡ true → IsDistinct eqb v.sessions → Splits (IsKept counts) pass v (without_first v) (first_alone v)
+split_allows counts pass v no_note live distinct s k at =
     let f = k.fit pass v at in
     let first : List ℕ = take 1 v.sessions in
     let views : List View = set s.views pass (without_first v) in
@@ -70,12 +71,16 @@ split_allows counts pass v no_note distinct s k at =
       all = has_of_fewer v.sessions (drop 1 v.sessions) v.seen k.history (rest_among v.sessions) f.all;
       owned = λ session has. handed_else k.owner first (length views) session pass (λ given. absurd (first_apart v.sessions distinct session given has)) (f.owned session (rest_among v.sessions session has));
       noted = f.noted;
+      accounts = none_noted (λ (a : Account). IsAccount k.history (without_first v) a) v.note no_note;
+      spent = λ dead. absurd (both_ways v.live dead live);
     } in
     let new : Fits counts k.history owner (length views) (first_alone v) = record {
       same = f.same;
       all = has_of_fewer v.sessions first v.seen k.history (first_among v.sessions) f.all;
       owned = λ session has. handed_here k.owner first (length views) session has;
-      noted = no_accounts v.seen v.note no_note;
+      noted = none_noted (λ (a : Account). HasAllOf a.sessions a.seen v.seen) v.note no_note;
+      accounts = none_noted (λ (a : Account). IsAccount k.history (first_alone v) a) v.note no_note;
+      spent = λ dead. absurd (both_ways v.live dead live);
     } in
     -- another pass does not carry the session
     let others : (other : ℕ) (w : View) → other ≢ pass → get_elem? s.views other ≡ some w → Fits counts k.history owner other w =

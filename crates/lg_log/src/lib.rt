@@ -17,4 +17,4 @@ pub mod view;
 pub use codes::{code, code_laws, index_of, session_of};
 pub use log::Log;
 pub use pass::Pass;
-pub use rule::log_laws;
+pub use rule::{joins_compose, log_laws};

@@ -1,5 +1,5 @@
 //! What is always true of the words of a log and of all views.
-ghost use Rattle.lg_log.specs.Rule.{IsKept, ZeroIsTheEnd, AllSessionsSeeAll, NoSessionTwice};
+ghost use Rattle.lg_log.specs.Rule.{IsKept, ZeroIsTheEnd, AllSessionsSeeAll, NoSessionTwice, JoinsCompose, JoinsKeepBoth};
 ghost use Rattle.lg_log.specs.Views.{first_view};
 
 use crate::view::View;
@@ -20,4 +20,12 @@ pub fn log_laws()
     ensures end { ZeroIsTheEnd }
     ensures whole { AllSessionsSeeAll }
     ensures apart { NoSessionTwice }
+{}
+
+/// What holds of a pass that takes over two passes, one after the other: the list of each of the three begins its last list,
+/// and what follows there has no code of the sessions that this pass carried. `both` is for the first two, after the second
+/// call of `join`; `compose` is for longer rows of calls.
+pub fn joins_compose()
+    ensures compose { JoinsCompose }
+    ensures both { JoinsKeepBoth }
 {}

@@ -10,7 +10,7 @@ load-next-requires c =
     let there = same_table seat.table_id table.table_id seat.me.0 table.key.items c.args.self.now c.args.log.now c.self.view_is c.log.view_is c.requires in
     let within = next_word_is_there seat.table_id table.table_id seat.me c.self.inside.seen.items (vec_capacity c.self.inside.seen) c.self.invariant there in
     let long : c.len.result ≡ length seat.me.0.seen = c.len.ensures ∙ c.self.inside.seen.ok.0 ∙ ap (λ (l : List ℕ). length l) c.self.invariant.same in
-    (there, rw long within, rw long (look_allows table.key.items table.table_id.slots seat.id seat.me c.self.invariant.no_note))
+    (there, rw long within, rw long (look_allows table.key.items table.table_id.slots seat.id seat.me c.self.invariant.no_note c.self.invariant.live))
 
 pub invariant_of-self-2 : goal.invariant_of-self-2
 invariant_of-self-2 c =
