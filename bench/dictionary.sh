@@ -1,27 +1,43 @@
 #!/usr/bin/env bash
-# Times dictionaries of 1,000 to 1,000,000 words, an entry a word: the text is made and read, the dictionary is made, and
-# each word is looked up. Entries of a shape write the same expression, as those of a lexicon do, or each writes its own.
-# Where link-parser is installed, it then starts with the entries of the first kind, which it reads from a file and does not
-# look up.
+# Times dictionaries of 1,000 to 1,000,000 words, an entry a word: the text is read and the dictionary is made. Entries of a
+# shape write the same expression, as those of a lexicon do, or each writes its own. Where link-parser is installed, it then
+# starts with the entries of the first kind.
 cd -P -- "$(dirname -- "$(readlink -f -- "$0")")" || exit 70
-program=../crates/lg_bench/out/lg_bench
+program=../crates/lgparse/out/lgparse
+[[ -x $program ]] || { echo 'build the program first: bin/lgparse --build' >&2; exit 1; }
+folder=$(mktemp -d) || exit 70
+trap 'rm -rf -- "$folder"' EXIT
+
+# Entry number n has one of four shapes; of the kind `own` the first connector has the digits of n as small letters.
+entries() {
+  awk -v words="$2" -v kind="$1" 'BEGIN {
+    split("D|{D|S|M", fronts, "|")
+    split("+|-} & {@M+} & (S+ or O- or J-)|- & {O+} & {@M+}|- & J+", backs, "|")
+    for (n = 0; n < words; n++) {
+      letters = ""
+      if (kind == "own") {
+        split(n, digits, "")
+        for (d = 1; d in digits; d++) letters = letters sprintf("%c", 97 + digits[d])
+      }
+      printf "w%d: %s%s%s;\n", n, fronts[n % 4 + 1], letters, backs[n % 4 + 1]
+    }
+  }'
+}
 for kind in same own; do
   for words in 1000 10000 100000 1000000; do
-    printf '%s: ' "$kind"
-    ./measure "$program" dictionary "$kind" "$words" || exit
+    entries "$kind" "$words" >"$folder/dict"
+    printf '%s, %7d words: ' "$kind" "$words"
+    ./measure "$program" one "$folder/dict" '' || exit
   done
 done
 type link-parser >/dev/null 2>&1 || exit 0
 
-folder=$(mktemp -d) || exit 70
-trap 'rm -rf -- "$folder"' EXIT
 touch "$folder"/4.0.{regex,affix,knowledge}
 for words in 100000 1000000; do
-  printf '#define dictionary-version-number v5v12v0+;\n#define dictionary-locale C;\n' >"$folder/4.0.dict"
-  awk -v words="$words" 'BEGIN {
-    split("D+|{D-} & {@M+} & (S+ or O- or J-)|S- & {O+} & {@M+}|M- & J+", shapes, "|")
-    for (n = 0; n < words; n++) printf "w%d: %s;\n", n, shapes[n % 4 + 1]
-  }' >>"$folder/4.0.dict"
+  {
+    printf '#define dictionary-version-number v5v12v0+;\n#define dictionary-locale C;\n'
+    entries same "$words"
+  } >"$folder/4.0.dict"
   printf 'link-parser, same, %s words: ' "$words"
   ./measure link-parser "$folder" -batch
 done

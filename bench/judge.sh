@@ -5,8 +5,8 @@
 cd -P -- "$(dirname -- "$(readlink -f -- "$0")")" || exit 70
 program=../crates/lg_bench/out/lg_bench
 for rules in 0 100 1000 10000 100000; do
-  ./measure "$program" judge "$rules" 121 || exit
+  ./measure "$program" "$rules" 121 || exit
 done
 for links in 15 30 60 121; do
-  ./measure "$program" judge 1000 "$links" || exit
+  ./measure "$program" 1000 "$links" || exit
 done
