@@ -10,8 +10,6 @@ mod place;
 mod run;
 mod section;
 mod spot;
-#[cfg(test)]
-mod tests;
 mod token;
 mod utf8;
 

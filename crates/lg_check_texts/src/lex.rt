@@ -1,4 +1,4 @@
-use crate::{
+use lg_lex::{
     Class, Marks, Place, Separators, Spot, Token, bytes_are_utf8_or_at_fault, class_of, next_run,
     next_spotted, next_token, place_at, places_add_up, runs_are_one_list, section_to,
     sections_keep_their_tokens, tokens_are_one_list, tokens_are_utf8, utf8_fault, without_mark,
