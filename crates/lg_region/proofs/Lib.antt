@@ -1,0 +1,17 @@
+pub mod Fits
+pub mod Walks
+pub mod Lists
+pub mod Glue
+pub mod Joints
+pub mod Parts
+pub mod Sides
+pub mod Region
+pub mod Unique
+pub mod Empty
+pub mod Same
+pub mod Counts
+pub mod Whole
+pub mod Assemble
+pub mod Valid
+pub mod Begin
+pub mod Made
