@@ -10,5 +10,6 @@ pub mod Counted
 pub mod Exact
 pub mod Merged
 pub mod Pairs
+pub mod GoodPairs
 pub mod Ground
 pub mod Filled

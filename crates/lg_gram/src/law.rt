@@ -7,7 +7,7 @@ ghost use Rattle.lg_gram.specs.Trees.{Tree};
 ghost use Rattle.lg_gram.specs.Measures.{choices_of, choice_count};
 ghost use Rattle.lg_gram.specs.Linkages.{link_cmp, linkage_cmp};
 ghost use Rattle.lg_gram.specs.Levels.{TellsApart};
-ghost use Rattle.lg_gram.specs.Pairs.{PairsDecide};
+ghost use Rattle.lg_gram.specs.Pairs.{PairsDecide, GoodByPairs};
 ghost use Rattle.std.specs.declared.cmp.Ordering.TheVariants.{Less, Equal};
 ghost use Rattle.lg_gram.specs.Problems.{IsProblem};
 ghost use Rattle.lg_gram.specs.Rules.{Good};
@@ -45,9 +45,10 @@ pub fn choices_are_counted()
 {}
 
 /// Links that are compared one by one, in their order, compare as they do pair by pair of positions: no link before a
-/// link, and then by the places.
+/// link, and then by the places. So `Linkage::compare` is the order pair by pair of the good linkages of one problem.
 pub fn pairs_decide()
-    ensures { PairsDecide }
+    ensures links { PairsDecide }
+    ensures good { GoodByPairs }
 {}
 
 /// What the rules and the order say of a few linkages: `Mary ran` has a good linkage, which comes before the one with
