@@ -1,7 +1,10 @@
 -- Costs: how large they are, how they are printed, and how they are written in a dictionary.
-use Rattle.std.specs.Prelude.{◌≡◌, ◌+◌, ◌-◌, ◌*◌, ◌/◌, ◌%◌, ◌^◌, ◌≤◌, ℕ, ℤ, pos, negsuc, neg_ℤ, unsigned_abs, ◌≤ℤ◌, List, [], ◌∷◌, ◌++◌, length, decimal}
+use Rattle.std.specs.Prelude.{◌≡◌, ◌+◌, ◌-◌, ◌*◌, ◌/◌, ◌%◌, ◌^◌, ◌≤◌, ◌==◌, ◌&&◌, ℕ, zero, suc, nat_lt, nat_le, Bool, if◌then◌else◌, take, drop, position, ℤ, pos, negsuc, neg_ℤ, unsigned_abs, ◌≤ℤ◌, List, [], ◌∷◌, ◌++◌, length, decimal}
 use Rattle.std.specs.declared.option.Option.{Option}
 use Rattle.std.specs.declared.option.Option.TheVariants.{None, Some}
+use Rattle.std.specs.Char.{digit_value}
+use Rattle.std.specs.List.{list_all}
+use Rattle.std.specs.Option.{option_map}
 use Rattle.std.specs.Str.Parse.{IsNumeral, digits_value}
 
 -- at most 10 ^ 16 thousandths from zero
@@ -63,6 +66,36 @@ pub data IsCostNumber (bytes : List ℕ) (cost : ℤ) : Type 0 where
 abbrev pub ReadsCost : List ℕ → Option ℤ → Type 0
 ReadsCost bytes (Some cost) = IsCostNumber bytes cost
 ReadsCost bytes None = (cost : ℤ) → ¬ IsCostNumber bytes cost
+
+-- one digit or more, and at most so many, as a test
+abbrev pub are_digits : ℕ → List ℕ → Bool
+are_digits most digits = nat_lt 0 (length digits) && nat_le (length digits) most && list_all (λ digit. nat_lt (digit_value digit) 10) digits
+
+-- the thousandths of a number without a sign whose first point stands there
+abbrev pub form_value : List ℕ → Option ℕ → Option ℕ
+form_value bytes None = if are_digits 5 bytes then Some (1000 * digits_value 10 bytes) else None
+form_value bytes (Some zero) = if are_digits 3 (drop 1 bytes) then Some (part_value (drop 1 bytes)) else None
+form_value bytes (Some (suc k)) =
+    if are_digits 5 (take (suc k) bytes) && are_digits 3 (drop (suc k + 1) bytes)
+    then Some (1000 * digits_value 10 (take (suc k) bytes) + part_value (drop (suc k + 1) bytes)) else None
+
+-- at most 10000.000
+abbrev pub size_within : Option ℕ → Option ℕ
+size_within None = None
+size_within (Some size) = if nat_le size (10 ^ 7) then Some size else None
+
+abbrev pub read_size : List ℕ → Option ℕ
+read_size bytes = size_within (form_value bytes (position (λ byte. byte == 46) bytes))
+
+-- the cost that the bytes write, as a function
+abbrev pub read_cost : List ℕ → Option ℤ
+read_cost [] = None
+read_cost (byte ∷ bytes) =
+    if byte == 45 then option_map (λ size. neg_ℤ (pos size)) (read_size bytes) else option_map pos (read_size (byte ∷ bytes))
+
+-- reading the bytes has one answer alone
+abbrev pub HasOneReading : Type 0
+HasOneReading = (bytes : List ℕ) (one other : Option ℤ) → ReadsCost bytes one → ReadsCost bytes other → one ≡ other
 
 -- reading a printed cost that is at most 10000.000 from zero gives it back
 abbrev pub IsReadBack : Type 0

@@ -1,8 +1,8 @@
 //! Costs, which rank the linkages of a sentence.
-ghost use Rattle.std.specs.Prelude.{◌≡◌, ◌+ℤ◌, ◌++◌, ◌^◌, ◌<◌, ◌≤◌, ◌==◌, OnOk, OnErr, IfOk, IfSome, string_bytes, unsigned_abs, position, length};
+ghost use Rattle.std.specs.Prelude.{◌≡◌, ◌+ℤ◌, ◌++◌, ◌^◌, ◌<◌, ◌≤◌, ◌==◌, ℕ, List, OnOk, OnErr, IfOk, IfSome, string_bytes, unsigned_abs, position, length};
 ghost use Rattle.std.specs.Option.{SomeIff};
 ghost use Rattle.std.specs.Str.Parse.{digits_value};
-ghost use Rattle.lg_base.specs.Costs.{IsWithinCosts, cost_text, sign_of, AreDigits, part_value, ReadsForm, ReadsSize, ReadsCost, IsReadBack, HasOneCost};
+ghost use Rattle.lg_base.specs.Costs.{IsWithinCosts, cost_text, sign_of, AreDigits, part_value, ReadsForm, ReadsSize, ReadsCost, read_cost, IsReadBack, HasOneCost, HasOneReading};
 
 use crate::memory::NoMemory;
 use crate::printing::write_bytes;
@@ -102,7 +102,8 @@ const LARGEST: u32 = 10_000_000;
 /// three digits; or a point and one to three digits. Without its sign it is at most 10000.000. The sign negates it, and
 /// `-0` is 0.
 pub fn parse_cost(bytes: &[u8]) -> Option<Cost>
-    ensures { ReadsCost bytes.now result }
+    ensures reads { ReadsCost bytes.now result }
+    ensures value { result ≡ read_cost bytes.now }
 {
     match bytes.strip_prefix(b"-") {
         Some(unsigned) => {
@@ -116,10 +117,13 @@ pub fn parse_cost(bytes: &[u8]) -> Option<Cost>
     }
 }
 
-/// What holds of cost numbers: a printed one is read back, and the same bytes are never two of them.
+/// What holds of cost numbers: a printed one is read back, the same bytes are never two of them, and reading has one
+/// answer alone, that of a function.
 pub fn cost_number_laws()
     ensures read_back { IsReadBack }
     ensures once { HasOneCost }
+    ensures reads { (bytes : List ℕ) → ReadsCost bytes (read_cost bytes) }
+    ensures one_reading { HasOneReading }
 {}
 
 // The thousandths of a cost number without a sign.
