@@ -8,6 +8,7 @@ ghost use Rattle.lg_disj.specs.Choices.{lists_cmp, disjunct_of, IsSided, IsCheap
 use crate::choice::Choice;
 use lg_base::{NoMemory, Text};
 use lg_gram::Disjuncts;
+use lg_gram::law::connectors_are_ordered;
 use std::alloc::Global;
 use std::cmp::Ordering;
 
@@ -18,6 +19,7 @@ pub(crate) fn cheapest(mut choices: Vec<Choice>) -> Result<Vec<Choice>, NoMemory
     ensures exactly { IfOk result (λ kept. (c : Seen) → Contains kept.items c ↔ IsCheapest choices.items c) }
     ensures few { IfOk result (λ kept. length kept.items ≤ length choices.items) }
 {
+    connectors_are_ordered();
     choices.sort()?;
     choices.dedup_by(|next, kept| next.compare_lists(kept) == Ordering::Equal);
     Ok(choices)

@@ -20,5 +20,5 @@ returns-clause-exactly c =
     let order = c.in_ok-sort.ensures.sorted in
     λ choice. (
       λ h. kept_is_cheapest all sorted moved order choice (rw is at h),
-      λ h. rw is (cheapest_is_kept all sorted c.requires moved order choice h),
+      λ h. rw is (cheapest_is_kept c.connectors_are_ordered.ensures.exact all sorted c.requires moved order choice h),
     )
