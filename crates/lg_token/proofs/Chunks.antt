@@ -2,9 +2,8 @@
 use Rattle.std.proofs.Common.{◌≡◌, ℕ, List, [], ◌∷◌, ◌++◌, length, codes, Bool, true, false, refl, sym, ap, subst, ◌∙◌, append_assoc}
 use Rattle.std.proofs.lemmas.List.{append-nil}
 use Rattle.lg_gram.specs.declared.listing.Token.{Token}
-use Rattle.lg_lex.specs.Runs.{runs_from}
+use Rattle.lg_lex.specs.Runs.{AreRuns, runs_from}
 use Rattle.lg_lex.specs.declared.run.Separators.TheVariants.{Blanks}
-use Rattle.lg_lex.proofs.RunLists.{runs_of-AreRuns}
 use Rattle.lg_dict.specs.Dictionary.{Dictionary}
 use Rattle.lg_token.specs.Steps.{Adds}
 use Rattle.lg_token.specs.Tokens.{AreOfChunk, AreOfChunks, IsWall, AreTokens}
@@ -38,18 +37,19 @@ module _ (dict : Dictionary) (text : List ℕ) (old : List Token) where
 
 -- the walls around them
 pub sentence_tokens : (dict : Dictionary) (text bytes : List ℕ) (none first second ts : List Token) → bytes ≡ text → none ≡ []
+    → AreRuns Blanks (runs_from Blanks bytes 0) 0 bytes
     → Adds (IsWall dict (codes "LEFT-WALL") 0) none first
     → Adds (AreOfChunks dict true (runs_from Blanks bytes 0)) first second
     → Adds (IsWall dict (codes "RIGHT-WALL") (length bytes)) second ts
     → AreTokens dict text ts
-sentence_tokens dict text bytes none first second ts is empty a b c =
+sentence_tokens dict text bytes none first second ts is empty runs a b c =
     subst (λ t. AreTokens dict t ts) is (record {
       chunks = runs_from Blanks bytes 0;
       left = a.more;
       inner = b.more;
       right = c.more;
       parts = c.grown ∙ ap (λ l. l ++ c.more) (b.grown ∙ ap (λ l. l ++ b.more) (a.grown ∙ ap (λ l. l ++ a.more) empty)) ∙ append_assoc a.more b.more c.more;
-      runs = runs_of-AreRuns Blanks 0 bytes;
+      runs = runs;
       left_wall = a.are;
       of_chunks = b.are;
       right_wall = c.are;

@@ -10,3 +10,4 @@ pub mod Unique
 pub mod SomeWords
 pub mod SomeSpecials
 pub mod SomeList
+pub mod Spans

@@ -1,9 +1,13 @@
 -- What is among the elements of a list.
-use Rattle.std.proofs.Common.{◌≡◌, ◌⊎◌, inl, inr, ◌↔◌, zero, suc, List, [], ◌∷◌, Bool, true, false, cond, filter, Contains, refl, sym, ap, subst, ◌∙◌, true≢false, arith}
+use Rattle.std.proofs.Common.{◌≡◌, ◌≢◌, ◌⊎◌, inl, inr, ◌↔◌, zero, suc, List, [], ◌∷◌, ◌++◌, Bool, true, false, cond, filter, Contains, refl, sym, ap, subst, ◌∙◌, true≢false, arith}
 use mathlib.Core.Logic.{⊎_elim}
 use Rattle.std.proofs.lemmas.List.Elements.{All-contains, All-contains_itself, All-filter, filter_passes}
 
 module _ {X : Type 0} where
+  pub push_not_nil : (xs : List X) (x : X) → xs ++ x ∷ [] ≢ []
+  push_not_nil [] x = λ e. cc
+  push_not_nil (y ∷ ys) x = λ e. cc
+
   pub here : (x : X) (xs : List X) → Contains (x ∷ xs) x
   here x xs = (zero, omega arith, refl)
 

@@ -4,14 +4,12 @@ use mathlib.Core.Logic.{⊎_elim}
 use Rattle.std.proofs.lemmas.Bool.{cases_Bool}
 use Rattle.std.proofs.lemmas.List.{same_from_push, take-append-drop, drop_at, take_at}
 use Rattle.lg_gram.specs.declared.listing.Token.{Token}
-use Rattle.lg_lex.specs.Runs.{runs_of, outside}
+use Rattle.lg_lex.specs.Runs.{AreRuns, runs_of, outside}
 use Rattle.lg_lex.specs.declared.run.Separators.TheVariants.{Blanks}
-use Rattle.lg_lex.proofs.RunLists.{runs_of-AreRuns}
-use Rattle.lg_lex.proofs.Steps.{push_not_nil}
 use Rattle.lg_dict.specs.Dictionary.{Dictionary, IsWordOf}
 use Rattle.lg_dict.specs.Tables.{same_text}
-use Rattle.lg_dict.proofs.Words.{text_is}
-use Rattle.lg_token.proofs.Members.{here, nowhere}
+use Rattle.std.specs.Cmp.Lexicographic.{bytes_decides}
+use Rattle.lg_token.proofs.Members.{here, nowhere, push_not_nil}
 use Rattle.lg_token.proofs.SomeWords.{Decided, test_decided, decided_as, words_of, words_of-AreWordsOf, has_decided, same_itself}
 use Rattle.lg_token.proofs.SomeSpecials.{EndsIn, last_of, Found, first_decided}
 use Rattle.lg_token.proofs.Cutting.{shorter_front}
@@ -130,7 +128,7 @@ possessive_of chunk (b ∷ bs) front back =
 possessive_decided : (chunk : List ℕ) → Decided (Possessive chunk)
 unfolding Possessive
 possessive_decided chunk =
-    ⊎_elim (λ yes. possessive_of chunk (take (rest_end chunk) chunk) refl (text_is (drop (rest_end chunk) chunk) possessive yes))
+    ⊎_elim (λ yes. possessive_of chunk (take (rest_end chunk) chunk) refl ((bytes_decides (drop (rest_end chunk) chunk) possessive).0 yes))
     (λ not. inr (λ h. true≢false (sym (same_itself (drop (rest_end chunk) chunk) possessive ((rest_parts chunk h.0 h.1.0).1)) ∙ not)))
     (cases_Bool (same_text (drop (rest_end chunk) chunk) possessive))
 
@@ -211,8 +209,8 @@ module _ (dict : Dictionary) where
       ⊎_elim (λ has. (record { from = at; to = at; text = name; words = words_of dict name } ∷ [], stands has (words_of dict name) (words_of-AreWordsOf dict name))) (λ without. ([], absent without))
       (has_decided dict name)
 
-pub some_list : (dict : Dictionary) (text : List ℕ) → (ts : List Token) × AreTokens dict text ts
-some_list dict text =
+pub some_list : ((text : List ℕ) → AreRuns Blanks (runs_of Blanks outside 0 text) 0 text) → (dict : Dictionary) (text : List ℕ) → (ts : List Token) × AreTokens dict text ts
+some_list cut dict text =
     let chunks = runs_of Blanks outside 0 text in
     let left = some_wall dict (codes "LEFT-WALL") 0 in
     let inner = some_chunks dict true chunks in
@@ -224,7 +222,7 @@ some_list dict text =
         inner = inner.0;
         right = right.0;
         parts = refl;
-        runs = runs_of-AreRuns Blanks 0 text;
+        runs = cut text;
         left_wall = left.1;
         of_chunks = inner.1;
         right_wall = right.1;

@@ -9,8 +9,8 @@ use Rattle.std.proofs.lemmas.Bool.{cases_Bool}
 use Rattle.std.proofs.lemmas.List.{same_from_push, get_or_at, take_at, drop_at, take-append-drop, drop_more}
 use Rattle.std.proofs.lemmas.List.Elements.{AllWithin-none, AllWithin-more}
 use Rattle.std.proofs.lemmas.List.Folds.{Any-from_list_any, list_any-from_Any}
-use Rattle.lg_lex.proofs.Steps.{push_not_nil}
 use Rattle.lg_dict.specs.Dictionary.{Dictionary}
+use Rattle.lg_token.proofs.Members.{push_not_nil}
 use Rattle.lg_token.proofs.SomeWords.{Decided, test_decided, both_decided, decided_as, some_below, has_decided}
 use Rattle.lg_token.proofs.Specials.{MayNot, first_found}
 use Rattle.lg_token.specs.declared.special.Special.{Special}

@@ -6,7 +6,7 @@ use Rattle.std.specs.declared.cmp.Ordering.{Ordering}
 use Rattle.std.specs.declared.cmp.Ordering.TheVariants.{Less, Equal, Greater}
 use Rattle.std.specs.Ordering.{nat_cmp, is_lt, eq_by_cmp}
 use Rattle.std.specs.Cmp.{eq_by_cmp_equiv}
-use Rattle.std.specs.Cmp.Lexicographic.{slice_cmp, nat_list_cmp_total, nat_list_eq_equiv, texts_ties}
+use Rattle.std.specs.Cmp.Lexicographic.{slice_cmp, nat_list_cmp_total, nat_list_eq_equiv, texts_ties, bytes_decides}
 use Rattle.std.specs.List.{AllByRecursion}
 use Rattle.std.specs.List.Sorted.{IsStrictlySortedBy}
 use Rattle.std.specs.FinMap.{get, keys, entries, entries_sorted, contains_key-keys}
@@ -18,7 +18,6 @@ use Rattle.lg_gram.specs.Trees.{Tree}
 use Rattle.lg_dict.specs.Dictionary.{Dictionary, TextMap, AreWordsOf}
 use Rattle.lg_dict.specs.Subscripts.{stem_of}
 use Rattle.lg_dict.specs.Tables.{same_text}
-use Rattle.lg_dict.proofs.Words.{text_is}
 use Rattle.lg_token.proofs.Members.{here, nowhere, Contains-filter}
 use Rattle.lg_token.specs.Words.{Has}
 
@@ -51,7 +50,7 @@ module _ {K X : Type 0} (R : K → K → Ordering) where
   keys_rise (e ∷ es) h = let parts = both (below_all R e.0 es) (is_sorted R es) h in (above_first e.0 es parts.0, keys_rise es parts.1)
 
 tied_texts : (a b : List ℕ) → eq_by_cmp (slice_cmp nat_cmp) a b ≡ true → a ≡ b
-tied_texts a b h = text_is a b (texts_ties a b ∙ h)
+tied_texts a b h = (bytes_decides a b).0 (texts_ties a b ∙ h)
 
 Contains-keys : (m : TextMap Tree) (word : List ℕ) → Contains (keys m) word ↔ IsSome (get m word)
 Contains-keys m word = (
@@ -76,7 +75,7 @@ same_itself a b e = subst (λ t. same_text a t ≡ true) e (nat_list_eq_equiv.re
 
 is_of-fits : (text word : List ℕ) → (is_of text word ≡ true) ↔ ((word ≡ text) ⊎ (stem_of word ≡ text))
 is_of-fits text word = (
-  λ h. ⊎_elim (λ same. inl (text_is word text same)) (λ stem. inr (sym (text_is text (stem_of word) stem))) (or_cases (same_text word text) (same_text text (stem_of word)) h),
+  λ h. ⊎_elim (λ same. inl ((bytes_decides word text).0 same)) (λ stem. inr (sym ((bytes_decides text (stem_of word)).0 stem))) (or_cases (same_text word text) (same_text text (stem_of word)) h),
   λ h. ⊎_elim (λ same. ap (λ b. b || same_text text (stem_of word)) (same_itself word text same)) (λ stem. ap (λ b. same_text word text || b) (same_itself text (stem_of word) (sym stem)) ∙ or_true (same_text word text)) h,
 )
 

@@ -10,7 +10,7 @@ use Rattle.std.proofs.lemmas.List.{same_from_push, append_cancel_right}
 use Rattle.std.proofs.lemmas.List.Elements.{All-from_recursion, All-contains}
 use Rattle.lg_gram.specs.declared.listing.Token.{Token}
 use Rattle.lg_lex.specs.declared.run.Separators.TheVariants.{Blanks}
-use Rattle.lg_lex.proofs.RunLists.{AreRuns-runs_of}
+use Rattle.lg_lex.specs.Runs.{AreRuns, runs_of, outside}
 use Rattle.lg_dict.specs.Dictionary.{Dictionary, IsWordOf}
 use Rattle.lg_token.proofs.Members.{here, there, here_or_there, nowhere}
 use Rattle.lg_token.specs.Words.{AreWords}
@@ -162,9 +162,9 @@ one_chunks dict initial (c ∷ cs) ts us (t, rest, is, a, more) (u, others, are,
     let tail = one_chunks dict false cs rest others more further in
     is ∙ (λ i. head i ++ tail i) ∙ sym are
 
-pub one_list : (dict : Dictionary) (text : List ℕ) (ts us : List Token) → AreTokens dict text ts → AreTokens dict text us → ts ≡ us
-one_list dict text ts us a b =
-    let chunks : a.chunks ≡ b.chunks = sym (AreRuns-runs_of Blanks a.chunks 0 text a.runs) ∙ AreRuns-runs_of Blanks b.chunks 0 text b.runs in
+pub one_list : ((runs : List (List ℕ × ℕ)) (text : List ℕ) → AreRuns Blanks runs 0 text → runs_of Blanks outside 0 text ≡ runs) → (dict : Dictionary) (text : List ℕ) (ts us : List Token) → AreTokens dict text ts → AreTokens dict text us → ts ≡ us
+one_list one dict text ts us a b =
+    let chunks : a.chunks ≡ b.chunks = sym (one a.chunks text a.runs) ∙ one b.chunks text b.runs in
     let left = one_wall dict _ 0 a.left b.left a.left_wall b.left_wall in
     let right = one_wall dict _ (length text) a.right b.right a.right_wall b.right_wall in
     let inner = one_chunks dict true a.chunks a.inner b.inner a.of_chunks (subst (λ cs. AreOfChunks dict true cs b.inner) (sym chunks) b.of_chunks) in

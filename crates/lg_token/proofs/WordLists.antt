@@ -1,5 +1,5 @@
 -- Lists of words that are told by a property, and how the words of a lowered text stand after those of the text.
-use Rattle.std.proofs.Common.{◌≡◌, inl, inr, ◌↔◌, ℕ, ◌+◌, ◌<◌, ◌≤◌, get_or, List, [], ◌∷◌, ◌++◌, Bool, true, false, length, Contains, All, IfOk, Result, Ok, Err, refl, sym, ap, subst, ◌∙◌, arith, ◌==◌, true≢false}
+use Rattle.std.proofs.Common.{◌≡◌, inl, inr, ◌↔◌, ℕ, ◌+◌, ◌<◌, ◌≤◌, get_or, List, [], ◌∷◌, ◌++◌, Bool, true, false, cond, not, ◌-◌, length, drop, Contains, All, IfOk, Result, Ok, Err, refl, sym, ap, subst, ◌∙◌, arith, ◌==◌, true≢false}
 use borrow.Author.Tests.{eqb-true}
 use Rattle.std.specs.Prelude.{slice_get}
 use Rattle.std.specs.declared.cmp.Ordering.{Ordering}
@@ -9,13 +9,13 @@ use Rattle.std.specs.Cmp.{nat_cmp_is}
 use Rattle.std.specs.Cmp.Lexicographic.{slice_cmp}
 use Rattle.std.specs.Char.{is_ascii_uppercase}
 use Rattle.std.specs.List.Sorted.{IsStrictlySortedBy}
-use Rattle.std.proofs.lemmas.List.{append-nil}
+use Rattle.std.specs.List.{before_last, suffix_len}
+use Rattle.std.proofs.lemmas.List.{append-nil, take-append-drop}
 use Rattle.std.proofs.lemmas.List.Elements.{All-from_recursion, recursion_from_All, All-append, All-weaker, All-head, All-tail, All-contains_itself, Contains-append_left, Contains-append_right, Contains-append_cases}
 use Rattle.std.proofs.lemmas.Bool.Decides.{nat_tests}
 use Rattle.std.proofs.lemmas.Option.{same_Some}
 use Rattle.lg_dict.specs.Dictionary.{Dictionary, IsWordOf, AreWordsOf}
-use Rattle.lg_dict.specs.Subscripts.{IsStem, Cut, Whole}
-use Rattle.lg_dict.proofs.Points.{one_stem}
+use Rattle.lg_dict.specs.Subscripts.{is_point, has_subscript}
 use Rattle.lg_token.proofs.Members.{nowhere}
 use Rattle.lg_token.specs.declared.special.Special.{Special}
 use Rattle.lg_token.specs.Words.{Has, is_capitalized, lowered, special_word, specials, MayStand, IsFirstSpecial, IsKnown, IsNamed, IsSpecialWord, IsTokenWord, named, special, AreWords, AreTokenWords}
@@ -98,16 +98,16 @@ module _ {K : Type 0} (c : K → K → Ordering) (P Q : K → Type 0) (apart : (
     IsStrictlySortedBy-append xs ys (All-tail P x xs p) q sx.1 sy,
   )
 
--- a word of a text begins with the text
-stem_begins : (text word : List ℕ) → IsStem word text → (rest : List ℕ) × (word ≡ text ++ rest)
-stem_begins text word (Cut after cut) = (46 ∷ after, cut.parts)
-stem_begins text word (Whole never is) = ([], sym is ∙ sym (append-nil text))
+-- a word begins with its stem, and so a word of a text with the text
+stem_begins : (word : List ℕ) (cut : Bool) → (rest : List ℕ) × (word ≡ cond cut (before_last is_point word) word ++ rest)
+stem_begins word true = let n = length word - suffix_len (λ byte. not (is_point byte)) word - 1 in (drop n word, sym (take-append-drop n word))
+stem_begins word false = ([], sym (append-nil word))
 
 pub word_begins : (dict : Dictionary) (text word : List ℕ) → IsWordOf dict text word → (rest : List ℕ) × (word ≡ text ++ rest)
 word_begins dict text word is =
     elim is.fits [
       | inl same ↦ ([], same ∙ sym (append-nil text))
-      | inr stem ↦ stem_begins text word ((one_stem word text).1 (sym stem))
+      | inr stem ↦ let begins = stem_begins word (has_subscript word) in (begins.0, begins.1 ∙ ap (λ l. l ++ begins.0) stem)
     ]
 
 BeginsUpTo : ℕ → List ℕ → Type 0

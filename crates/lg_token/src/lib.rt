@@ -1,6 +1,7 @@
 //! The tokens of a sentence.
 #![tactic(auto)]
 
+mod bound;
 mod cuts;
 mod law;
 mod special;
@@ -9,6 +10,7 @@ mod tests;
 mod tokenizing;
 mod words;
 
-pub use law::tokens_are_one_list;
+pub use bound::bound_of;
+pub use law::{tokens_are_one_list, tokens_lie_in_order};
 pub use special::Special;
 pub use tokenizing::tokens;

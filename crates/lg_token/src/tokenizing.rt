@@ -10,7 +10,7 @@ use crate::words::token_words;
 use lg_base::{NoMemory, Text};
 use lg_dict::View;
 use lg_gram::{Token, Tokens};
-use lg_lex::{Separators, next_run};
+use lg_lex::{Separators, next_run, runs_are_one_list};
 use std::alloc::Global;
 
 /// The tokens of a sentence, in the order of the text, each with its words: a wall at each end, where the dictionary
@@ -23,6 +23,7 @@ pub fn tokens(alloc: Global, view: &View, text: &str) -> Result<Tokens, NoMemory
     requires { length text.now < 2 ^ 32 }
     ensures { IfOk result (AreTokens view.now text.now) }
 {
+    runs_are_one_list();
     let text = text.as_bytes();
     let mut tokens = Vec::new(alloc);
     add_wall(alloc, view, b"LEFT-WALL", 0, &mut tokens)?;
