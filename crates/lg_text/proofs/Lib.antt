@@ -1,2 +1,7 @@
 pub mod Joined
 pub mod Forks
+pub mod Bytes
+pub mod PlainTexts
+pub mod TextLines
+pub mod Heads
+pub mod Reading

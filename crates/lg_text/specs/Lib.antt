@@ -1,3 +1,4 @@
 pub mod Texts
 pub mod Replies
 pub mod Pieces
+pub mod Shown

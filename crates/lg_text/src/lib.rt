@@ -2,6 +2,7 @@
 #![tactic(auto)]
 
 mod journal;
+pub mod law;
 mod linkage;
 mod page;
 mod piece;
@@ -10,6 +11,7 @@ mod reply;
 mod tests;
 
 pub use journal::journal_text;
+pub use law::documents_show;
 pub use linkage::linkage_text;
 pub use page::{bound_text, page_text};
 pub use reply::reply_text;
