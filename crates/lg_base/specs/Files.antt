@@ -9,9 +9,9 @@ use Rattle.std.specs.declared.io.ErrorKind.{ErrorKind}
 use Rattle.std.specs.declared.io.ErrorKind.TheVariants.{OutOfMemory}
 use Rattle.lg_base.specs.declared.files.FileError.{FileError}
 use Rattle.lg_base.specs.declared.files.FileError.TheVariants.{NoMemory, Failed, TooLong}
-use Rattle.lg_base.specs.Faults.{Rose}
+use Rattle.lg_base.specs.Faults.{raised, Rose}
 
--- the names asked after a call for this name: want of memory leaves them, each other answer adds the name
+-- the names asked after a call for this name: out of memory leaves them, each other answer adds the name
 abbrev pub asked_after : {T : Type 0} → List (List ℕ) → List ℕ → Result T FileError → List (List ℕ)
 asked_after asked name (Ok _) = asked ++ name ∷ []
 asked_after asked name (Err NoMemory) = asked
@@ -37,6 +37,20 @@ Reads found limit (Err TooLong) = IsSomeAnd found (λ bytes. limit < length byte
 pub record HasReadCause {T : Type 0} (before now : ℕ) (result : Result T FileError) : Type 0 where
   pub later : before ≤ now
   pub failed : IsErrOf result Failed → Rose before now
+
+-- the count of faults after an error, and after an answer: Failed alone raises it
+abbrev pub faults_with : ℕ → FileError → ℕ
+faults_with count NoMemory = count
+faults_with count Failed = raised count
+faults_with count TooLong = count
+
+abbrev pub faults_after : {T : Type 0} → ℕ → Result T FileError → ℕ
+faults_after count (Ok _) = count
+faults_after count (Err error) = faults_with count error
+
+-- a file that is there was opened at its start: its reader has the bytes left that the files have for the name
+abbrev pub IsOpened : Option (List ℕ) → Option (List ℕ) → Type 0
+IsOpened found remaining = IsSomeAnd found (λ bytes. remaining ≡ Some bytes)
 
 -- why a file is not read where the system gives an error of this kind
 abbrev pub fault_of : ErrorKind → FileError

@@ -7,7 +7,7 @@ use Rattle.std.specs.FinMap.{code}
 use Rattle.lg_base.specs.declared.files.FileError.{FileError}
 use Rattle.lg_base.specs.declared.files.FileError.TheVariants.{NoMemory, Failed, TooLong}
 use Rattle.lg_base.specs.Contents.{Contents, file}
-use Rattle.lg_base.specs.Faults.{raised, is_listed}
+use Rattle.lg_base.specs.Faults.{is_listed}
 
 -- what the files hold, the names asked so far, the count of faults, and the numbers of the calls that are to fail
 pub record FilesView : Type 0 where
@@ -32,10 +32,3 @@ FailsWhere fails (Ok _) = fails ≡ false
 FailsWhere fails (Err NoMemory) = ⊤
 FailsWhere fails (Err Failed) = fails ≡ true
 FailsWhere fails (Err TooLong) = fails ≡ false
-
--- the count of faults after an answer: Failed alone raises it
-abbrev pub faults_after : {T : Type 0} → ℕ → Result T FileError → ℕ
-faults_after count (Ok _) = count
-faults_after count (Err NoMemory) = count
-faults_after count (Err Failed) = raised count
-faults_after count (Err TooLong) = count

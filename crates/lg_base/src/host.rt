@@ -1,9 +1,11 @@
 //! The files and standard streams of the process. They tell no content.
-ghost use Rattle.std.specs.Prelude.{None, ◌≡◌, ◌+◌, ◌≤◌, ◌<◌, [], OnOk, OnErr, IfOk, IfSome, IsOk, IsErrOf, is_err, vec_len, length, map, string_bytes, if◌then◌else◌};
-ghost use Rattle.std.specs.Io.{WritesAtMost};
-ghost use Rattle.std.specs.Io.KnownBytes.{Appends};
+ghost use Rattle.std.specs.Prelude.{None, Some, ◌≡◌, ◌+◌, ◌≤◌, ◌<◌, [], OnOk, OnErr, IfOk, IfSome, IsOk, IsErrOf, is_err, vec_len, length, map, string_bytes, if◌then◌else◌};
+ghost use Rattle.std.specs.declared.option.Option.{Option};
+ghost use Rattle.std.specs.Io.{ReadsAtMost, WritesAtMost};
+ghost use Rattle.std.specs.Io.KnownBytes.{Appends, ReadConsumes};
 ghost use Rattle.lg_base.specs.Faults.{raised};
-ghost use Rattle.lg_base.specs.Files.{fault_of};
+ghost use Rattle.lg_base.specs.Contents.{Contents, file};
+ghost use Rattle.lg_base.specs.Files.{asked_after, faults_with, faults_after, fault_of, Reads, IsOpened, HasReadCause};
 ghost use Rattle.lg_base.specs.Reading.{Loses};
 ghost use Rattle.lg_base.specs.Sinks.{AppendsFront, HasWriteCause};
 
@@ -13,24 +15,94 @@ use std::alloc::Global;
 use std::io::{Read, Write};
 use std::{fs, io, rt};
 
-/// The files of the process, read under a reference to its runtime.
+/// What opens files by name.
+///
+/// Contracts see what the files hold, where the object tells it.
+pub trait Opens {
+    /// An open file, to be read from its start.
+    type File: Read + Drop;
+
+    ghost contents: { Self → Option Contents };
+
+    /// Opens the file with this name.
+    fn open_file(&self, name: &str) -> io::Result<Self::File>
+        ensures { IfSome (contents self.now) (λ known.
+            IfOk result (λ opened. IsOpened (file known name.now) (Self.File.remaining opened))) };
+}
+
+/// What opens the files of the process, by a reference to its runtime. It tells no content.
 #[derive(Drop)]
-pub struct HostFiles<'a, R> {
+pub struct HostFolder<'a, R> {
     rt: &'a R,
+}
+
+impl<R: rt::Files> Opens for HostFolder<'_, R> {
+    type File = R::File;
+
+    ghost contents = { λ _. None };
+
+    fn open_file(&self, name: &str) -> io::Result<R::File> {
+        fs::open(self.rt, name)
+    }
+}
+
+/// Files that are opened one by one and read whole. They tell what the opener tells.
+#[derive(Drop)]
+pub struct ReaderFiles<O> {
+    opener: O,
     asked: Vec<String>,
     faults: u64,
 }
 
-impl<'a, R: rt::Files> HostFiles<'a, R> {
+/// The files of the process. They tell no content.
+pub type HostFiles<'a, R> = ReaderFiles<HostFolder<'a, R>>;
+
+impl<'a, R: rt::Files> ReaderFiles<HostFolder<'a, R>> {
     /// Files of which none was asked yet. It takes no memory.
     pub fn new(rt: &'a R, alloc: Global) -> HostFiles<'a, R>
         ensures asked { result.asked.items ≡ [] }
         ensures faults { result.faults ≡ 0 }
     {
-        HostFiles {
-            rt,
+        ReaderFiles {
+            opener: HostFolder { rt },
             asked: Vec::new(alloc),
             faults: 0,
+        }
+    }
+}
+
+// The count of faults after this error.
+fn faults_with(faults: u64, error: FileError) -> u64
+    ensures { result ≡ faults_with faults error }
+{
+    match error {
+        FileError::Failed => faults.saturating_add(1),
+        FileError::NoMemory | FileError::TooLong => faults,
+    }
+}
+
+// A reader with a count of its reads that failed for another cause than memory.
+#[derive(Drop)]
+struct Counted<S> {
+    source: S,
+    faults: u64,
+}
+
+impl<S: Read> Counted<S> {
+    // Reads some of the bytes.
+    fn read_some(&mut self, buffer: &mut [u8]) -> Result<usize, FileError>
+        ensures bound { ReadsAtMost result buffer.new }
+        ensures bytes { ReadConsumes (S.remaining self.old.source) (S.remaining self.new.source) result buffer.new }
+        ensures counted { self.new.faults ≡ faults_after self.old.faults result }
+        ensures limitless { IsErrOf result FileError.TooLong → ⊥ }
+    {
+        match self.source.read(buffer) {
+            Ok(count) => Ok(count),
+            Err(cause) => {
+                let error = FileError::from(cause);
+                self.faults = faults_with(self.faults, error);
+                Err(error)
+            }
         }
     }
 }
@@ -39,22 +111,27 @@ impl<'a, R: rt::Files> HostFiles<'a, R> {
 const CHUNK: usize = 4096;
 
 // All bytes that a reader has left, or that there are more than `limit`. Each turn takes at least one byte.
-fn read_limited<S: Read>(alloc: Global, source: &mut S, limit: u64) -> Result<Vec<u8>, FileError>
-    ensures whole { IfOk result (λ bytes. IfSome (S.remaining source.old) (λ known. bytes.items ≡ known)) }
+fn read_limited<S: Read>(
+    alloc: Global,
+    file: &mut Counted<S>,
+    limit: u64,
+) -> Result<Vec<u8>, FileError>
+    ensures told { IfSome (S.remaining file.old.source) (λ known. Reads (Some known) limit result) }
     ensures limited { IfOk result (λ bytes. vec_len bytes ≤ limit) }
-    ensures too_long { IsErrOf result FileError.TooLong →
-        IfSome (S.remaining source.old) (λ known. limit < length known) }
+
+    // a read that failed is the only fault
+    ensures counted { file.new.faults ≡ faults_after file.old.faults result }
 
     // it stops one byte past the limit
     ensures stops { IsErrOf result FileError.TooLong →
-        Loses (S.remaining source.old) (S.remaining source.new) (limit + 1) }
+        Loses (S.remaining file.old.source) (S.remaining file.new.source) (limit + 1) }
 {
     let mut bytes = Vec::new(alloc);
     let mut chunk = [0u8; CHUNK];
     let mut left = limit;
     loop {
         let want = left.saturating_add(1).min(CHUNK as u64) as usize;
-        let count = source.read(&mut chunk[..want])?;
+        let count = file.read_some(&mut chunk[..want])?;
         if count == 0 {
             return Ok(bytes);
         }
@@ -66,34 +143,61 @@ fn read_limited<S: Read>(alloc: Global, source: &mut S, limit: u64) -> Result<Ve
     }
 }
 
-fn read_file<R: rt::Files>(
-    rt: &R,
+// All bytes of the file with this name, and the count of faults after it.
+fn read_file<O: Opens>(
+    opener: &O,
     alloc: Global,
     name: &str,
     limit: u64,
+    faults: &mut u64,
 ) -> Result<Vec<u8>, FileError>
-    ensures { IfOk result (λ bytes. vec_len bytes ≤ limit) }
+    ensures told { IfSome (O.contents opener.now) (λ known. Reads (file known name.now) limit result) }
+    ensures limited { IfOk result (λ bytes. vec_len bytes ≤ limit) }
+    ensures counted { faults.new ≡ faults_after faults.old result }
 {
-    let mut file = fs::open(rt, name)?;
-    read_limited(alloc, &mut file, limit)
+    match opener.open_file(name) {
+        Ok(source) => {
+            let mut file = Counted {
+                source,
+                faults: *faults,
+            };
+            let answer = read_limited(alloc, &mut file, limit);
+            *faults = file.faults;
+            answer
+        }
+        Err(cause) => {
+            let error = FileError::from(cause);
+            *faults = faults_with(*faults, error);
+            Err(error)
+        }
+    }
 }
 
-impl<R: rt::Files> Files for HostFiles<'_, R> {
-    ghost contents = { λ _. None };
+impl<O: Opens> Files for ReaderFiles<O> {
+    ghost contents = { λ f. O.contents f.opener };
 
-    ghost asked = { λ h. map string_bytes h.asked.items };
+    ghost asked = { λ f. map string_bytes f.asked.items };
 
-    ghost faults = { λ h. h.faults };
+    ghost faults = { λ f. f.faults };
 
-    fn read_all(&mut self, alloc: Global, name: &str, limit: u64) -> Result<Vec<u8>, FileError> {
-        let answer = read_file(self.rt, alloc, name, limit);
+    fn read_all(&mut self, alloc: Global, name: &str, limit: u64) -> Result<Vec<u8>, FileError>
+        ensures unchanged { O.contents self.new.opener ≡ O.contents self.old.opener }
+        ensures asked { map string_bytes self.new.asked.items
+            ≡ asked_after (map string_bytes self.old.asked.items) name.now result }
+        ensures told { IfSome (O.contents self.old.opener) (λ known. Reads (file known name.now) limit result) }
+        ensures limited { IfOk result (λ bytes. vec_len bytes ≤ limit) }
+        ensures cause { HasReadCause self.old.faults self.new.faults result }
+
+        // an open or a read that failed raises the count by one, and nothing else does
+        ensures counted { self.new.faults ≡ faults_after self.old.faults result }
+    {
+        let mut faults = self.faults;
+        let answer = read_file(&self.opener, alloc, name, limit, &mut faults);
         if let Err(FileError::NoMemory) = answer {
             return answer;
         }
         self.asked.push(String::from_str(alloc, name)?)?;
-        if let Err(FileError::Failed) = answer {
-            self.faults = self.faults.saturating_add(1);
-        }
+        self.faults = faults;
         answer
     }
 }
@@ -281,8 +385,10 @@ mod tests {
         ] {
             let mut held = VecDeque::new(alloc);
             held.write_all(b"abc")?;
-            let mut source = Fake { held, then };
-            assert_eq!(rt; read_limited(alloc, &mut source, limit).err(), want);
+            let source = Fake { held, then };
+            let mut file = Counted { source, faults: 0 };
+            assert_eq!(rt; read_limited(alloc, &mut file, limit).err(), want);
+            assert_eq!(rt; file.faults, u64::from(then == Device::Broken));
         }
         Ok(())
     }

@@ -2,8 +2,8 @@
 ghost use Rattle.std.specs.Prelude.{Some, ◌≡◌, ◌≤◌, OnOk, OnErr, IfOk, IfSome, IfNone, ◌∷◌, ◌++◌, [], vec_len};
 ghost use Rattle.std.specs.FinMap as finite;
 ghost use Rattle.lg_base.specs.Contents.{file};
-ghost use Rattle.lg_base.specs.Files.{asked_after, Reads, HasReadCause};
-ghost use Rattle.lg_base.specs.MemFiles.{read_fails, FailsWhere, faults_after};
+ghost use Rattle.lg_base.specs.Files.{asked_after, faults_after, Reads, HasReadCause};
+ghost use Rattle.lg_base.specs.MemFiles.{read_fails, FailsWhere};
 
 use crate::files::{FileError, Files};
 use crate::memory::NoMemory;
