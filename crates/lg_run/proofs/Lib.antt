@@ -10,3 +10,4 @@ pub mod Givens
 pub mod Writing
 pub mod Printed
 pub mod Turned
+pub mod Shown

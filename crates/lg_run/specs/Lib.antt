@@ -8,6 +8,7 @@ pub mod Stops
 pub mod Reads
 pub mod Pieces
 pub mod Documents
+pub mod Shown
 pub mod Answers
 pub mod Listers
 pub mod Written

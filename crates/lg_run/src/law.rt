@@ -1,8 +1,9 @@
-//! Laws of the words and of the inputs.
+//! Laws of the words, of the inputs and of the document.
 ghost use Rattle.std.specs.Prelude.{◌≡◌, ℕ, List};
 ghost use Rattle.lg_base.specs.Contents.{Contents};
 ghost use Rattle.lg_run.specs.Words.{Task, TaskIs};
 ghost use Rattle.lg_run.specs.Inputs.{InputsAre, HasSome, IsOne};
+ghost use Rattle.lg_run.specs.Shown.{OutcomesAreShown};
 
 use lg_dictread::exactly_one_dictionary;
 use lg_knowread::exactly_one_knowledge;
@@ -23,3 +24,11 @@ pub fn inputs_have_one_verdict()
 pub fn words_have_one_task()
     ensures { (words : List (List ℕ)) (x y : Task) → TaskIs words x → TaskIs words y → x ≡ y }
 {}
+
+/// The document of a run determines the journal and, of each answer in order, its place, its kind and its version, where no text
+/// in it has a line feed. The function does nothing: a caller whose proof needs the fact calls it.
+pub fn documents_show()
+    ensures { OutcomesAreShown }
+{
+    lg_text::documents_show();
+}

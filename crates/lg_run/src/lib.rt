@@ -15,7 +15,7 @@ mod status;
 mod stop;
 mod top;
 
-pub use law::{inputs_have_one_verdict, words_have_one_task};
+pub use law::{documents_show, inputs_have_one_verdict, words_have_one_task};
 pub use status::Status;
 pub use top::run;
 

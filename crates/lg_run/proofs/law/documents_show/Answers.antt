@@ -1,0 +1,5 @@
+use Rattle.lg_run.proofs.Shown.{outcomes_are_shown}
+use Rattle.lg_run.proofs.law.documents_show.Goals as goal
+
+pub returns : goal.returns
+returns c = outcomes_are_shown c.documents_show.ensures.documents

@@ -1,0 +1,33 @@
+-- What the document of a run shows: the journal, and of each answer its place, its kind and its version.
+use Rattle.std.specs.Prelude.{◌≡◌, ℕ, ◌+◌, List, [], ◌∷◌, ◌++◌, map}
+use Rattle.std.specs.List.{AllByRecursion}
+use Rattle.lg_gram.specs.declared.reply.Place.{Place}
+use Rattle.lg_gram.specs.declared.reply.Reply.{Reply}
+use Rattle.lg_script.specs.Commands.{CommandView}
+use Rattle.lg_script.specs.Kinds.{kind_of}
+use Rattle.lg_text.specs.Shown.{Answered, IsPlain, IsPlace, shown_of}
+use Rattle.lg_run.specs.Documents.{outcome_text}
+
+-- a session's answers with their places and kinds, from the command of that number on
+abbrev pub placed : ℕ → ℕ → List CommandView → List Reply → List Answered
+placed session n (command ∷ commands) (r ∷ rs) = record { place = record { session = session; command = n }; kind = kind_of command; reply = r } ∷ placed session (n + 1) commands rs
+placed session n commands [] = []
+placed session n [] rs = []
+
+-- all answers, by sessions and commands
+abbrev pub all_placed : ℕ → List (List CommandView) → List (List Reply) → List Answered
+all_placed session (commands ∷ scripts) (rs ∷ replies) = placed session 1 commands rs ++ all_placed (session + 1) scripts replies
+all_placed session scripts [] = []
+all_placed session [] replies = []
+
+-- The numbers of answers and of the journal are of their types, and no text of an answer has a line feed.
+pub record ArePlain (scripts : List (List CommandView)) (replies : List (List Reply)) (journal : List Place) : Type 0 where
+  pub answers : AllByRecursion IsPlain (all_placed 1 scripts replies)
+  pub places : AllByRecursion IsPlace journal
+
+-- The document of a run determines the journal and, of each answer in order, its place, its kind and its version.
+abbrev pub OutcomesAreShown : Type 0
+OutcomesAreShown =
+    (scripts others : List (List CommandView)) (replies answers : List (List Reply)) (journal edits : List Place) → ArePlain scripts replies journal → ArePlain others answers edits
+    → outcome_text scripts replies journal ≡ outcome_text others answers edits
+    → (map shown_of (all_placed 1 scripts replies) ≡ map shown_of (all_placed 1 others answers)) × (journal ≡ edits)
