@@ -1,8 +1,8 @@
 //! The files and standard streams of the process. They tell no content.
-ghost use Rattle.std.specs.Prelude.{None, Some, ◌≡◌, ◌+◌, ◌≤◌, ◌<◌, [], OnOk, OnErr, IfOk, IfSome, IsOk, IsErrOf, is_err, vec_len, length, map, string_bytes, if◌then◌else◌};
+ghost use Rattle.std.specs.Prelude.{None, Some, ◌≡◌, ◌+◌, ◌≤◌, ◌<◌, [], OnOk, OnErr, IfOk, IfSome, IsOk, IsErrOf, is_err, vec_len, length, take, ℕ, List, ⊤, map, string_bytes, if◌then◌else◌};
 ghost use Rattle.std.specs.declared.option.Option.{Option};
 ghost use Rattle.std.specs.Io.{ReadsAtMost, WritesAtMost};
-ghost use Rattle.std.specs.Io.KnownBytes.{Appends, ReadConsumes};
+ghost use Rattle.std.specs.Io.KnownBytes.{Appends, WriteAppends, ReadConsumes};
 ghost use Rattle.lg_base.specs.Faults.{raised};
 ghost use Rattle.lg_base.specs.Contents.{Contents, file};
 ghost use Rattle.lg_base.specs.Files.{asked_after, faults_with, faults_after, fault_of, Reads, IsOpened, HasReadCause};
@@ -209,17 +209,33 @@ pub struct WriterSink<W> {
     faults: u64,
 }
 
-// Writes all these bytes. A write that takes nothing is a fault.
-fn write_whole<W: Write>(writer: &mut W, bytes: &[u8]) -> Result<(), SinkFault>
-    ensures whole { OnOk result (Appends (W.contents writer.old) (W.contents writer.new) bytes.now) }
-    ensures front { OnErr result (AppendsFront (W.contents writer.old) (W.contents writer.new) bytes.now) }
+impl<W: Write> WriterSink<W> {
+    // Writes some of the bytes. A write that fails or takes nothing is a fault, and a short one is none.
+    fn write_some(&mut self, bytes: &[u8]) -> Result<usize, SinkFault>
+        ensures bytes { WriteAppends (W.contents self.old.writer) (W.contents self.new.writer) result bytes.now }
+        ensures taken { IfOk result (λ count. (0 < count) × (count ≤ length bytes.now)) }
+        ensures counted { self.new.faults ≡ (if is_err result then raised self.old.faults else self.old.faults) }
+    {
+        match self.writer.write(bytes) {
+            Ok(0) | Err(_) => {
+                self.faults = self.faults.saturating_add(1);
+                Err(SinkFault)
+            }
+            Ok(count) => Ok(count),
+        }
+    }
+}
+
+// Writes all these bytes.
+fn write_whole<W: Write>(sink: &mut WriterSink<W>, bytes: &[u8]) -> Result<(), SinkFault>
+    ensures whole { OnOk result (Appends (W.contents sink.old.writer) (W.contents sink.new.writer) bytes.now) }
+    ensures front { OnErr result (AppendsFront (W.contents sink.old.writer) (W.contents sink.new.writer) bytes.now) }
+    ensures cause { HasWriteCause sink.old.faults sink.new.faults result }
+    ensures counted { sink.new.faults ≡ (if is_err result then raised sink.old.faults else sink.old.faults) }
 {
     let mut done = 0;
     while done < bytes.len() {
-        let taken = writer.write(&bytes[done..])?;
-        if taken == 0 {
-            return Err(SinkFault);
-        }
+        let taken = sink.write_some(&bytes[done..])?;
         done += taken;
     }
     Ok(())
@@ -243,26 +259,34 @@ impl<W: Write> Sink for WriterSink<W> {
         if bytes.is_empty() {
             return Ok(());
         }
-        let result = write_whole(&mut self.writer, bytes);
-        if result.is_err() {
-            self.faults = self.faults.saturating_add(1);
-        }
-        result
+        write_whole(self, bytes)
     }
 }
 
 /// Where the process writes: some of the bytes, and how many.
+///
+/// Contracts see which bytes came to which stream, as far as the object tells it.
 pub trait Streams {
+    ghost on_output: { Self → List ℕ → Type 0 };
+
+    ghost on_errors: { Self → List ℕ → Type 0 };
+
     /// Writes some of the bytes to standard output.
     fn write_output(&self, bytes: &[u8]) -> io::Result<usize>
-        ensures { WritesAtMost result bytes.now };
+        ensures bound { WritesAtMost result bytes.now }
+        ensures came { IfOk result (λ count. on_output self.now (take count bytes.now)) };
 
     /// Writes some of the bytes to standard error.
     fn write_errors(&self, bytes: &[u8]) -> io::Result<usize>
-        ensures { WritesAtMost result bytes.now };
+        ensures bound { WritesAtMost result bytes.now }
+        ensures came { IfOk result (λ count. on_errors self.now (take count bytes.now)) };
 }
 
 impl Streams for HostRuntime {
+    ghost on_output = { λ _ _. ⊤ };
+
+    ghost on_errors = { λ _ _. ⊤ };
+
     fn write_output(&self, bytes: &[u8]) -> io::Result<usize> {
         self.stdout().write_some(bytes)
     }
@@ -286,7 +310,17 @@ pub struct HostStream<'a, R> {
 }
 
 impl<R: Streams> Write for HostStream<'_, R> {
-    fn write(&mut self, buf: &[u8]) -> io::Result<usize> {
+    fn write(&mut self, buf: &[u8]) -> io::Result<usize>
+        ensures bound { WritesAtMost result buf.now }
+        ensures bytes { WriteAppends None None result buf.now }
+        ensures stream { self.new.stream ≡ self.old.stream }
+
+        // each stream takes its own bytes
+        ensures output { self.old.stream ≡ Stream.Output →
+            IfOk result (λ count. R.on_output self.old.rt.now (take count buf.now)) }
+        ensures errors { self.old.stream ≡ Stream.Errors →
+            IfOk result (λ count. R.on_errors self.old.rt.now (take count buf.now)) }
+    {
         match self.stream {
             Stream::Output => self.rt.write_output(buf),
             Stream::Errors => self.rt.write_errors(buf),

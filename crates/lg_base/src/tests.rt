@@ -1,5 +1,7 @@
 //! What no clause says: that calls succeed, outside values of printed and read numbers, and faults in mid-stream.
 use crate::*;
+use std::fs;
+use std::io::Write;
 use std::test::Fail;
 
 #[test]
@@ -140,5 +142,23 @@ fn values(rt: HostRuntime) -> Result<(), Fail> {
     let codes = Codes::of(vec![in alloc; 7]?);
     assert_eq!(rt; codes.items(), [7].as_slice());
     assert_eq!(rt; codes.into_items().len(), 1);
+    Ok(())
+}
+
+// A file of more than 64 KiB is read whole, an empty one is no fault, and one that passes the limit by a byte is too long.
+#[test]
+fn files_of_the_process(rt: HostRuntime) -> Result<(), Fail> {
+    let alloc = rt.alloc();
+    let long = vec![in alloc; b'x'; 70_000]?;
+    fs::create(&rt, "lg_base_long")?.write_all(long.as_slice())?;
+    fs::create(&rt, "lg_base_empty")?.write_all(b"")?;
+    let mut files = HostFiles::new(&rt, alloc);
+    assert_eq!(rt; files.read_all(alloc, "lg_base_long", 70_000)?, long);
+    assert_eq!(rt;
+        files.read_all(alloc, "lg_base_long", 69_999).err(),
+        Some(FileError::TooLong)
+    );
+    let none = files.read_all(alloc, "lg_base_empty", 0)?;
+    assert_eq!(rt; none.len(), 0);
     Ok(())
 }
