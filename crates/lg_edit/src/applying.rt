@@ -35,8 +35,9 @@ fn put_words(alloc: Global, view: &mut View, entry: &RawEntry) -> Result<(), NoM
     ensures unchanged { OnErr result (view.new ≡ view.old) }
 {
     let formula = entry_formula(alloc, view, entry)?;
+    let shared = formula.shared(alloc)?;
     let words = names(alloc, entry)?;
-    view.put(&words, &formula)
+    view.put(&words, &shared)
 }
 
 fn put_macro(alloc: Global, view: &mut View, entry: &RawEntry) -> Result<(), NoMemory>

@@ -9,9 +9,8 @@ use Rattle.std.specs.List.{list_all}
 use Rattle.std.proofs.lemmas.Str.Parse.{digit_at}
 use Rattle.lg_base.specs.Costs.{AreDigits, CostForm, IsCostNumber, ReadsCost, HasOneCost}
 use Rattle.lg_base.specs.Costs.CostForm.{Whole, WholeAndPart, Part as PartAlone}
-use Rattle.lg_gram.specs.Names.{is_capital}
+use Rattle.lg_gram.specs.Names.{is_capital, NamesAreWritten}
 use Rattle.lg_gram.specs.Connectors.{Connector}
-use Rattle.lg_gram.proofs.Names.{written_parts}
 use Rattle.lg_lex.specs.Tokens.{Lexeme, sign, quoted, plain, broken, is_text}
 use Rattle.lg_expr.specs.declared.part.Operator.TheVariants.{And, Or}
 use Rattle.lg_expr.specs.declared.part.Bracket.TheVariants.{Round, Curly, Square}
@@ -128,11 +127,11 @@ connector_word false (b ∷ caps) rest some all =
     let capital = (and_parts (is_capital b) (list_all is_capital caps) all).0 in
     letter_word b (caps ++ rest) (grind (arith, nat_tests)) (grind (arith, nat_tests))
 
-connector_only : (w : List ℕ) (c : Connector) → WritesConnector w c → part_of_word w ≡ connects c
-connector_only w c h =
-    let parts = written_parts h.caps h.subs h.written in
+connector_only : NamesAreWritten → (w : List ℕ) (c : Connector) → WritesConnector w c → part_of_word w ≡ connects c
+connector_only laws w c h =
+    let parts = laws h.caps h.subs h.written in
     ap part_of_word h.spells ∙ connector_word c.multi h.caps (h.subs ++ sign_text c.right) parts.some parts.capitals
-    ∙ ap part_of_connector (ap connector_of (sym h.spells) ∙ connector_is w c h)
+    ∙ ap part_of_connector (ap connector_of (sym h.spells) ∙ connector_is laws w c h)
 
 macro_only : (m : List ℕ) → IsMacroName m → part_of_word m ≡ names m
 macro_only m h =
@@ -141,20 +140,20 @@ macro_only m h =
     let no_and : is_text (codes "and") m ≡ false = ap (is_text (codes "and")) h.2 in
     λ i. cond (no_or i) (operates Or) (cond (no_and i) (operates And) (cond (macro_is m h i) (names m) rest))
 
-pub token_only : HasOneCost → (x : Lexeme) (p : Part) → Writes x p → part_of_lexeme x ≡ p
-token_only one x (connects c) (w, is, h) = ap part_of_lexeme is ∙ connector_only w c h
-token_only one x (names m) (is, h) = ap part_of_lexeme is ∙ macro_only m h
-token_only one x (operates And) (inl is) = ap part_of_lexeme is
-token_only one x (operates And) (inr is) = ap part_of_lexeme is
-token_only one x (operates Or) (inl is) = ap part_of_lexeme is
-token_only one x (operates Or) (inr is) = ap part_of_lexeme is
-token_only one x (opens Round) is = ap part_of_lexeme is
-token_only one x (opens Curly) is = ap part_of_lexeme is
-token_only one x (opens Square) is = ap part_of_lexeme is
-token_only one x (closes Round) is = ap part_of_lexeme is
-token_only one x (closes Curly) is = ap part_of_lexeme is
-token_only one x (closes Square) is = ap part_of_lexeme is
-token_only one x (number cost) (w, is, h) = ap part_of_lexeme is ∙ number_word w (cost_begins w cost h) ∙ ap part_of_number (cost_of_read one w (Some cost) h)
-token_only one x no_number (w, is, begins, none) = ap part_of_lexeme is ∙ number_word w begins ∙ ap part_of_number (cost_of_none one w none)
-token_only one x ends is = ap part_of_lexeme is
-token_only one x wrong h = absurd h
+pub token_only : HasOneCost → NamesAreWritten → (x : Lexeme) (p : Part) → Writes x p → part_of_lexeme x ≡ p
+token_only one laws x (connects c) (w, is, h) = ap part_of_lexeme is ∙ connector_only laws w c h
+token_only one laws x (names m) (is, h) = ap part_of_lexeme is ∙ macro_only m h
+token_only one laws x (operates And) (inl is) = ap part_of_lexeme is
+token_only one laws x (operates And) (inr is) = ap part_of_lexeme is
+token_only one laws x (operates Or) (inl is) = ap part_of_lexeme is
+token_only one laws x (operates Or) (inr is) = ap part_of_lexeme is
+token_only one laws x (opens Round) is = ap part_of_lexeme is
+token_only one laws x (opens Curly) is = ap part_of_lexeme is
+token_only one laws x (opens Square) is = ap part_of_lexeme is
+token_only one laws x (closes Round) is = ap part_of_lexeme is
+token_only one laws x (closes Curly) is = ap part_of_lexeme is
+token_only one laws x (closes Square) is = ap part_of_lexeme is
+token_only one laws x (number cost) (w, is, h) = ap part_of_lexeme is ∙ number_word w (cost_begins w cost h) ∙ ap part_of_number (cost_of_read one w (Some cost) h)
+token_only one laws x no_number (w, is, begins, none) = ap part_of_lexeme is ∙ number_word w begins ∙ ap part_of_number (cost_of_none one w none)
+token_only one laws x ends is = ap part_of_lexeme is
+token_only one laws x wrong h = absurd h

@@ -5,9 +5,8 @@ use Rattle.std.proofs.lemmas.Bool.{eqb-true, and_parts}
 use Rattle.std.proofs.lemmas.Bool.Decides.{nat_tests}
 use Rattle.std.proofs.lemmas.List.{take_at, drop_at, drop_all, take-append-drop}
 use Rattle.std.proofs.Math.Seq.{drop-cons, get_or-append_seam}
-use Rattle.lg_gram.specs.Names.{is_capital, is_written, trimmed}
+use Rattle.lg_gram.specs.Names.{is_capital, is_written, trimmed, NamesAreWritten}
 use Rattle.lg_gram.specs.Connectors.{Connector}
-use Rattle.lg_gram.proofs.Names.{written_parts, prefix_len-caps}
 use Rattle.lg_expr.specs.Words.{at_text, sign_text, WritesConnector, IsMacroName}
 use Rattle.lg_expr.specs.Classes.{last_byte, without_last, connector_from, connector_without_sign, connector_of, is_macro_name}
 
@@ -37,36 +36,36 @@ ends_with (c ∷ w) b some is = word_split (c ∷ w) (omega arith) ∙ ap (λ (x
 abbrev written_as : List ℕ → List ℕ → Bool → Bool → Connector
 written_as caps subs multi right = record { caps = caps; subs = trimmed subs; multi = multi; right = right }
 
-from_letters : (caps subs : List ℕ) (multi right : Bool) → is_written caps subs ≡ true → connector_from (caps ++ subs) multi right ≡ Some (written_as caps subs multi right)
-from_letters caps subs multi right written =
-    let parts = written_parts caps subs written in
+from_letters : NamesAreWritten → (caps subs : List ℕ) (multi right : Bool) → is_written caps subs ≡ true → connector_from (caps ++ subs) multi right ≡ Some (written_as caps subs multi right)
+from_letters laws caps subs multi right written =
+    let parts = laws caps subs written in
     let n = prefix_len is_capital (caps ++ subs) in
-    let size : length caps ≡ n = sym (prefix_len-caps caps subs parts.capitals parts.subscripts) in
+    let size : length caps ≡ n = sym parts.front in
     let front : take n (caps ++ subs) ≡ caps = take_at caps subs n size in
     let back : drop n (caps ++ subs) ≡ subs = drop_at caps subs n size in
     (λ i. cond (is_written (front i) (back i)) (Some (written_as (front i) (back i) multi right)) None)
     ∙ ap (λ (x : Bool). cond x (Some (written_as caps subs multi right)) None) written
 
-without_sign : (caps subs : List ℕ) (multi right : Bool) → is_written caps subs ≡ true → connector_without_sign (at_text multi ++ (caps ++ subs)) right ≡ Some (written_as caps subs multi right)
-without_sign caps subs true right written = from_letters caps subs true right written
-without_sign [] subs false right written = absurd (let parts = written_parts [] subs written in omega (arith, parts.some))
-without_sign (b ∷ caps) subs false right written =
-    let parts = written_parts (b ∷ caps) subs written in
+without_sign : NamesAreWritten → (caps subs : List ℕ) (multi right : Bool) → is_written caps subs ≡ true → connector_without_sign (at_text multi ++ (caps ++ subs)) right ≡ Some (written_as caps subs multi right)
+without_sign laws caps subs true right written = from_letters laws caps subs true right written
+without_sign laws [] subs false right written = absurd (let parts = laws [] subs written in omega (arith, parts.some))
+without_sign laws (b ∷ caps) subs false right written =
+    let parts = laws (b ∷ caps) subs written in
     let capital = (and_parts (is_capital b) (list_all is_capital caps) parts.capitals).0 in
     let other : nat_eq b 64 ≡ false = grind (arith, nat_tests) in
     ap (λ (x : Bool). cond x (connector_from (caps ++ subs) true right) (connector_from (b ∷ (caps ++ subs)) false right)) other
-    ∙ from_letters (b ∷ caps) subs false right written
+    ∙ from_letters laws (b ∷ caps) subs false right written
 
 with_sign : (w : List ℕ) (right : Bool) → connector_of (w ++ sign_text right) ≡ connector_without_sign w right
 with_sign w true = (λ i. cond (nat_eq (last_byte-push w 43 i) 43) (connector_without_sign (without_last-push w 43 i) true) (cond (nat_eq (last_byte-push w 43 i) 45) (connector_without_sign (without_last-push w 43 i) false) None))
 with_sign w false = (λ i. cond (nat_eq (last_byte-push w 45 i) 43) (connector_without_sign (without_last-push w 45 i) true) (cond (nat_eq (last_byte-push w 45 i) 45) (connector_without_sign (without_last-push w 45 i) false) None))
 
 -- a word that writes a connector is read as that connector
-pub connector_is : (w : List ℕ) (c : Connector) → WritesConnector w c → connector_of w ≡ Some c
-connector_is w c h =
+pub connector_is : NamesAreWritten → (w : List ℕ) (c : Connector) → WritesConnector w c → connector_of w ≡ Some c
+connector_is laws w c h =
     let text : w ≡ (at_text c.multi ++ (h.caps ++ h.subs)) ++ sign_text c.right = h.spells ∙ sym (simp append_assoc) in
     let same : written_as h.caps h.subs c.multi c.right ≡ c = (λ i. record { caps = sym h.caps_are i; subs = sym h.subs_are i; multi = c.multi; right = c.right }) in
-    ap connector_of text ∙ with_sign (at_text c.multi ++ (h.caps ++ h.subs)) c.right ∙ without_sign h.caps h.subs c.multi c.right h.written ∙ ap (λ (x : Connector). Some x) same
+    ap connector_of text ∙ with_sign (at_text c.multi ++ (h.caps ++ h.subs)) c.right ∙ without_sign laws h.caps h.subs c.multi c.right h.written ∙ ap (λ (x : Connector). Some x) same
 
 -- ---- and back
 

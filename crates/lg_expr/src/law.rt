@@ -14,6 +14,7 @@ ghost use Rattle.lg_expr.specs.Reading.{AnswerIs, StandFor};
 ghost use Rattle.lg_expr.specs.Fits.{rules_of, AllFit, FilledFits};
 
 use lg_base::cost_number_laws;
+use lg_gram::law::names_are_written;
 
 /// Tokens stand for one expression or have one first fault, whichever parts they are, and the automaton answers it.
 ///
@@ -33,6 +34,7 @@ pub fn parts_are_written()
     ensures only { (x : Lexeme) (p : Part) → Writes x p → part_of_lexeme x ≡ p }
 {
     cost_number_laws();
+    names_are_written();
 }
 
 /// With macros put in whose formulas keep to their levels, an expression's formula keeps to its own: no leaf lies deeper

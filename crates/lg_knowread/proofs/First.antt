@@ -2,6 +2,7 @@
 use Rattle.std.proofs.Common.{◌≡◌, ℕ, Bool, true, false, cond, eqb, List, [], ◌∷◌, ◌++◌, Result, Ok, Err, refl, sym, ap, subst, ◌∙◌}
 use Rattle.std.proofs.lemmas.List.{append-nil}
 use Rattle.lg_lex.specs.Tokens.{Lexeme, sign, quoted, plain, broken}
+use Rattle.lg_gram.specs.Names.{NamesAreWritten}
 use Rattle.lg_knowread.specs.declared.fault.Fault.{Fault}
 use Rattle.lg_knowread.specs.declared.fault.Fault.TheVariants.{UnknownSection, BadPattern, BadType, Syntax}
 use Rattle.lg_knowread.specs.declared.knowledge.Knowledge.{Knowledge}
@@ -143,29 +144,29 @@ refused_led f (Ok x) fault y is e = cc
 refused_led f (Err g) fault y is e = cc
 
 -- a pattern is taken where one is wanted, and only there
-takes_pattern : (s t : State) (p : Pattern) → IsPattern p → with_word s (p.caps ++ p.subs) ≡ Ok t → want s ≡ a_pattern
-takes_pattern Name t p h e = absurd (refused_led Colon (section_of (p.caps ++ p.subs)) UnknownSection t (pattern_no_section p h) e)
-takes_pattern (Colon s) t p h e = absurd cc
-takes_pattern (First Start) t p h e = absurd (refused_led _ (kind_of (p.caps ++ p.subs)) BadType t (pattern_no_kind p h) e)
-takes_pattern (First Ignore) t p h e = refl
-takes_pattern (First (Test x)) t p h e = refl
-takes_pattern (First Bounded) t p h e = absurd (refused_led _ (kind_of (p.caps ++ p.subs)) BadType t (pattern_no_kind p h) e)
-takes_pattern (First Cycle) t p h e = refl
-takes_pattern (Brace x q) t p h e = absurd cc
-takes_pattern (Further x ps) t p h e = refl
-takes_pattern (End r) t p h e = absurd cc
+takes_pattern : NamesAreWritten → (s t : State) (p : Pattern) → IsPattern p → with_word s (p.caps ++ p.subs) ≡ Ok t → want s ≡ a_pattern
+takes_pattern laws Name t p h e = absurd (refused_led Colon (section_of (p.caps ++ p.subs)) UnknownSection t (pattern_no_section laws p h) e)
+takes_pattern laws (Colon s) t p h e = absurd cc
+takes_pattern laws (First Start) t p h e = absurd (refused_led _ (kind_of (p.caps ++ p.subs)) BadType t (pattern_no_kind laws p h) e)
+takes_pattern laws (First Ignore) t p h e = refl
+takes_pattern laws (First (Test x)) t p h e = refl
+takes_pattern laws (First Bounded) t p h e = absurd (refused_led _ (kind_of (p.caps ++ p.subs)) BadType t (pattern_no_kind laws p h) e)
+takes_pattern laws (First Cycle) t p h e = refl
+takes_pattern laws (Brace x q) t p h e = absurd cc
+takes_pattern laws (Further x ps) t p h e = refl
+takes_pattern laws (End r) t p h e = absurd cc
 
-pattern_taken : (s : State) (p : Pattern) → IsPattern p → want s ≡ a_pattern → (t : State) × (with_word s (p.caps ++ p.subs) ≡ Ok t)
-pattern_taken Name p h e = absurd cc
-pattern_taken (Colon s) p h e = absurd cc
-pattern_taken (First Start) p h e = absurd cc
-pattern_taken (First Ignore) p h e = (_, ap (leads (λ (q : Pattern). Further Ignored (q ∷ []))) (pattern_found p h))
-pattern_taken (First (Test x)) p h e = (_, ap (leads (Brace x)) (pattern_found p h))
-pattern_taken (First Bounded) p h e = absurd cc
-pattern_taken (First Cycle) p h e = (_, ap (leads (λ (q : Pattern). End (rules.Cycle q))) (pattern_found p h))
-pattern_taken (Brace x q) p h e = absurd cc
-pattern_taken (Further x ps) p h e = (_, ap (leads (λ (q : Pattern). Further x (ps ++ q ∷ []))) (pattern_found p h))
-pattern_taken (End r) p h e = absurd cc
+pattern_taken : NamesAreWritten → (s : State) (p : Pattern) → IsPattern p → want s ≡ a_pattern → (t : State) × (with_word s (p.caps ++ p.subs) ≡ Ok t)
+pattern_taken laws Name p h e = absurd cc
+pattern_taken laws (Colon s) p h e = absurd cc
+pattern_taken laws (First Start) p h e = absurd cc
+pattern_taken laws (First Ignore) p h e = (_, ap (leads (λ (q : Pattern). Further Ignored (q ∷ []))) (pattern_found laws p h))
+pattern_taken laws (First (Test x)) p h e = (_, ap (leads (Brace x)) (pattern_found laws p h))
+pattern_taken laws (First Bounded) p h e = absurd cc
+pattern_taken laws (First Cycle) p h e = (_, ap (leads (λ (q : Pattern). End (rules.Cycle q))) (pattern_found laws p h))
+pattern_taken laws (Brace x q) p h e = absurd cc
+pattern_taken laws (Further x ps) p h e = (_, ap (leads (λ (q : Pattern). Further x (ps ++ q ∷ []))) (pattern_found laws p h))
+pattern_taken laws (End r) p h e = absurd cc
 
 -- and a kind
 takes_kind : (s t : State) (kind : ℕ) → is_kind kind ≡ true → with_word s (kind ∷ []) ≡ Ok t → want s ≡ a_kind
@@ -210,10 +211,10 @@ between (End r) e = absurd cc
 
 -- ---- which the definitions say too
 
-module _ (front : List Lexeme) (r : Reading) (h : Reached front r) where
+module _ (laws : NamesAreWritten) (front : List Lexeme) (r : Reading) (h : Reached front r) where
   pub whole_wants : AreWhole front → want r.state ≡ a_name
   whole_wants (ss, are, e) =
-      let same : r ≡ at (knowledge_of ss) Name = let there : Ok r ≡ Ok (at (knowledge_of ss) Name) = sym h.reached ∙ ap (reach (at nothing Name)) e ∙ complete ss are in cc in
+      let same : r ≡ at (knowledge_of ss) Name = let there : Ok r ≡ Ok (at (knowledge_of ss) Name) = sym h.reached ∙ ap (reach (at nothing Name)) e ∙ complete laws ss are in cc in
       ap (λ (q : Reading). want q.state) same
 
   pub wants_whole : want r.state ≡ a_name → AreWhole front
@@ -221,18 +222,18 @@ module _ (front : List Lexeme) (r : Reading) (h : Reached front r) where
 
   pattern_wanted : WantsPattern front → want r.state ≡ a_pattern
   pattern_wanted (p, is, f) =
-      let q = follows_taken front r (pattern_token p) h f in
+      let q = follows_taken laws front r (pattern_token p) h f in
       let t = led (at r.knowledge) (with_word r.state (p.caps ++ p.subs)) q.0 q.1 in
-      takes_pattern r.state t.0 p is t.1
+      takes_pattern laws r.state t.0 p is t.1
 
   wants_pattern : want r.state ≡ a_pattern → WantsPattern front
   wants_pattern e =
-      let t = pattern_taken r.state A refl e in
+      let t = pattern_taken laws r.state A refl e in
       (A, refl, taken_follows front r (at r.knowledge t.0) (pattern_token A) h (ap (leads (at r.knowledge)) t.1))
 
   kind_wanted : WantsKind front → want r.state ≡ a_kind
   kind_wanted (kind, is, f) =
-      let q = follows_taken front r (kind_token kind) h f in
+      let q = follows_taken laws front r (kind_token kind) h f in
       let t = led (at r.knowledge) (with_word r.state (kind ∷ [])) q.0 q.1 in
       takes_kind r.state t.0 kind is t.1
 
@@ -281,7 +282,7 @@ module _ (front : List Lexeme) (r : Reading) (h : Reached front r) where
   -- what the reader refuses stops there, for the cause that it tells
   pub refused_stops : (x : Lexeme) (fault : Fault) → advance r x ≡ Err fault → (MayFollow front x → ⊥) × StopsAt fault front x
   refused_stops x fault e = (
-    (λ f. let q = follows_taken front r x h f in let is = q.1 in cc),
+    (λ f. let q = follows_taken laws front r x h f in let is = q.1 in cc),
     subst (λ (g : Fault). StopsAt g front x) (sym (refused_is r x fault e)) (stops_there (want r.state) x refl),
   )
 

@@ -4,6 +4,7 @@ use Rattle.std.specs.List.{AllByRecursion}
 use Rattle.std.proofs.lemmas.Grind.{flat_map-append}
 use Rattle.std.proofs.lemmas.List.{append-nil, map_push}
 use Rattle.lg_lex.specs.Tokens.{Lexeme, plain}
+use Rattle.lg_gram.specs.Names.{NamesAreWritten}
 use Rattle.lg_knowread.specs.declared.fault.Fault.{Fault}
 use Rattle.lg_knowread.specs.declared.knowledge.Pattern.{Pattern}
 use Rattle.lg_knowread.specs.declared.words.Test as test
@@ -135,9 +136,9 @@ taken_all [] front r q taken e =
 taken_all (x ∷ xs) front r q taken e = taken_on front xs r q x (advance r x) taken refl e (λ z h k. taken_all xs (front ++ x ∷ []) z q h k)
 
 -- each front that begins statements leads to a reading
-pub begun : (front : List Lexeme) → Begins front → (r : Reading) × Reached front r
-begun front (ss, more, are, e) =
-    let p = reach_front front more (at nothing Name) (at (knowledge_of ss) Name) (ap (reach (at nothing Name)) e ∙ complete ss are) in
+pub begun : NamesAreWritten → (front : List Lexeme) → Begins front → (r : Reading) × Reached front r
+begun laws front (ss, more, are, e) =
+    let p = reach_front front more (at nothing Name) (at (knowledge_of ss) Name) (ap (reach (at nothing Name)) e ∙ complete laws ss are) in
     (p.0, record { reached = p.1; taken = taken_all front [] (at nothing Name) p.0 taken_start p.1 })
 
 went_on : (m : Result Reading Fault) (p : Reading) → reach_on (λ z. reach z []) m ≡ Ok p → (q : Reading) × (m ≡ Ok q)
@@ -145,9 +146,9 @@ went_on (Ok q) p e = (q, refl)
 went_on (Err fault) p e = absurd cc
 
 -- what may follow is taken, and what is taken may follow
-pub follows_taken : (front : List Lexeme) (r : Reading) (x : Lexeme) → Reached front r → MayFollow front x → (q : Reading) × (advance r x ≡ Ok q)
-follows_taken front r x h f =
-    let b = begun (front ++ x ∷ []) f in
+pub follows_taken : NamesAreWritten → (front : List Lexeme) (r : Reading) (x : Lexeme) → Reached front r → MayFollow front x → (q : Reading) × (advance r x ≡ Ok q)
+follows_taken laws front r x h f =
+    let b = begun laws (front ++ x ∷ []) f in
     went_on (advance r x) b.0 (sym (reach-append front (x ∷ []) (at nothing Name) r h.reached) ∙ b.1.reached)
 
 pub taken_follows : (front : List Lexeme) (r q : Reading) (x : Lexeme) → Reached front r → advance r x ≡ Ok q → MayFollow front x

@@ -5,6 +5,7 @@ use Rattle.lg_lex.specs.declared.marks.Marks.TheVariants as marks
 use Rattle.lg_lex.specs.Lexing.{between, lex}
 use Rattle.lg_lex.specs.Marked.{without_mark}
 use Rattle.lg_lex.specs.Tokens.{AreTokens, Token, IsText}
+use Rattle.lg_gram.specs.Names.{NamesAreWritten}
 use Rattle.lg_knowread.specs.declared.fault.KnowError.{KnowError}
 use Rattle.lg_knowread.specs.declared.fault.KnowError.TheVariants.{NoMemory, NotUtf8, Syntax, UnknownSection, BadPattern, BadType}
 use Rattle.lg_knowread.specs.declared.knowledge.Knowledge.{Knowledge}
@@ -32,18 +33,18 @@ led bytes x (refused ts fault left is h) = inr (ts, stopped fault left, is, h, r
 
 -- ---- what the reader tells
 
-pub told_text : (bytes : List ℕ) (ts : List Token) (x : Result Knowledge KnowError) → IsText marks.Knowledge bytes ts → TellsAnswer (without_mark bytes) (answer_of ts) x → TellsKnowledge bytes x
-told_text bytes ts (Err NoMemory) is h = tt
-told_text bytes ts (Ok k) is h = subst (KnowledgeIs bytes) (sym h) (text_is bytes ts (answer_of ts) is (answer_is ts))
-told_text bytes ts (Err (NotUtf8 n)) is h = subst (KnowledgeIs bytes) (sym h) (text_is bytes ts (answer_of ts) is (answer_is ts))
-told_text bytes ts (Err (Syntax line column)) is h = subst (KnowledgeIs bytes) (sym h) (text_is bytes ts (answer_of ts) is (answer_is ts))
-told_text bytes ts (Err (UnknownSection line)) is h = subst (KnowledgeIs bytes) (sym h) (text_is bytes ts (answer_of ts) is (answer_is ts))
-told_text bytes ts (Err (BadPattern line)) is h = subst (KnowledgeIs bytes) (sym h) (text_is bytes ts (answer_of ts) is (answer_is ts))
-told_text bytes ts (Err (BadType line)) is h = subst (KnowledgeIs bytes) (sym h) (text_is bytes ts (answer_of ts) is (answer_is ts))
+pub told_text : NamesAreWritten → (bytes : List ℕ) (ts : List Token) (x : Result Knowledge KnowError) → IsText marks.Knowledge bytes ts → TellsAnswer (without_mark bytes) (answer_of ts) x → TellsKnowledge bytes x
+told_text laws bytes ts (Err NoMemory) is h = tt
+told_text laws bytes ts (Ok k) is h = subst (KnowledgeIs bytes) (sym h) (text_is bytes ts (answer_of ts) is (answer_is laws ts))
+told_text laws bytes ts (Err (NotUtf8 n)) is h = subst (KnowledgeIs bytes) (sym h) (text_is bytes ts (answer_of ts) is (answer_is laws ts))
+told_text laws bytes ts (Err (Syntax line column)) is h = subst (KnowledgeIs bytes) (sym h) (text_is bytes ts (answer_of ts) is (answer_is laws ts))
+told_text laws bytes ts (Err (UnknownSection line)) is h = subst (KnowledgeIs bytes) (sym h) (text_is bytes ts (answer_of ts) is (answer_is laws ts))
+told_text laws bytes ts (Err (BadPattern line)) is h = subst (KnowledgeIs bytes) (sym h) (text_is bytes ts (answer_of ts) is (answer_is laws ts))
+told_text laws bytes ts (Err (BadType line)) is h = subst (KnowledgeIs bytes) (sym h) (text_is bytes ts (answer_of ts) is (answer_is laws ts))
 
 -- ---- exactly one, where a text has one list of tokens
 
-module _ (lexed : (bytes : List ℕ) → AreTokens marks.Knowledge (lex marks.Knowledge between 0 bytes) 0 bytes)
+module _ (laws : NamesAreWritten) (lexed : (bytes : List ℕ) → AreTokens marks.Knowledge (lex marks.Knowledge between 0 bytes) 0 bytes)
     (one_list : (ts : List Token) (bytes : List ℕ) → AreTokens marks.Knowledge ts 0 bytes → lex marks.Knowledge between 0 bytes ≡ ts)
     (utf8_or_fault : (bytes : List ℕ) → IsUtf8 bytes ⊎ ((n : ℕ) × IsValidUpTo bytes n))
     (one_fault : (bytes : List ℕ) (n m : ℕ) → IsValidUpTo bytes n → IsValidUpTo bytes m → n ≡ m)
@@ -51,7 +52,7 @@ module _ (lexed : (bytes : List ℕ) → AreTokens marks.Knowledge (lex marks.Kn
   some_of : (bytes : List ℕ) → IsUtf8 bytes ⊎ ((n : ℕ) × IsValidUpTo bytes n) → (x : Result Knowledge KnowError) × KnowledgeIs bytes x
   some_of bytes (inl utf8) =
       let ts = lex marks.Knowledge between 0 (without_mark bytes) in
-      (result_of (without_mark bytes) (answer_of ts), text_is bytes ts (answer_of ts) (record { utf8 = utf8; tokens = lexed (without_mark bytes) }) (answer_is ts))
+      (result_of (without_mark bytes) (answer_of ts), text_is bytes ts (answer_of ts) (record { utf8 = utf8; tokens = lexed (without_mark bytes) }) (answer_is laws ts))
   some_of bytes (inr (n, h)) = (Err (NotUtf8 n), not_utf8 n h)
 
   pub some_text : (bytes : List ℕ) → (x : Result Knowledge KnowError) × KnowledgeIs bytes x
@@ -63,7 +64,7 @@ module _ (lexed : (bytes : List ℕ) → AreTokens marks.Knowledge (lex marks.Kn
   one_led bytes x y (inr (ts, a, is, h, leads)) (inl (m, k, ym)) = absurd (fault_apart bytes m k is.utf8)
   one_led bytes x y (inr (ts, a, is, h, x_leads)) (inr (us, b, are, k, y_leads)) =
       let same : us ≡ ts = sym (one_list us (without_mark bytes) are.tokens) ∙ one_list ts (without_mark bytes) is.tokens in
-      let answers : a ≡ b = one_answer ts a b h (subst (λ (l : List Token). AnswerIs l b) same k) in
+      let answers : a ≡ b = one_answer laws ts a b h (subst (λ (l : List Token). AnswerIs l b) same k) in
       x_leads ∙ ap (result_of (without_mark bytes)) answers ∙ sym y_leads
 
   pub one_text : (bytes : List ℕ) (x y : Result Knowledge KnowError) → KnowledgeIs bytes x → KnowledgeIs bytes y → x ≡ y

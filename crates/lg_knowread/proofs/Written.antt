@@ -7,8 +7,7 @@ use Rattle.std.proofs.lemmas.Bool.{false≢true, and_parts}
 use Rattle.std.proofs.lemmas.Bool.Decides.{nat_tests}
 use Rattle.std.proofs.lemmas.List.{take_at, drop_at, take-append-drop}
 use Rattle.lg_lex.specs.Tokens.{is_text}
-use Rattle.lg_gram.specs.Names.{is_capital, is_written}
-use Rattle.lg_gram.proofs.Names.{written_parts, prefix_len-caps}
+use Rattle.lg_gram.specs.Names.{is_capital, is_written, NamesAreWritten}
 use Rattle.lg_knowread.specs.declared.fault.Fault.{Fault}
 use Rattle.lg_knowread.specs.declared.fault.Fault.TheVariants.{UnknownSection, BadPattern, BadType}
 use Rattle.lg_knowread.specs.declared.knowledge.Pattern.{Pattern}
@@ -95,12 +94,12 @@ pattern_tested w n false is = refl
 pub pattern_is : (w : List ℕ) → PatternIs w (pattern_of w)
 pattern_is w = pattern_tested w (prefix_len is_capital w) _ refl
 
-pub pattern_found : (p : Pattern) → IsPattern p → pattern_of (p.caps ++ p.subs) ≡ Ok p
-pattern_found p h =
-    let parts = written_parts p.caps p.subs h in
+pub pattern_found : NamesAreWritten → (p : Pattern) → IsPattern p → pattern_of (p.caps ++ p.subs) ≡ Ok p
+pattern_found laws p h =
+    let parts = laws p.caps p.subs h in
     let w = p.caps ++ p.subs in
     let n = prefix_len is_capital w in
-    let size : length p.caps ≡ n = sym (prefix_len-caps p.caps p.subs parts.capitals parts.subscripts) in
+    let size : length p.caps ≡ n = sym parts.front in
     let front : take n w ≡ p.caps = take_at p.caps p.subs n size in
     let back : drop n w ≡ p.subs = drop_at p.caps p.subs n size in
     (λ i. cond (is_written (front i) (back i)) (Ok (record { caps = front i; subs = back i })) (Err BadPattern))
@@ -143,15 +142,15 @@ long_name Bounded = refl
 long_name Cycle = refl
 
 -- a pattern begins with a capital letter
-first_capital : (caps subs : List ℕ) → is_written caps subs ≡ true → is_capital (first (caps ++ subs)) ≡ true
-first_capital [] subs h = absurd (let parts = written_parts [] subs h in omega (arith, parts.some))
-first_capital (b ∷ caps) subs h = (and_parts (is_capital b) (list_all is_capital caps) (written_parts (b ∷ caps) subs h).capitals).0
+first_capital : NamesAreWritten → (caps subs : List ℕ) → is_written caps subs ≡ true → is_capital (first (caps ++ subs)) ≡ true
+first_capital laws [] subs h = absurd (let parts = laws [] subs h in omega (arith, parts.some))
+first_capital laws (b ∷ caps) subs h = (and_parts (is_capital b) (list_all is_capital caps) (laws (b ∷ caps) subs h).capitals).0
 
-pub pattern_no_section : (p : Pattern) → IsPattern p → section_of (p.caps ++ p.subs) ≡ Err UnknownSection
-pattern_no_section p h =
+pub pattern_no_section : NamesAreWritten → (p : Pattern) → IsPattern p → section_of (p.caps ++ p.subs) ≡ Err UnknownSection
+pattern_no_section laws p h =
     let w = p.caps ++ p.subs in
     none_found w (section_of w) (section_is w)
-    (λ s e. false≢true (sym (small_name s) ∙ sym (ap (λ (v : List ℕ). is_capital (first v)) e) ∙ first_capital p.caps p.subs h))
+    (λ s e. false≢true (sym (small_name s) ∙ sym (ap (λ (v : List ℕ). is_capital (first v)) e) ∙ first_capital laws p.caps p.subs h))
 
 pub kind_no_section : (kind : ℕ) → section_of (kind ∷ []) ≡ Err UnknownSection
 kind_no_section kind =
@@ -165,8 +164,8 @@ no_kind (b ∷ []) h =
     ap (λ (t : Bool). cond t (Ok b) (Err BadType)) none
 no_kind (b ∷ c ∷ w) h = refl
 
-pub pattern_no_kind : (p : Pattern) → IsPattern p → kind_of (p.caps ++ p.subs) ≡ Err BadType
-pattern_no_kind p h = no_kind (p.caps ++ p.subs) (first_capital p.caps p.subs h)
+pub pattern_no_kind : NamesAreWritten → (p : Pattern) → IsPattern p → kind_of (p.caps ++ p.subs) ≡ Err BadType
+pattern_no_kind laws p h = no_kind (p.caps ++ p.subs) (first_capital laws p.caps p.subs h)
 
 pub kind_no_pattern : (kind : ℕ) → is_kind kind ≡ true → pattern_of (kind ∷ []) ≡ Err BadPattern
 kind_no_pattern kind h =

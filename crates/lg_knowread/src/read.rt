@@ -10,6 +10,7 @@ ghost use Rattle.lg_knowread.specs.View.{TellsAnswer, TellsRefusal};
 use crate::fault::{Fault, KnowError, Refusal};
 use crate::knowledge::Knowledge;
 use crate::reading::{Reading, State};
+use lg_gram::law::names_are_written;
 use lg_lex::{Marks, Place, Spot, next_spotted, tokens_are_one_list, utf8_fault, without_mark};
 use std::alloc::Global;
 
@@ -24,6 +25,7 @@ pub fn read_knowledge(alloc: Global, bytes: &[u8]) -> Result<Knowledge, KnowErro
     ensures few { IfOk result (λ k. length k.rules ≤ length bytes.now) }
 {
     tokens_are_one_list();
+    names_are_written();
     match utf8_fault(bytes) {
         Some(byte) => Err(KnowError::NotUtf8(byte)),
         None => read_text(alloc, without_mark(bytes)),

@@ -4,6 +4,7 @@ use Rattle.std.specs.Prelude.{slice_get}
 use Rattle.std.specs.Ordering.{nat_cmp}
 use Rattle.std.specs.Cmp.Lexicographic.{slice_cmp}
 use Rattle.std.specs.List.Sorted.{IsStrictlySortedBy}
+use Rattle.std.specs.Cmp.{IsTotalOrder}
 use Rattle.std.proofs.lemmas.Bool.{cases_lt}
 use Rattle.std.proofs.lemmas.Cmp.{tied_itself}
 use Rattle.std.proofs.lemmas.Map.Keys.{Less-from_sorted}
@@ -12,7 +13,6 @@ use Rattle.lg_gram.specs.Linkages.{Linkage, link_cmp}
 use Rattle.lg_gram.specs.Rules.{IsMatched, IsSatisfied, IsPlanar, IsExclusive, IsOrdered, IsConnected, IsLinked, HasLink, rights_of, lefts_of}
 use Rattle.lg_gram.specs.Walks.{LinkFrom}
 use Rattle.lg_gram.specs.declared.linkage.Link.{Link}
-use Rattle.lg_gram.proofs.Orders.{links_total}
 use Rattle.lg_rules.specs.Least.{IsLeast, IsLeastPair, IsLeastPlace}
 use Rattle.lg_rules.specs.Verdicts.{Case, IsVerdict, IsSound, UnmatchedAt, UnsatisfiedAt, CrossingAt, ApartAt, TwiceAt, OrderAt, side_number, verdict_key, verdict_cmp}
 use Rattle.lg_rules.specs.declared.verdict.Verdict.{Verdict}
@@ -36,28 +36,28 @@ planar_none g h m n case = h case.0 case.1 (listed g.links m case.0 case.2) (lis
 connected_none : (g : Linkage) → IsConnected (IsLinked g) (LinkFrom (HasLink g)) → (i : ℕ) → ApartAt g i → ⊥
 connected_none g h i case = case.1.2 (h case.1.0 i case.1.1.linked case.0)
 
-earlier_other : (links : List Link) (m n : ℕ) (k : Link) → IsStrictlySortedBy link_cmp links → slice_get links m ≡ Some k → slice_get links n ≡ Some k → m < n → ⊥
-earlier_other links m n k rise at_m at_n less =
+earlier_other : IsTotalOrder link_cmp → (links : List Link) (m n : ℕ) (k : Link) → IsStrictlySortedBy link_cmp links → slice_get links m ≡ Some k → slice_get links n ≡ Some k → m < n → ⊥
+earlier_other total links m n k rise at_m at_n less =
     let within = slice_get_within links n k at_n in
     let e = get_or_from_slice_get links m k k at_m in
     let f = get_or_from_slice_get links n k k at_n in
     let before = Less-from_sorted link_cmp links m n k rise less within in
-    let tied = tied_itself links_total k in
+    let tied = tied_itself total k in
     let same : link_cmp k k ≡ Less = rw (e, f) at before in
     cc
 
 -- a rising list has a link at one number only
-one_number : (links : List Link) (m n : ℕ) (k : Link) → IsStrictlySortedBy link_cmp links → slice_get links m ≡ Some k → slice_get links n ≡ Some k → m ≡ n
-one_number links m n k rise at_m at_n =
+one_number : IsTotalOrder link_cmp → (links : List Link) (m n : ℕ) (k : Link) → IsStrictlySortedBy link_cmp links → slice_get links m ≡ Some k → slice_get links n ≡ Some k → m ≡ n
+one_number total links m n k rise at_m at_n =
     elim (cases_lt m n) [
-      | inl less ↦ absurd (earlier_other links m n k rise at_m at_n less)
-      | inr more ↦ elim (cases_lt n m) [ inl less ↦ absurd (earlier_other links n m k rise at_n at_m less) | inr same ↦ omega arith ]
+      | inl less ↦ absurd (earlier_other total links m n k rise at_m at_n less)
+      | inr more ↦ elim (cases_lt n m) [ inl less ↦ absurd (earlier_other total links n m k rise at_n at_m less) | inr same ↦ omega arith ]
     ]
 
-exclusive_none : (g : Linkage) → IsStrictlySortedBy link_cmp g.links → IsExclusive (HasLink g) → (m n : ℕ) → TwiceAt g m n → ⊥
-exclusive_none g rise h m n case =
+exclusive_none : IsTotalOrder link_cmp → (g : Linkage) → IsStrictlySortedBy link_cmp g.links → IsExclusive (HasLink g) → (m n : ℕ) → TwiceAt g m n → ⊥
+exclusive_none total g rise h m n case =
     let same : case.0 ≡ case.1 = h case.0 case.1 (listed g.links m case.0 case.2) (listed g.links n case.1 case.3) case.5 case.6 in
-    case.4 (one_number g.links m n case.1 rise (subst (λ z. slice_get g.links m ≡ Some z) same case.2) case.3)
+    case.4 (one_number total g.links m n case.1 rise (subst (λ z. slice_get g.links m ≡ Some z) same case.2) case.3)
 
 ordered_none : (g : Linkage) → ((l : Link) → HasLink g l → l.left < l.right) → IsOrdered (HasLink g) → (i : ℕ) (right : Bool) (p : ℕ) → OrderAt g i right p → ⊥
 ordered_none g forward h i true p case =
@@ -80,18 +80,18 @@ ordered_none g forward h i false p case =
     omega arith
 
 -- where all rules hold there is no case
-pub sound_none : (g : Linkage) → IsStrictlySortedBy link_cmp g.links → IsSound g → (v : Verdict) → Case g v → ⊥
-sound_none g rise h Good case = case
-sound_none g rise h (Unmatched n) case = matched_none g h.rules.matched n case
-sound_none g rise h (Unsatisfied i right p) case = satisfied_none g h.rules.satisfied i right p case
-sound_none g rise h (Crossing m n) case = planar_none g h.rules.planar m n case
-sound_none g rise h (Apart i) case = connected_none g h.connected i case
-sound_none g rise h (Twice m n) case = exclusive_none g rise h.rules.exclusive m n case
-sound_none g rise h (Order i right p) case = ordered_none g h.rules.matched.forward h.rules.ordered i right p case
+pub sound_none : IsTotalOrder link_cmp → (g : Linkage) → IsStrictlySortedBy link_cmp g.links → IsSound g → (v : Verdict) → Case g v → ⊥
+sound_none total g rise h Good case = case
+sound_none total g rise h (Unmatched n) case = matched_none g h.rules.matched n case
+sound_none total g rise h (Unsatisfied i right p) case = satisfied_none g h.rules.satisfied i right p case
+sound_none total g rise h (Crossing m n) case = planar_none g h.rules.planar m n case
+sound_none total g rise h (Apart i) case = connected_none g h.connected i case
+sound_none total g rise h (Twice m n) case = exclusive_none total g rise h.rules.exclusive m n case
+sound_none total g rise h (Order i right p) case = ordered_none g h.rules.matched.forward h.rules.ordered i right p case
 
 -- a linkage with a case is not sound
-pub case_unsound : (g : Linkage) → IsStrictlySortedBy link_cmp g.links → (v : Verdict) → Case g v → (v ≡ Good) ↔ IsSound g
-case_unsound g rise v case = (λ e. absurd (subst (λ z. Case g z) e case), λ sound. absurd (sound_none g rise sound v case))
+pub case_unsound : IsTotalOrder link_cmp → (g : Linkage) → IsStrictlySortedBy link_cmp g.links → (v : Verdict) → Case g v → (v ≡ Good) ↔ IsSound g
+case_unsound total g rise v case = (λ e. absurd (subst (λ z. Case g z) e case), λ sound. absurd (sound_none total g rise sound v case))
 
 -- ---- no case of the rules before one
 
@@ -133,9 +133,9 @@ module _ (g : Linkage) (matched : IsMatched (rights_of g) (lefts_of g) (HasLink 
       none_before_exclusion (Apart i) case less = connected_none g connected i case
       none_before_exclusion w case less = none_before_connectivity w case (omega arith)
 
-      none_before_ordering : IsStrictlySortedBy link_cmp g.links → IsExclusive (HasLink g) → HasNoneBefore g 6
-      none_before_ordering rise exclusive (Twice m n) case less = exclusive_none g rise exclusive m n case
-      none_before_ordering rise exclusive w case less = none_before_exclusion w case (omega arith)
+      none_before_ordering : IsTotalOrder link_cmp → IsStrictlySortedBy link_cmp g.links → IsExclusive (HasLink g) → HasNoneBefore g 6
+      none_before_ordering total rise exclusive (Twice m n) case less = exclusive_none total g rise exclusive m n case
+      none_before_ordering total rise exclusive w case less = none_before_exclusion w case (omega arith)
 
 -- ---- the least of the cases of one rule
 
@@ -249,6 +249,6 @@ twice_verdict g m n h matched satisfied planar connected =
 
 pub order_verdict : (g : Linkage) (i : ℕ) (right : Bool) (p : ℕ) → IsLeastPlace (OrderAt g) i right p →
     IsMatched (rights_of g) (lefts_of g) (HasLink g) → IsSatisfied (rights_of g) (lefts_of g) (HasLink g) → IsPlanar (HasLink g) →
-    IsConnected (IsLinked g) (LinkFrom (HasLink g)) → IsStrictlySortedBy link_cmp g.links → IsExclusive (HasLink g) → IsVerdict g (Order i right p)
-order_verdict g i right p h matched satisfied planar connected rise exclusive =
-    record { is_case = h.here.here; least = order_first g i right p (none_before_ordering g matched satisfied planar connected rise exclusive) h }
+    IsConnected (IsLinked g) (LinkFrom (HasLink g)) → IsTotalOrder link_cmp → IsStrictlySortedBy link_cmp g.links → IsExclusive (HasLink g) → IsVerdict g (Order i right p)
+order_verdict g i right p h matched satisfied planar connected total rise exclusive =
+    record { is_case = h.here.here; least = order_first g i right p (none_before_ordering g matched satisfied planar connected total rise exclusive) h }

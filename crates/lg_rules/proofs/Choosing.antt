@@ -2,6 +2,7 @@
 use Rattle.std.proofs.Common.{◌≡◌, ℕ, ◌<◌, ◌≤◌, ◌+◌, ◌-◌, ◌↔◌, Bool, true, false, List, [], ◌∷◌, ◌++◌, length, get_or, take, drop, take_all, refl, sym, subst, inl, inr, ◌⊎◌, append_assoc, append-nil, Option, Some, None, arith, is_none, zero-le}
 use Rattle.std.specs.List.{All, AllZip, Contains, count_by}
 use Rattle.std.specs.List.Sorted.{IsStrictlySortedBy}
+use Rattle.std.specs.Cmp.{IsTotalOrder}
 use Rattle.std.proofs.lemmas.List.{take_more}
 use Rattle.std.proofs.lemmas.List.Elements.{Contains-push_cases, Contains-append_left, Contains-push}
 use Rattle.std.proofs.lemmas.Grind.{common_steps}
@@ -17,13 +18,13 @@ use Rattle.lg_rules.proofs.Pruned.{sound_can, goes_on_partners}
 use Rattle.lg_rules.proofs.Sublists.{sublist_of, sublist_rises}
 
 -- all sound sets of links of a choice are parts of the candidates
-pub sound_completed : (chosen : List (Option Disjunct)) (candidates : List Link) → AreLinks chosen candidates → ((k : Link) → CanLink chosen k → Contains candidates k) →
+pub sound_completed : IsTotalOrder link_cmp → (chosen : List (Option Disjunct)) (candidates : List Link) → AreLinks chosen candidates → ((k : Link) → CanLink chosen k → Contains candidates k) →
     (a b : List Linkage) → Adds (IsCompletion chosen [] candidates) a b → Adds (IsSoundWith chosen) a b
 unfolding IsCompletion
-sound_completed chosen candidates are every a b h =
+sound_completed total chosen candidates are every a b h =
     adds_same (IsCompletion chosen [] candidates) (IsSoundWith chosen) a b h
     (λ g. (
-      λ q. (q.same, (g.links, sublist_of g.links candidates q.rise are.rise (λ z m. every z (sound_can chosen g q z m)), refl), q.sound),
+      λ q. (q.same, (g.links, sublist_of total g.links candidates q.rise are.rise (λ z m. every z (sound_can chosen g q z m)), refl), q.sound),
       λ q. record { same = q.0; rise = subst (IsStrictlySortedBy link_cmp) (sym q.1.2) (sublist_rises q.1.0 candidates q.1.1 are.rise); sound = q.2 },
     ))
 

@@ -2,6 +2,7 @@
 use Rattle.std.proofs.Common.{◌≡◌, ◌≢◌, ℕ, zero, suc, ◌≤◌, Bool, true, false, cond, ◌&&◌, ◌==◌, List, [], ◌∷◌, refl, sym, ap, ◌∙◌, subst, inl, inr, ◌⊎◌, Contains, Less, arith}
 use Rattle.std.specs.List.{count_by}
 use Rattle.std.specs.List.Sorted.{IsStrictlySortedBy}
+use Rattle.std.specs.Cmp.{IsTotalOrder}
 use Rattle.std.proofs.lemmas.Bool.{cases_Bool, cases_lt, false≢true}
 use Rattle.std.proofs.lemmas.Bool.Decides.{nat_tests}
 use Rattle.std.proofs.lemmas.Cmp.{tied_itself}
@@ -12,7 +13,6 @@ use Rattle.lg_gram.specs.Connectors.{Connector}
 use Rattle.lg_gram.specs.Linkages.{link_cmp}
 use Rattle.lg_gram.specs.Rules.{Serves}
 use Rattle.lg_gram.specs.declared.linkage.Link.{Link}
-use Rattle.lg_gram.proofs.Orders.{links_total}
 use Rattle.lg_rules.specs.Checks.{is_at, IsCount}
 use Rattle.lg_rules.specs.Verdicts.{end_of, place_of, IsAt}
 
@@ -30,10 +30,10 @@ contains_none : (x : Link) → Contains [] x → ⊥
 contains_none x (k, l, e) = omega arith
 
 -- the first link of a rising list does not come again
-head_once : (x : Link) (xs : List Link) → IsStrictlySortedBy link_cmp (x ∷ xs) → Contains xs x → ⊥
-head_once x xs rise has =
+head_once : IsTotalOrder link_cmp → (x : Link) (xs : List Link) → IsStrictlySortedBy link_cmp (x ∷ xs) → Contains xs x → ⊥
+head_once total x xs rise has =
     let less : link_cmp x x ≡ Less = All-contains (λ y. link_cmp x y ≡ Less) xs x (All-from_recursion (λ y. link_cmp x y ≡ Less) xs (sorted_head link_cmp x xs rise)) has in
-    let tied = tied_itself links_total x in
+    let tied = tied_itself total x in
     cc
 
 count_yes : (p : Link → Bool) (x : Link) (xs : List Link) → p x ≡ true → count_by p (x ∷ xs) ≡ suc (count_by p xs)
@@ -89,15 +89,15 @@ one_from_count p (x ∷ xs) h k l ik il ek el =
 abbrev HasTwo : (Link → Bool) → List Link → Type 0
 HasTwo p xs = (k : Link) × (l : Link) × Contains xs k × Contains xs l × (p k ≡ true) × (p l ≡ true) × (k ≢ l)
 
-two_from_count : (p : Link → Bool) (xs : List Link) → IsStrictlySortedBy link_cmp xs → 2 ≤ count_by p xs → HasTwo p xs
-two_from_count p [] rise h = absurd (omega arith)
-two_from_count p (x ∷ xs) rise h =
+two_from_count : IsTotalOrder link_cmp → (p : Link → Bool) (xs : List Link) → IsStrictlySortedBy link_cmp xs → 2 ≤ count_by p xs → HasTwo p xs
+two_from_count total p [] rise h = absurd (omega arith)
+two_from_count total p (x ∷ xs) rise h =
     elim (cases_Bool (p x)) [
       | inl t ↦
           let r = some_from_count p xs (let e = count_yes p x xs t in omega arith) in
-          (x, r.0, contains_here x xs, contains_later x xs r.0 r.1, t, r.2, λ same. head_once x xs rise (subst (λ z. Contains xs z) (sym same) r.1))
+          (x, r.0, contains_here x xs, contains_later x xs r.0 r.1, t, r.2, λ same. head_once total x xs rise (subst (λ z. Contains xs z) (sym same) r.1))
       | inr t ↦
-          let r = two_from_count p xs (sorted_tail link_cmp x xs rise) (let e = count_no p x xs t in omega arith) in
+          let r = two_from_count total p xs (sorted_tail link_cmp x xs rise) (let e = count_no p x xs t in omega arith) in
           (r.0, r.1, contains_later x xs r.0 r.2, contains_later x xs r.1 r.3, r.4, r.5, r.6)
     ]
 
@@ -137,15 +137,15 @@ module _ (links : List Link) (i : ℕ) (right : Bool) (p : ℕ) (c : Connector) 
   }
 
   -- with any other number it has no link, or is not multi and has two
-  pub unserved_from_count : IsStrictlySortedBy link_cmp links → (IsCount c.multi (count_by (is_at right i p) links) → ⊥) →
+  pub unserved_from_count : IsTotalOrder link_cmp → IsStrictlySortedBy link_cmp links → (IsCount c.multi (count_by (is_at right i p) links) → ⊥) →
       ((l : Link) → Contains links l → IsAt right i p l → ⊥)
       ⊎ ((c.multi ≡ false) × ((k : Link) × (l : Link) × Contains links k × Contains links l × IsAt right i p k × IsAt right i p l × (k ≢ l)))
-  unserved_from_count rise h =
+  unserved_from_count total rise h =
       elim (not_counted c.multi (count_by (is_at right i p) links) h) [
         | inl none ↦ inl (λ l has at.
             let r = count_from_some (is_at right i p) links l has (test_from_at (end_of right l) (place_of right l) i p at.0 at.1) in omega arith)
         | inr two ↦
-            let r = two_from_count (is_at right i p) links rise two.1 in
+            let r = two_from_count total (is_at right i p) links rise two.1 in
             inr (two.0, (r.0, r.1, r.2, r.3, at_from_test (end_of right r.0) (place_of right r.0) i p r.4, at_from_test (end_of right r.1) (place_of right r.1) i p r.5, r.6))
       ]
 

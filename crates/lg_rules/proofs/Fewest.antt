@@ -5,12 +5,11 @@ use Rattle.std.specs.List.Sorted.{IsStrictlySortedBy}
 use Rattle.std.proofs.lemmas.Bool.Decides.{nat_tests}
 use Rattle.std.proofs.lemmas.List.Sums.{count_by-le-length}
 use Rattle.std.proofs.lemmas.Slice.Zip.{AllZip-long}
-use Rattle.lg_gram.specs.Levels.{AreCandidates}
+use Rattle.lg_gram.specs.Levels.{AreCandidates, TellsApart}
 use Rattle.lg_gram.specs.Linkages.{Linkage, link_cmp, linkage_cmp, unlinked}
 use Rattle.lg_gram.specs.Problems.{IsProblem}
 use Rattle.lg_gram.specs.Rules.{Good}
 use Rattle.lg_gram.specs.declared.disjunct.Disjunct.{Disjunct}
-use Rattle.lg_gram.proofs.Exact.{same_linkage}
 use Rattle.lg_rules.specs.Orders.{AreAsLong, AreToldApart}
 use Rattle.lg_rules.specs.Steps.{Adds, GoesOn, IsSoundWith, IsPick, AreGoodWithin}
 use Rattle.lg_rules.specs.Places.{linkage_of}
@@ -94,8 +93,8 @@ module _ (positions : List (List Disjunct)) (spare : ℕ) (all : List Linkage) (
   pub as_long : AreAsLong all
   as_long a b m n = ((listed a).0 m).0.belongs.same_length ∙ sym ((listed b).0 n).0.belongs.same_length
 
-  pub told_apart : IsProblem positions → AreToldApart all
-  told_apart fine a b m n alike = same_linkage positions a b fine ((listed a).0 m).0.belongs ((listed b).0 n).0.belongs alike
+  pub told_apart : TellsApart → IsProblem positions → AreToldApart all
+  told_apart exact fine a b m n alike = exact positions a b fine ((listed a).0 m).0.belongs ((listed b).0 n).0.belongs alike
 
   pub none_yet : length all ≡ 0 → (h : Linkage) → Good positions h → spare + 1 ≤ unlinked h
   none_yet e h good =

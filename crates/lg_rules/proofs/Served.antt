@@ -3,6 +3,7 @@ use Rattle.std.proofs.Common.{◌≡◌, ℕ, ◌<◌, ◌≤◌, ◌+◌, Bool,
 use Rattle.std.specs.Prelude.{slice_get, if◌then◌else◌}
 use Rattle.std.specs.List.{count_by}
 use Rattle.std.specs.List.Sorted.{IsStrictlySortedBy}
+use Rattle.std.specs.Cmp.{IsTotalOrder}
 use Rattle.std.proofs.lemmas.Bool.{cases_lt}
 use Rattle.std.proofs.lemmas.List.{get_or_past}
 use Rattle.std.proofs.lemmas.Option.{slice_get_within, slice_get_read}
@@ -28,10 +29,10 @@ module _ (g : Linkage) (i : ℕ) (right : Bool) (cs : List Connector) (is : cs �
   connector_at : (c : Connector) → m < length cs → c ≡ get_or cs m c → slice_get (side_of g right i) m ≡ Some c
   connector_at c within read = subst (λ z. slice_get z m ≡ Some c) is (slice_get_read cs (length cs) m c refl within read)
 
-  pub unsatisfied_least : IsStrictlySortedBy link_cmp g.links → (c : Connector) → m < length cs → c ≡ get_or cs m c →
+  pub unsatisfied_least : IsTotalOrder link_cmp → IsStrictlySortedBy link_cmp g.links → (c : Connector) → m < length cs → c ≡ get_or cs m c →
       (HasItsCount g i right m c → ⊥) → IsLeast (UnsatisfiedAt g i right) m
-  unsatisfied_least rise c within read fails = record {
-    here = (c, connector_at c within read, unserved_from_count g.links i right m c rise fails);
+  unsatisfied_least total rise c within read fails = record {
+    here = (c, connector_at c within read, unserved_from_count g.links i right m c total rise fails);
     earlier = λ p less case. served_once g.links i right p case.0 (served_from_count g.links i right p case.0 (before p case.0 less case.1)) case.2;
   }
 

@@ -5,10 +5,10 @@ use Rattle.std.specs.List.Sorted.{IsStrictlySortedBy}
 use Rattle.std.proofs.lemmas.Map.Keys.{sorted_head, sorted_tail}
 use Rattle.std.proofs.lemmas.Cmp.{tied_itself}
 use Rattle.std.proofs.lemmas.List.Elements.{All-from_recursion, recursion_from_All, All-contains}
+use Rattle.std.specs.Cmp.{IsTotalOrder}
 use Rattle.lg_gram.specs.Linkages.{link_cmp}
 use Rattle.lg_gram.specs.declared.disjunct.Disjunct.{Disjunct}
 use Rattle.lg_gram.specs.declared.linkage.Link.{Link}
-use Rattle.lg_gram.proofs.Orders.{links_total}
 use Rattle.lg_rules.specs.Partners.{CanLink, AreLinks}
 use Rattle.lg_rules.specs.Steps.{IsSublist}
 
@@ -25,11 +25,11 @@ contains_head y ys = (0, omega arith, refl)
 pub contains_tail : (y : Link) (ys : List Link) (x : Link) → Contains ys x → Contains (y ∷ ys) x
 contains_tail y ys x (k, lt, e) = (suc k, omega arith, e)
 
-not_itself : (x : Link) → link_cmp x x ≡ Less → ⊥
-not_itself x h = let e = tied_itself links_total x in cc
+not_itself : IsTotalOrder link_cmp → (x : Link) → link_cmp x x ≡ Less → ⊥
+not_itself total x h = let e = tied_itself total x in cc
 
-not_both : (x y : Link) → link_cmp x y ≡ Less → link_cmp y x ≡ Less → ⊥
-not_both x y h i = let e = links_total.antisymm x y in let f = rw i at e in cc
+not_both : IsTotalOrder link_cmp → (x y : Link) → link_cmp x y ≡ Less → link_cmp y x ≡ Less → ⊥
+not_both total x y h i = let e = total.antisymm x y in let f = rw i at e in cc
 
 after_head : (x : Link) (xs : List Link) (y : Link) → AllByRecursion (λ y. link_cmp x y ≡ Less) xs → Contains xs y → link_cmp x y ≡ Less
 after_head x xs y h i = All-contains (λ y. link_cmp x y ≡ Less) xs y (All-from_recursion (λ y. link_cmp x y ≡ Less) xs h) i
@@ -39,36 +39,36 @@ abbrev pub AreAmong : List Link → List Link → Type 0
 AreAmong xs ys = (z : Link) → Contains xs z → Contains ys z
 
 -- z is an element of x ∷ xs, and x is behind c
-in_later : (c : Link) (cs : List Link) (x : Link) (xs : List Link) → AllByRecursion (λ y. link_cmp x y ≡ Less) xs → link_cmp c x ≡ Less →
+in_later : IsTotalOrder link_cmp → (c : Link) (cs : List Link) (x : Link) (xs : List Link) → AllByRecursion (λ y. link_cmp x y ≡ Less) xs → link_cmp c x ≡ Less →
     (z : Link) → (x ≡ z) ⊎ Contains xs z → (c ≡ z) ⊎ Contains cs z → Contains cs z
-in_later c cs x xs up h z i (inr m) = m
-in_later c cs x xs up h z (inl e) (inl f) = absurd (not_itself c (subst (λ y. link_cmp c y ≡ Less) (e ∙ sym f) h))
-in_later c cs x xs up h z (inr i) (inl f) = absurd (not_both x c (subst (λ y. link_cmp x y ≡ Less) (sym f) (after_head x xs z up i)) h)
+in_later total c cs x xs up h z i (inr m) = m
+in_later total c cs x xs up h z (inl e) (inl f) = absurd (not_itself total c (subst (λ y. link_cmp c y ≡ Less) (e ∙ sym f) h))
+in_later total c cs x xs up h z (inr i) (inl f) = absurd (not_both total x c (subst (λ y. link_cmp x y ≡ Less) (sym f) (after_head x xs z up i)) h)
 
 -- the same where x is c
-in_later_same : (c : Link) (cs : List Link) (x : Link) (xs : List Link) → AllByRecursion (λ y. link_cmp x y ≡ Less) xs → c ≡ x →
+in_later_same : IsTotalOrder link_cmp → (c : Link) (cs : List Link) (x : Link) (xs : List Link) → AllByRecursion (λ y. link_cmp x y ≡ Less) xs → c ≡ x →
     (z : Link) → Contains xs z → (c ≡ z) ⊎ Contains cs z → Contains cs z
-in_later_same c cs x xs up h z i (inr m) = m
-in_later_same c cs x xs up h z i (inl f) = absurd (not_itself x (subst (λ y. link_cmp x y ≡ Less) (sym f ∙ h) (after_head x xs z up i)))
+in_later_same total c cs x xs up h z i (inr m) = m
+in_later_same total c cs x xs up h z i (inl f) = absurd (not_itself total x (subst (λ y. link_cmp x y ≡ Less) (sym f ∙ h) (after_head x xs z up i)))
 
-sublist_step : (x : Link) (xs : List Link) (c : Link) (cs : List Link) → Rises (x ∷ xs) → AreAmong (x ∷ xs) (c ∷ cs) → AllByRecursion (λ y. link_cmp c y ≡ Less) cs →
+sublist_step : IsTotalOrder link_cmp → (x : Link) (xs : List Link) (c : Link) (cs : List Link) → Rises (x ∷ xs) → AreAmong (x ∷ xs) (c ∷ cs) → AllByRecursion (λ y. link_cmp c y ≡ Less) cs →
     (AreAmong xs cs → IsSublist xs cs) → (AreAmong (x ∷ xs) cs → IsSublist (x ∷ xs) cs) → (c ≡ x) ⊎ Contains cs x → IsSublist (x ∷ xs) (c ∷ cs)
 unfolding IsSublist
-sublist_step x xs c cs up w upc both skip (inl e) =
-    inr (xs, ap (λ y. y ∷ xs) (sym e), both (λ z i. in_later_same c cs x xs (sorted_head link_cmp x xs up) e z i (contains_cases c cs z (w z (contains_tail x xs z i)))))
-sublist_step x xs c cs up w upc both skip (inr m) =
-    inl (skip (λ z i. in_later c cs x xs (sorted_head link_cmp x xs up) (after_head c cs x upc m) z (contains_cases x xs z i) (contains_cases c cs z (w z i))))
+sublist_step total x xs c cs up w upc both skip (inl e) =
+    inr (xs, ap (λ y. y ∷ xs) (sym e), both (λ z i. in_later_same total c cs x xs (sorted_head link_cmp x xs up) e z i (contains_cases c cs z (w z (contains_tail x xs z i)))))
+sublist_step total x xs c cs up w upc both skip (inr m) =
+    inl (skip (λ z i. in_later total c cs x xs (sorted_head link_cmp x xs up) (after_head c cs x upc m) z (contains_cases x xs z i) (contains_cases c cs z (w z i))))
 
 -- a set of links, written in order, whose elements are all among those of another is a part of it
-pub sublist_of : (xs cs : List Link) → Rises xs → Rises cs → AreAmong xs cs → IsSublist xs cs
+pub sublist_of : IsTotalOrder link_cmp → (xs cs : List Link) → Rises xs → Rises cs → AreAmong xs cs → IsSublist xs cs
 unfolding IsSublist
-sublist_of [] [] up upc w = refl
-sublist_of (x ∷ xs) [] up upc w = let m = w x (contains_head x xs) in absurd (omega arith)
-sublist_of [] (c ∷ cs) up upc w = inl (sublist_of [] cs up (sorted_tail link_cmp c cs upc) (λ z m. absurd (omega (arith, m.1))))
-sublist_of (x ∷ xs) (c ∷ cs) up upc w =
-    sublist_step x xs c cs up w (sorted_head link_cmp c cs upc)
-    (λ v. sublist_of xs cs (sorted_tail link_cmp x xs up) (sorted_tail link_cmp c cs upc) v)
-    (λ v. sublist_of (x ∷ xs) cs up (sorted_tail link_cmp c cs upc) v)
+sublist_of total [] [] up upc w = refl
+sublist_of total (x ∷ xs) [] up upc w = let m = w x (contains_head x xs) in absurd (omega arith)
+sublist_of total [] (c ∷ cs) up upc w = inl (sublist_of total [] cs up (sorted_tail link_cmp c cs upc) (λ z m. absurd (omega (arith, m.1))))
+sublist_of total (x ∷ xs) (c ∷ cs) up upc w =
+    sublist_step total x xs c cs up w (sorted_head link_cmp c cs upc)
+    (λ v. sublist_of total xs cs (sorted_tail link_cmp x xs up) (sorted_tail link_cmp c cs upc) v)
+    (λ v. sublist_of total (x ∷ xs) cs up (sorted_tail link_cmp c cs upc) v)
     (contains_cases c cs x (w x (contains_head x xs)))
 
 sublist_all : (P : Link → Type 0) (xs ys : List Link) → IsSublist xs ys → AllByRecursion P ys → AllByRecursion P xs

@@ -15,6 +15,7 @@ mod planarity;
 mod satisfaction;
 
 use crate::verdict::Verdict;
+use lg_gram::law::links_are_ordered;
 use lg_gram::{Disjunct, Link, Linkage, Problem};
 
 /// The first rule that the linkage breaks, at its least case: matching, satisfaction, planarity, connectivity,
@@ -39,6 +40,7 @@ pub(crate) fn verdict_of(chosen: &[Option<Disjunct>], links: &[Link]) -> Verdict
     ensures verdict { IsVerdict (linkage_of chosen.now links.now) result }
     ensures good { (result ≡ Verdict.Good) ↔ IsSound (linkage_of chosen.now links.now) }
 {
+    links_are_ordered();
     if let Some(link) = matching::first_unmatched(chosen, links) {
         return Verdict::Unmatched(link);
     }

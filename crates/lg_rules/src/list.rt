@@ -14,6 +14,7 @@ mod tests;
 
 use choosing::choose;
 use lg_base::NoMemory;
+use lg_gram::law::linkages_are_ordered;
 use lg_gram::{Chosen, Linkage, Problem};
 use order::{Listed, in_order};
 use std::alloc::Global;
@@ -27,6 +28,7 @@ pub fn plain_list(alloc: Global, problem: &Problem) -> Result<Vec<Linkage>, NoMe
     requires { length problem.now ≤ 8 }
     ensures { IfOk result (λ list. AreCandidates problem.now list.items) }
 {
+    linkages_are_ordered();
     for spare in 0..problem.positions().len() + 1 {
         let all = good_within(alloc, problem, spare)?;
         if !all.is_empty() {

@@ -11,6 +11,7 @@ ghost use Rattle.lg_rules.specs.Checks.{is_at, IsCount, AreServed};
 ghost use Rattle.lg_rules.specs.Verdicts.{UnsatisfiedAt};
 
 use crate::sides::{connectors, stands_at};
+use lg_gram::law::links_are_ordered;
 use lg_gram::{Connector, Disjunct, Link};
 
 /// Position, side (true: the right) and place of the first connector with no link, or with two where it is not multi.
@@ -65,6 +66,7 @@ fn first_of_side(
     ensures some { IfSome result (IsLeast (UnsatisfiedAt (linkage_of chosen.now links.now) position right)) }
     ensures none { IfNone result (AreServed (linkage_of chosen.now links.now) position right) }
 {
+    links_are_ordered();
     for (place, connector) in connectors(chosen, right, position).iter().enumerate() {
         let place = place as u32;
         if !may_have(connector, count_at(links, right, position, place)) {

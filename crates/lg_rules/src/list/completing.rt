@@ -14,6 +14,7 @@ use crate::list::order::Listed;
 use crate::list::pruning::{all_reached, fits, is_covered};
 use crate::verdict::Verdict;
 use lg_base::NoMemory;
+use lg_gram::law::links_are_ordered;
 use lg_gram::{Chosen, Disjunct, Link, Linkage, Links};
 use std::alloc::Global;
 
@@ -113,6 +114,7 @@ pub(crate) fn add_sound(
     requires fit { All FitsChoice chosen.now }
     ensures { OnOk result (Adds (IsSoundWith chosen.now) out.old.items out.new.items) }
 {
+    links_are_ordered();
     let links = candidates(alloc, chosen.items())?;
     if !all_reached(chosen.items(), &links) {
         return Ok(());

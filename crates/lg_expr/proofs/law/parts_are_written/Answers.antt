@@ -5,4 +5,4 @@ pub returns-clause-written : goal.returns-clause-written
 returns-clause-written c = token_right
 
 pub returns-clause-only : goal.returns-clause-only
-returns-clause-only c = token_only c.cost_number_laws.ensures.once
+returns-clause-only c = token_only c.cost_number_laws.ensures.once c.names_are_written.ensures

@@ -15,6 +15,6 @@ returns-in-Some-clause-told c = not_utf8 c.in-Some.byte c.in-Some.ensures.fault
 pub returns-in-None-clause-told : goal.returns-in-None-clause-told
 returns-in-None-clause-told c =
     let text = without_mark c.args.bytes.now in
-    told_text c.args.bytes.now (tokens_from Knowledge text 0) c.read_text.result
+    told_text c.names_are_written.ensures c.args.bytes.now (tokens_from Knowledge text 0) c.read_text.result
     (record { utf8 = c.in-None.ensures.none.0 refl; tokens = c.tokens_are_one_list.ensures.lexed Knowledge 0 text })
     (subst (λ (t : List ℕ). TellsAnswer t (answer_of (tokens_from Knowledge t 0)) c.read_text.result) c.without_mark.ensures c.read_text.ensures.told)

@@ -23,7 +23,7 @@ returns-in-Some-clause-verdict c =
     unmatched_verdict (linkage_of c.args.chosen.now c.args.links.now) c.in-Some.link c.in-Some.ensures.some
 
 pub returns-in-Some-clause-good : goal.returns-in-Some-clause-good
-returns-in-Some-clause-good c = case_unsound (linkage_of c.args.chosen.now c.args.links.now) c.requires.rise (Unmatched c.in-Some.link) c.in-Some.ensures.some.here
+returns-in-Some-clause-good c = case_unsound c.links_are_ordered.ensures.total (linkage_of c.args.chosen.now c.args.links.now) c.requires.rise (Unmatched c.in-Some.link) c.in-Some.ensures.some.here
 
 pub returns-in-Some-first_unsatisfied-clause-verdict : goal.returns-in-Some-first_unsatisfied-clause-verdict
 returns-in-Some-first_unsatisfied-clause-verdict c =
@@ -31,7 +31,7 @@ returns-in-Some-first_unsatisfied-clause-verdict c =
     c.in_default.ensures.none
 
 pub returns-in-Some-first_unsatisfied-clause-good : goal.returns-in-Some-first_unsatisfied-clause-good
-returns-in-Some-first_unsatisfied-clause-good c = case_unsound (linkage_of c.args.chosen.now c.args.links.now) c.requires.rise (Unsatisfied c.in-Some-first_unsatisfied.position c.in-Some-first_unsatisfied.right c.in-Some-first_unsatisfied.place) c.in-Some-first_unsatisfied.ensures.some.here.here
+returns-in-Some-first_unsatisfied-clause-good c = case_unsound c.links_are_ordered.ensures.total (linkage_of c.args.chosen.now c.args.links.now) c.requires.rise (Unsatisfied c.in-Some-first_unsatisfied.position c.in-Some-first_unsatisfied.right c.in-Some-first_unsatisfied.place) c.in-Some-first_unsatisfied.ensures.some.here.here
 
 pub returns-in-Some-first_crossing-clause-verdict : goal.returns-in-Some-first_crossing-clause-verdict
 returns-in-Some-first_crossing-clause-verdict c =
@@ -39,7 +39,7 @@ returns-in-Some-first_crossing-clause-verdict c =
     c.in_default.ensures.none c.in_default-first_unsatisfied.ensures.none
 
 pub returns-in-Some-first_crossing-clause-good : goal.returns-in-Some-first_crossing-clause-good
-returns-in-Some-first_crossing-clause-good c = case_unsound (linkage_of c.args.chosen.now c.args.links.now) c.requires.rise (Crossing c.in-Some-first_crossing.outer c.in-Some-first_crossing.inner) c.in-Some-first_crossing.ensures.some.here
+returns-in-Some-first_crossing-clause-good c = case_unsound c.links_are_ordered.ensures.total (linkage_of c.args.chosen.now c.args.links.now) c.requires.rise (Crossing c.in-Some-first_crossing.outer c.in-Some-first_crossing.inner) c.in-Some-first_crossing.ensures.some.here
 
 pub returns-in-Some-first_apart-clause-verdict : goal.returns-in-Some-first_apart-clause-verdict
 returns-in-Some-first_apart-clause-verdict c =
@@ -47,7 +47,7 @@ returns-in-Some-first_apart-clause-verdict c =
     c.in_default.ensures.none c.in_default-first_unsatisfied.ensures.none c.in_default-first_crossing.ensures.none
 
 pub returns-in-Some-first_apart-clause-good : goal.returns-in-Some-first_apart-clause-good
-returns-in-Some-first_apart-clause-good c = case_unsound (linkage_of c.args.chosen.now c.args.links.now) c.requires.rise (Apart c.in-Some-first_apart.position) c.in-Some-first_apart.ensures.some.here
+returns-in-Some-first_apart-clause-good c = case_unsound c.links_are_ordered.ensures.total (linkage_of c.args.chosen.now c.args.links.now) c.requires.rise (Apart c.in-Some-first_apart.position) c.in-Some-first_apart.ensures.some.here
 
 pub returns-in-Some-first_twins-clause-verdict : goal.returns-in-Some-first_twins-clause-verdict
 returns-in-Some-first_twins-clause-verdict c =
@@ -55,15 +55,15 @@ returns-in-Some-first_twins-clause-verdict c =
     c.in_default.ensures.none c.in_default-first_unsatisfied.ensures.none c.in_default-first_crossing.ensures.none c.in_default-first_apart.ensures.none
 
 pub returns-in-Some-first_twins-clause-good : goal.returns-in-Some-first_twins-clause-good
-returns-in-Some-first_twins-clause-good c = case_unsound (linkage_of c.args.chosen.now c.args.links.now) c.requires.rise (Twice c.in-Some-first_twins.one c.in-Some-first_twins.other) c.in-Some-first_twins.ensures.some.here
+returns-in-Some-first_twins-clause-good c = case_unsound c.links_are_ordered.ensures.total (linkage_of c.args.chosen.now c.args.links.now) c.requires.rise (Twice c.in-Some-first_twins.one c.in-Some-first_twins.other) c.in-Some-first_twins.ensures.some.here
 
 pub returns-in-Some-first_disorder-clause-verdict : goal.returns-in-Some-first_disorder-clause-verdict
 returns-in-Some-first_disorder-clause-verdict c =
     order_verdict (linkage_of c.args.chosen.now c.args.links.now) c.in-Some-first_disorder.position c.in-Some-first_disorder.right c.in-Some-first_disorder.place c.in-Some-first_disorder.ensures.some
-    c.in_default.ensures.none c.in_default-first_unsatisfied.ensures.none c.in_default-first_crossing.ensures.none c.in_default-first_apart.ensures.none c.requires.rise c.in_default-first_twins.ensures.none
+    c.in_default.ensures.none c.in_default-first_unsatisfied.ensures.none c.in_default-first_crossing.ensures.none c.in_default-first_apart.ensures.none c.links_are_ordered.ensures.total c.requires.rise c.in_default-first_twins.ensures.none
 
 pub returns-in-Some-first_disorder-clause-good : goal.returns-in-Some-first_disorder-clause-good
-returns-in-Some-first_disorder-clause-good c = case_unsound (linkage_of c.args.chosen.now c.args.links.now) c.requires.rise (Order c.in-Some-first_disorder.position c.in-Some-first_disorder.right c.in-Some-first_disorder.place) c.in-Some-first_disorder.ensures.some.here.here
+returns-in-Some-first_disorder-clause-good c = case_unsound c.links_are_ordered.ensures.total (linkage_of c.args.chosen.now c.args.links.now) c.requires.rise (Order c.in-Some-first_disorder.position c.in-Some-first_disorder.right c.in-Some-first_disorder.place) c.in-Some-first_disorder.ensures.some.here.here
 
 -- ---- all rules hold
 
@@ -79,4 +79,4 @@ returns-clause-verdict c =
       };
       connected = c.in_default-first_apart.ensures.none;
     } in
-    sound_none (linkage_of c.args.chosen.now c.args.links.now) c.requires.rise sound
+    sound_none c.links_are_ordered.ensures.total (linkage_of c.args.chosen.now c.args.links.now) c.requires.rise sound

@@ -6,7 +6,7 @@ pub in_order-requires-clause-as_long : goal.in_order-requires-clause-as_long
 in_order-requires-clause-as_long c = as_long c.args.problem.now c.loop-spare.spare c.in_ok-all.all.items c.in_ok-all.ensures
 
 pub in_order-requires-clause-told_apart : goal.in_order-requires-clause-told_apart
-in_order-requires-clause-told_apart c = told_apart c.args.problem.now c.loop-spare.spare c.in_ok-all.all.items c.in_ok-all.ensures c.positions.ensures.limits
+in_order-requires-clause-told_apart c = told_apart c.args.problem.now c.loop-spare.spare c.in_ok-all.all.items c.in_ok-all.ensures c.linkages_are_ordered.ensures.exact c.positions.ensures.limits
 
 pub returns-then-not-is_empty : goal.returns-then-not-is_empty
 returns-then-not-is_empty c =

@@ -10,7 +10,7 @@ pub returns-then-not-may_have-clause-some : goal.returns-then-not-may_have-claus
 returns-then-not-may_have-clause-some c =
     let a = c.args in
     unsatisfied_least (linkage_of a.chosen.now a.links.now) a.position a.right c.connectors-connector-items.result.now c.connectors-connector-items.ensures
-    c.loop-place.place c.loop-place.invariant c.requires.rise c.connector-item.result c.loop-place-test.true c.connector-item.is
+    c.loop-place.place c.loop-place.invariant c.links_are_ordered.ensures.total c.requires.rise c.connector-item.result c.loop-place-test.true c.connector-item.is
     (λ holds. false≢true (c.if-not-may_have.ensures.1 (subst (λ n. IsCount c.connector-item.result.multi n) (sym c.count_at.ensures) holds)))
 
 -- this connector has as many as it may

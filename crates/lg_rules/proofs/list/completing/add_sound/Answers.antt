@@ -10,7 +10,7 @@ returns c =
     let links = c.in_ok-links.links.items in
     let are = rw c.items.ensures at c.in_ok-links.ensures.are in
     let every = rw c.items.ensures at c.in_ok-links.ensures.every in
-    sound_completed c.args.chosen.now links are every c.args.out.now.items c.complete.new.out.items
+    sound_completed c.links_are_ordered.ensures.total c.args.chosen.now links are every c.args.out.now.items c.complete.new.out.items
     (rw (c.deref-2.ensures.value, c.new-taken.ensures.items) at c.in_ok-complete.ensures.added)
 
 pub returns-then-not-all_reached : goal.returns-then-not-all_reached
