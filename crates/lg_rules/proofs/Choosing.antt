@@ -1,20 +1,19 @@
 -- The sound linkages that go on from a choice.
 use Rattle.std.proofs.Common.{◌≡◌, ℕ, ◌<◌, ◌≤◌, ◌+◌, ◌-◌, ◌↔◌, Bool, true, false, List, [], ◌∷◌, ◌++◌, length, get_or, take, drop, take_all, refl, sym, subst, inl, inr, ◌⊎◌, append_assoc, append-nil, Option, Some, None, arith, is_none, zero-le}
-use Rattle.std.specs.List.{All, AllZip, Contains, count_by}
+use Rattle.std.specs.List.{AllZip, Contains, count_by}
 use Rattle.std.specs.List.Sorted.{IsStrictlySortedBy}
 use Rattle.std.specs.Cmp.{IsTotalOrder}
 use Rattle.std.proofs.lemmas.List.{take_more}
 use Rattle.std.proofs.lemmas.List.Elements.{Contains-push_cases, Contains-append_left, Contains-push}
 use Rattle.std.proofs.lemmas.Grind.{common_steps}
-use Rattle.lg_gram.specs.Connectors.{Connector}
 use Rattle.lg_gram.specs.Linkages.{Linkage, link_cmp}
 use Rattle.lg_gram.specs.declared.disjunct.Disjunct.{Disjunct}
 use Rattle.lg_gram.specs.declared.linkage.Link.{Link}
 use Rattle.lg_rules.specs.Partners.{CanLink, AreLinks}
-use Rattle.lg_rules.specs.Prunes.{HasPartner}
+use Rattle.lg_rules.specs.Prunes.{CanStand}
 use Rattle.lg_rules.specs.Steps.{Adds, IsCompletion, IsSoundWith, GoesOn, GoesOnWithNone, GoesOnWithOne, IsPick}
 use Rattle.lg_rules.proofs.Adding.{adds_same, adds_then, adds_none}
-use Rattle.lg_rules.proofs.Pruned.{sound_can, goes_on_partners}
+use Rattle.lg_rules.proofs.Pruned.{sound_can, goes_on_stands}
 use Rattle.lg_rules.proofs.Sublists.{sublist_of, sublist_rises}
 
 -- all sound sets of links of a choice are parts of the candidates
@@ -104,15 +103,15 @@ module _ (chosen : List (Option Disjunct)) (later : List (List Disjunct)) (spare
         λ w. elim w [ inl j ↦ elim j [ inl k ↦ inl k | inr k ↦ inr (both.1 (inl k)) ] | inr j ↦ inr (both.1 (inr j)) ],
       ))
 
-  -- the disjunct lacks a partner, so nothing goes on with it
-  pub one_skipped : (row : List Disjunct) (i : ℕ) (x : Disjunct) (a b : List Linkage) (cs : List Connector) (r : Bool) → i < length row → x ≡ get_or row i x → cs ≡ x.left →
-      (All (HasPartner chosen) cs → r ≡ true) → r ≡ false → Adds (With (take i row)) a b → Adds (With (take (i + 1) row)) a b
-  one_skipped row i x a b cs r l e f told off p =
+  -- the disjunct cannot stand there, so nothing goes on with it
+  pub one_skipped : (row : List Disjunct) (i : ℕ) (x : Disjunct) (a b : List Linkage) (after : ℕ) (r : Bool) → i < length row → x ≡ get_or row i x → after ≡ length later →
+      (CanStand chosen after x → r ≡ true) → r ≡ false → Adds (With (take i row)) a b → Adds (With (take (i + 1) row)) a b
+  one_skipped row i x a b after r l e f told off p =
       adds_same (With (take i row)) (With (take (i + 1) row)) a b p
       (λ g.
       let both = one_cases (take i row) x g in
       rw (take_more row i x l, ← e) (
-        λ w. elim w [ inl j ↦ inl j | inr j ↦ elim (both.0 j) [ inl k ↦ inr k | inr k ↦ absurd (let t = told (rw f (goes_on_partners chosen x later spare g k)) in cc) ] ],
+        λ w. elim w [ inl j ↦ inl j | inr j ↦ elim (both.0 j) [ inl k ↦ inr k | inr k ↦ absurd (let t = told (rw f (goes_on_stands chosen x later spare g k)) in cc) ] ],
         λ w. elim w [ inl j ↦ inl j | inr j ↦ inr (both.1 (inl j)) ],
       ))
 

@@ -1,7 +1,8 @@
 -- The sound linkages with the links that are taken and some of those that are left.
-use Rattle.std.proofs.Common.{◌≡◌, ℕ, ◌<◌, ◌≤◌, ◌-◌, ◌↔◌, Bool, true, false, List, [], ◌∷◌, ◌++◌, length, get_or, take, drop, take_all, refl, sym, ap, ◌∙◌, subst, inl, inr, ◌⊎◌, append_assoc, append-nil, Option, Some, arith, slice_get, length-append}
+use Rattle.std.proofs.Common.{◌≡◌, ℕ, zero, suc, ◌<◌, ◌≤◌, ◌+◌, ◌-◌, ◌↔◌, Bool, true, false, List, [], ◌∷◌, ◌++◌, length, get_or, take, drop, refl, sym, ◌∙◌, subst, inl, inr, ◌⊎◌, append_assoc, append-nil, Option, Some, arith, slice_get, length-append, length-drop}
 use Rattle.std.specs.List.{All, Contains}
 use Rattle.std.proofs.lemmas.List.Elements.{All-contains, Contains-append_left, Contains-append_right, Contains-append_cases, Contains-get_or}
+use Rattle.std.proofs.lemmas.List.{drop_all, drop_more, take_rest}
 use Rattle.lg_gram.specs.Linkages.{Linkage}
 use Rattle.lg_gram.specs.declared.disjunct.Disjunct.{Disjunct}
 use Rattle.lg_gram.specs.declared.linkage.Link.{Link}
@@ -11,7 +12,7 @@ use Rattle.lg_rules.specs.Partners.{right_at, left_at, CanLink, AreLinks}
 use Rattle.lg_rules.specs.Prunes.{HasRight, HasLeft, IsCovered, AreCompatible}
 use Rattle.lg_rules.specs.Steps.{Adds, IsSublist, IsCompletion}
 use Rattle.lg_rules.proofs.Adding.{adds_none, adds_then, adds_same}
-use Rattle.lg_rules.proofs.Sublists.{sublist_contains, sublist_links, sublist_without}
+use Rattle.lg_rules.proofs.Sublists.{sublist_contains, sublist_itself, sublist_links}
 
 pub same_linkage : (g h : Linkage) → g.chosen ≡ h.chosen → g.links ≡ h.links → g ≡ h
 same_linkage g h e f = λ i. record { chosen = e i; links = f i }
@@ -32,16 +33,16 @@ completion_here chosen links sound = (refl, ([], refl, sym (append-nil links)), 
 
 -- a link is left: a completion has it or not
 completion_cases : (chosen : List (Option Disjunct)) (taken : List Link) (link : Link) (later : List Link) (g : Linkage) →
-    IsCompletion chosen taken (link ∷ later) g ↔ (IsCompletion chosen taken later g ⊎ IsCompletion chosen (taken ++ link ∷ []) later g)
+    IsCompletion chosen taken (link ∷ later) g ↔ (IsCompletion chosen (taken ++ link ∷ []) later g ⊎ IsCompletion chosen taken later g)
 unfolding IsCompletion IsSublist
 completion_cases chosen taken link later g = (
   λ h. elim h.1.1 [
-    | inl s ↦ inl (h.0, (h.1.0, s, h.1.2), h.2)
-    | inr s ↦ inr (h.0, (s.0, s.2, h.1.2 ∙ rw (s.1, append_assoc) refl), h.2)
+    | inl s ↦ inr (h.0, (h.1.0, s, h.1.2), h.2)
+    | inr s ↦ inl (h.0, (s.0, s.2, h.1.2 ∙ rw (s.1, append_assoc) refl), h.2)
   ],
   λ h. elim h [
-    | inl i ↦ (i.0, (i.1.0, inl i.1.1, i.1.2), i.2)
-    | inr i ↦ (i.0, (link ∷ i.1.0, inr (i.1.0, refl, i.1.1), i.1.2 ∙ append_assoc taken (link ∷ []) i.1.0), i.2)
+    | inl i ↦ (i.0, (link ∷ i.1.0, inr (i.1.0, refl, i.1.1), i.1.2 ∙ append_assoc taken (link ∷ []) i.1.0), i.2)
+    | inr i ↦ (i.0, (i.1.0, inl i.1.1, i.1.2), i.2)
   ],
 )
 
@@ -117,36 +118,88 @@ pruned chosen taken later link can same r e told off a =
     adds_none (IsCompletion chosen taken later) a
     (λ g q. let t = told (subst (λ xs. IsCovered xs later link) (sym e) (completion_covered chosen taken later link can g q)) in cc)
 
-abbrev pub later_of : List Link → List Link
-later_of rest = take (length rest - 1) (drop 1 rest)
+-- what comes of the links that are left, added to what was added so far, gives what is to be added
+unfoldable pub Owes : List (Option Disjunct) → List Link → List Link → List Linkage → List Link → List Linkage → Type 0
+Owes chosen taken rest old left now = (new : List Linkage) → Adds (IsCompletion chosen taken left) now new → Adds (IsCompletion chosen taken rest) old new
 
-pub cons_of : (rest : List Link) (d : Link) → 1 ≤ length rest → rest ≡ get_or rest 0 d ∷ later_of rest
-cons_of [] d h = absurd (omega arith)
-cons_of (x ∷ xs) d h = ap (λ l. x ∷ l) (sym (take_all (length (x ∷ xs) - 1) xs (omega arith)))
+-- what is left of a list is a part of it, also behind others
+sublist_drop : (i : ℕ) (xs : List Link) → IsSublist (drop i xs) xs
+unfolding IsSublist
+sublist_drop zero xs = sublist_itself xs
+sublist_drop (suc i) [] = refl
+sublist_drop (suc i) (x ∷ xs) = inl (sublist_drop i xs)
 
--- the links that are left without the first, and with the first taken
-module _ (chosen : List (Option Disjunct)) (taken rest : List Link) (link : Link) (later : List Link) (split : rest ≡ link ∷ later) where
-  pub skipped_links : AreLinks chosen (taken ++ rest) → AreLinks chosen (taken ++ later)
-  skipped_links are = sublist_links chosen (taken ++ later) (taken ++ link ∷ later) (sublist_without taken link later) (subst (λ r. AreLinks chosen (taken ++ r)) split are)
+sublist_none : (xs : List Link) → IsSublist [] xs
+unfolding IsSublist
+sublist_none [] = refl
+sublist_none (x ∷ xs) = inl (sublist_none xs)
 
-  pub skipped_few : (n : ℕ) → length (taken ++ rest) < n → length (taken ++ later) < n
-  skipped_few n few = let h = subst (λ (r : List Link). length (taken ++ r) < n) split few in omega (arith, length-append taken later, length-append taken (link ∷ later))
+sublist_behind : (xs ys zs : List Link) → IsSublist ys zs → IsSublist (xs ++ ys) (xs ++ zs)
+unfolding IsSublist
+sublist_behind [] ys zs s = s
+sublist_behind (x ∷ xs) ys zs s = inr (xs ++ ys, refl, sublist_behind xs ys zs s)
 
-  pub skipped_can : AreLinks chosen (taken ++ rest) → CanLink chosen link
-  skipped_can are = All-contains (CanLink chosen) (taken ++ rest) link are.allowed (subst (λ r. Contains (taken ++ r) link) (sym split) (Contains-append_right taken (link ∷ later) link (0, omega arith, refl)))
+-- a turn of the loop, at the link of number i; the links behind it, as the slice of them is read
+module _ (chosen : List (Option Disjunct)) (taken rest : List Link) (i : ℕ) (link : Link) (later : List Link) (below : i < length rest) (here : link ≡ get_or rest i link) (behind : later ≡ take (length rest - (i + 1)) (drop (i + 1) rest)) where
+  later_is : later ≡ drop (i + 1) rest
+  later_is = behind ∙ take_rest rest (i + 1)
 
--- the two calls of `complete`, and the one where the link does not fit
-module _ (chosen : List (Option Disjunct)) (taken rest : List Link) (link : Link) (later : List Link) (split : rest ≡ link ∷ later) (a b : List Linkage) (first : Adds (IsCompletion chosen taken later) a b) where
-  pub completed_both : (more : List Link) (c : List Linkage) → more ≡ taken ++ link ∷ [] → Adds (IsCompletion chosen more later) b c → Adds (IsCompletion chosen taken rest) a c
-  completed_both more c e both =
-      adds_then (IsCompletion chosen taken later) (IsCompletion chosen more later) (IsCompletion chosen taken rest) a b c first both
-      (λ g. rw (split, e) (completion_cases chosen taken link later g))
+  split : drop i rest ≡ link ∷ later
+  split = drop_more rest i link below ∙ rw (← here, later_is) refl
 
-  pub completed_without : (same : List Link) (r : Bool) → same ≡ taken → (All (λ t. AreCompatible t link) same → r ≡ true) → r ≡ false → Adds (IsCompletion chosen taken rest) a b
-  completed_without same r e told off =
-      adds_same (IsCompletion chosen taken later) (IsCompletion chosen taken rest) a b first
-      (λ g. let both = completion_cases chosen taken link later g in
-      rw split (
-        λ h. elim (both.0 h) [ inl i ↦ i | inr i ↦ absurd (let t = told (rw e (completion_fits chosen taken link later g i)) in cc) ],
-        λ h. both.1 (inl h),
-      ))
+  again : (taken ++ link ∷ []) ++ later ≡ taken ++ drop i rest
+  again = rw split (append_assoc taken (link ∷ []) later)
+
+  pub turn_links : AreLinks chosen (taken ++ rest) → AreLinks chosen ((taken ++ link ∷ []) ++ later)
+  turn_links are = rw again (sublist_links chosen (taken ++ drop i rest) (taken ++ rest) (sublist_behind taken (drop i rest) rest (sublist_drop i rest)) are)
+
+  pub turn_few : (n : ℕ) → length (taken ++ rest) < n → length ((taken ++ link ∷ []) ++ later) < n
+  turn_few n few = rw again (omega (arith, length-append taken rest, length-append taken (drop i rest), length-drop i rest))
+
+  pub turn_can : AreLinks chosen (taken ++ rest) → CanLink chosen link
+  turn_can are = All-contains (CanLink chosen) (taken ++ rest) link are.allowed (Contains-append_right taken rest link (i, below, sym here))
+
+  module _ (old a : List Linkage) (owes : Owes chosen taken rest old (drop i rest) a) where
+    -- the link was taken, and is then left out
+    pub with_link : (more : List Link) (b : List Linkage) → more ≡ taken ++ link ∷ [] → Adds (IsCompletion chosen more later) a b → Owes chosen taken rest old (drop (i + 1) rest) b
+    unfolding Owes
+    with_link more b e first new then =
+        owes new
+        (adds_then (IsCompletion chosen more later) (IsCompletion chosen taken later) (IsCompletion chosen taken (drop i rest)) a b new first (subst (λ l. Adds (IsCompletion chosen taken l) b new) (sym later_is) then)
+        (λ g. rw (split, e) (completion_cases chosen taken link later g)))
+
+    -- the link does not fit, and is left out
+    pub without_link : (same : List Link) (r : Bool) → same ≡ taken → (All (λ t. AreCompatible t link) same → r ≡ true) → r ≡ false → Owes chosen taken rest old (drop (i + 1) rest) a
+    unfolding Owes
+    without_link same r e told off new then =
+        owes new
+        (adds_same (IsCompletion chosen taken later) (IsCompletion chosen taken (drop i rest)) a new (subst (λ l. Adds (IsCompletion chosen taken l) a new) (sym later_is) then)
+        (λ g. let both = completion_cases chosen taken link later g in
+        rw split (
+          λ h. elim (both.0 h) [ inl j ↦ absurd (let t = told (rw e (completion_fits chosen taken link later g j)) in cc) | inr j ↦ j ],
+          λ h. both.1 (inr h),
+        )))
+
+  pub turn_shorter : length later < length rest
+  turn_shorter = rw later_is (omega (arith, length-drop (i + 1) rest))
+
+  -- no linkage leaves the link out
+  pub never_without : (old b : List Linkage) (same : List Link) (r : Bool) → AreLinks chosen (taken ++ rest) → Owes chosen taken rest old (drop (i + 1) rest) b → same ≡ taken → (IsCovered same later link → r ≡ true) → r ≡ false →
+      Adds (IsCompletion chosen taken rest) old b
+  unfolding Owes
+  never_without old b same r are owes e told off =
+      owes b (subst (λ l. Adds (IsCompletion chosen taken l) b b) later_is (pruned chosen taken later link (turn_can are) same r e told off b))
+
+pub front_links : (chosen : List (Option Disjunct)) (taken rest : List Link) → AreLinks chosen (taken ++ rest) → AreLinks chosen taken
+front_links chosen taken rest are =
+    let part : IsSublist (taken ++ []) (taken ++ rest) = sublist_behind taken [] rest (sublist_none rest) in
+    sublist_links chosen taken (taken ++ rest) (rw append-nil at part) are
+
+pub owes_all : (chosen : List (Option Disjunct)) (taken rest : List Link) (old : List Linkage) → Owes chosen taken rest old (drop 0 rest) old
+unfolding Owes
+owes_all chosen taken rest old new then = then
+
+-- no link is left
+pub owes_last : (chosen : List (Option Disjunct)) (taken rest : List Link) (i : ℕ) (old a new : List Linkage) → length rest ≤ i → Owes chosen taken rest old (drop i rest) a → Adds (IsCompletion chosen taken []) a new → Adds (IsCompletion chosen taken rest) old new
+unfolding Owes
+owes_last chosen taken rest i old a new past owes then = owes new (rw (drop_all i rest past) then)

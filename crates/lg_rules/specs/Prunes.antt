@@ -1,6 +1,6 @@
 -- What the slow lister looks at before it goes on: each of these holds where a good linkage can still be found. Contracts of private steps alone cite this.
-use Rattle.std.specs.Prelude.{◌≡◌, ℕ, ◌<◌, List, length, Option, ◌⊎◌}
-use Rattle.std.specs.List.{Any}
+use Rattle.std.specs.Prelude.{◌≡◌, ℕ, ◌<◌, ◌≤◌, List, length, Option, ◌⊎◌}
+use Rattle.std.specs.List.{All, Any}
 use Rattle.lg_gram.specs.Connectors.{Connector, Match}
 use Rattle.lg_gram.specs.Rules.{right_list}
 use Rattle.lg_gram.specs.declared.disjunct.Disjunct.{Disjunct}
@@ -10,6 +10,12 @@ use Rattle.lg_rules.specs.Partners.{right_at, left_at}
 -- some word of the choice has a connector to its right that matches
 unfoldable pub HasPartner : List (Option Disjunct) → Connector → Type 0
 HasPartner chosen c = Any (λ o. Any (λ a. Match a c) (right_list o)) chosen
+
+-- The next word, before so many more, can use the disjunct: neither side has more connectors than there are positions on that side, since each joins another one of them, and each connector to its left has a partner.
+pub record CanStand (chosen : List (Option Disjunct)) (after : ℕ) (d : Disjunct) : Type 0 where
+  pub on_left : length d.left ≤ length chosen
+  pub on_right : length d.right ≤ after
+  pub partners : All (HasPartner chosen) d.left
 
 -- one of the links stands at this place to the right of this position, or to its left
 unfoldable pub HasRight : List Link → ℕ → ℕ → Type 0

@@ -8,7 +8,7 @@ ghost use Rattle.lg_rules.specs.Steps.{Adds, GoesOn};
 
 use crate::list::completing::add_sound;
 use crate::list::order::Listed;
-use crate::list::pruning::have_partners;
+use crate::list::pruning::can_stand;
 use lg_base::NoMemory;
 use lg_gram::{Chosen, Disjunct, Disjuncts};
 use std::alloc::Global;
@@ -51,7 +51,7 @@ pub(crate) fn choose(
                 choose(alloc, later, spare - 1, &next, out)?;
             }
             for disjunct in row.items() {
-                if have_partners(chosen.items(), disjunct.left.items()) {
+                if can_stand(chosen.items(), later.len(), disjunct) {
                     let next = with_disjunct(chosen, disjunct)?;
                     choose(alloc, later, spare, &next, out)?;
                 }

@@ -69,8 +69,10 @@ fn copied_links(alloc: Global, links: &[Link]) -> Result<Links, NoMemory>
     Ok(Links::of(items))
 }
 
-// Leaves out or takes each of the links that are left, in turn. The recursion is as deep as there are candidate links:
-// 28 pairs of eight positions, times the connectors to the right of one and to the left of the other, 255 at most.
+// Adds the sound linkages with the links that are taken and some of the rest. Each link that fits is taken in turn, and
+// the call goes on behind it; the loop ends at the first link that no linkage leaves out. So the recursion is as deep as
+// links are taken, and not as long as the rest: links that fit together join different pairs of positions, of which eight
+// positions have 28.
 fn complete(
     alloc: Global,
     chosen: &Chosen,
@@ -85,23 +87,19 @@ fn complete(
     ensures restored { OnOk result (taken.new.items ≡ taken.old.items) }
     ensures added { OnOk result (Adds (IsCompletion chosen.now taken.old.items rest.now) out.old.items out.new.items) }
 {
-    match rest {
-        [] => {
-            keep(alloc, chosen, taken, out)?;
-            Ok(())
+    for (i, link) in rest.iter().enumerate() {
+        let later = &rest[i + 1..];
+        if fits(taken, link) {
+            taken.push(*link)?;
+            complete(alloc, chosen, later, taken, out)?;
+            taken.pop();
         }
-        [link, later @ ..] => {
-            if is_covered(taken, later, link) {
-                complete(alloc, chosen, later, taken, out)?;
-            }
-            if fits(taken, link) {
-                taken.push(*link)?;
-                complete(alloc, chosen, later, taken, out)?;
-                taken.pop();
-            }
-            Ok(())
+        if !is_covered(taken, later, link) {
+            return Ok(());
         }
     }
+    keep(alloc, chosen, taken, out)?;
+    Ok(())
 }
 
 /// Adds the sound linkages with this choice.

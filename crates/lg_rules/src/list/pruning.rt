@@ -5,7 +5,7 @@ ghost use Rattle.lg_gram.specs.Connectors.{Match};
 ghost use Rattle.lg_gram.specs.Limits.{LINKAGE_POSITIONS};
 ghost use Rattle.lg_gram.specs.Rules.{right_list};
 ghost use Rattle.lg_rules.specs.Partners.{FitsChoice, right_at, left_at};
-ghost use Rattle.lg_rules.specs.Prunes.{HasPartner, HasRight, HasLeft, AllReached, IsCovered, IsUncrossed, IsInOrder, IsAlone, AreCompatible};
+ghost use Rattle.lg_rules.specs.Prunes.{HasPartner, CanStand, HasRight, HasLeft, AllReached, IsCovered, IsUncrossed, IsInOrder, IsAlone, AreCompatible};
 
 use crate::list::candidates::{left_at, right_at, rights};
 use lg_gram::{Connector, Disjunct, Link, matches};
@@ -23,13 +23,23 @@ fn has_partner(chosen: &[Option<Disjunct>], connector: &Connector) -> bool
     chosen.iter().any(|choice| offers(choice, connector))
 }
 
-/// Whether each connector to the left of the next word has one that matches among the words chosen so far.
-pub(crate) fn have_partners(chosen: &[Option<Disjunct>], connectors: &[Connector]) -> bool
+fn have_partners(chosen: &[Option<Disjunct>], connectors: &[Connector]) -> bool
     ensures { IsTrue result ↔ All (HasPartner chosen.now) connectors.now }
 {
     connectors
         .iter()
         .all(|connector| has_partner(chosen, connector))
+}
+
+/// Whether the next word, before so many more, can use the disjunct: neither side has more connectors than there are
+/// positions on that side, and each connector to its left has one that matches among the words chosen so far.
+pub(crate) fn can_stand(chosen: &[Option<Disjunct>], after: usize, disjunct: &Disjunct) -> bool
+    ensures { IsTrue result ↔ CanStand chosen.now after disjunct.now }
+{
+    let left = disjunct.left.items();
+    left.len() <= chosen.len()
+        && disjunct.right.items().len() <= after
+        && have_partners(chosen, left)
 }
 
 #[tactic(auto, unfolding(crate::specs::Prunes::HasRight))]

@@ -1,12 +1,12 @@
-use Rattle.std.proofs.Common.{arith, rules, length, take, drop, ◌-◌, Some}
+use Rattle.std.proofs.Common.{arith, rules, refl, length, take, drop, ◌-◌, Some}
 use Rattle.lg_gram.specs.Limits.{LINKAGE_POSITIONS}
 use Rattle.lg_rules.proofs.Choosing.{chosen_all, none_first, none_skipped, one_more, one_skipped, chosen_each, cons_of_item}
 use Rattle.lg_rules.proofs.Fitting.{later_fit, next_fits, next_short}
 use Rattle.lg_rules.proofs.list.choosing.+choose.Goals as goal
-use Rattle.lg_rules.proofs.list.choosing.+choose.Goals.{then-spare-gt0+in_ok-next-in-len1-up+in_ok-choose-in-len1-up, else-spare-gt0, then-have_partners+in_ok-next-in-len1-up-2+in_ok-choose-in-len1-up-2, else-have_partners}
+use Rattle.lg_rules.proofs.list.choosing.+choose.Goals.{then-spare-gt0+in_ok-next-in-len1-up+in_ok-choose-in-len1-up, else-spare-gt0, then-can_stand+in_ok-next-in-len1-up-2+in_ok-choose-in-len1-up-2, else-can_stand}
 
-pub choose-requires-then-have_partners : goal.choose-requires-then-have_partners
-choose-requires-then-have_partners t c =
+pub choose-requires-then-can_stand : goal.choose-requires-then-can_stand
+choose-requires-then-can_stand t c =
     let chosen = c.args.chosen.now in
     let rows = c.args.rows.now in
     let row = c.row-item.result in
@@ -36,16 +36,16 @@ loop-disjunct-init t c =
 pub loop-disjunct-preserved : goal.loop-disjunct-preserved
 loop-disjunct-preserved t c =
     let later = take (length c.args.rows.now - 1) (drop 1 c.args.rows.now) in
-    elim c.if-have_partners.branch [
-      | then-have_partners+in_ok-next-in-len1-up-2+in_ok-choose-in-len1-up-2 w ↦
+    elim c.if-can_stand.branch [
+      | then-can_stand+in_ok-next-in-len1-up-2+in_ok-choose-in-len1-up-2 w ↦
           rw w.out-is
           (one_more c.args.chosen.now later c.args.spare c.items-disjunct-items.result.now c.loop-disjunct.disjunct-index c.disjunct-item.result w.in_ok-next-in-len1-up-2.next c.args.out.now.items c.loop-disjunct.out.items
-          w.choose-then-have_partners.new.out.items c.loop-disjunct-test.true c.disjunct-item.is w.in_ok-next-in-len1-up-2.ensures c.loop-disjunct.invariant w.in_ok-choose-in-len1-up-2.ensures)
-      | else-have_partners w ↦
+          w.choose-then-can_stand.new.out.items c.loop-disjunct-test.true c.disjunct-item.is w.in_ok-next-in-len1-up-2.ensures c.loop-disjunct.invariant w.in_ok-choose-in-len1-up-2.ensures)
+      | else-can_stand w ↦
           rw w.out-is
           (one_skipped c.args.chosen.now later c.args.spare c.items-disjunct-items.result.now c.loop-disjunct.disjunct-index c.disjunct-item.result c.args.out.now.items c.loop-disjunct.out.items
-          c.items-in-loop-disjunct.result.now c.have_partners.result c.loop-disjunct-test.true c.disjunct-item.is c.items-in-loop-disjunct.ensures
-          (rw c.items.ensures at c.have_partners.ensures.1) w.if-have_partners.false c.loop-disjunct.invariant)
+          (length later) c.can_stand.result c.loop-disjunct-test.true c.disjunct-item.is refl
+          (rw c.items.ensures at c.can_stand.ensures.1) w.if-can_stand.false c.loop-disjunct.invariant)
     ]
 
 pub returns-in_ok-add_sound-in-empty : goal.returns-in_ok-add_sound-in-empty
