@@ -11,3 +11,4 @@ pub mod Writing
 pub mod Printed
 pub mod Turned
 pub mod Shown
+pub mod Numbers

@@ -1,12 +1,15 @@
 -- What the document of a run shows: the journal, and of each answer its place, its kind and its version.
-use Rattle.std.specs.Prelude.{◌≡◌, ℕ, ◌+◌, List, [], ◌∷◌, ◌++◌, map}
+use Rattle.std.specs.Prelude.{◌≡◌, ℕ, ◌+◌, ◌<◌, ◌≤◌, ◌^◌, List, [], ◌∷◌, ◌++◌, length, map}
 use Rattle.std.specs.List.{AllByRecursion}
 use Rattle.lg_gram.specs.declared.reply.Place.{Place}
 use Rattle.lg_gram.specs.declared.reply.Reply.{Reply}
+use Rattle.lg_dict.specs.Dictionary.{Dictionary}
+use Rattle.lg_knowread.specs.declared.knowledge.Knowledge.{Knowledge}
+use Rattle.lg_answer.specs.declared.options.Options.{Options}
 use Rattle.lg_script.specs.Commands.{CommandView}
 use Rattle.lg_script.specs.Kinds.{kind_of}
-use Rattle.lg_text.specs.Shown.{Answered, IsPlain, IsPlace, shown_of}
-use Rattle.lg_run.specs.Documents.{outcome_text}
+use Rattle.lg_text.specs.Shown.{Answered, IsPlain, IsPlainReply, IsPlace, shown_of}
+use Rattle.lg_run.specs.Documents.{outcome_text, IsOutcome}
 
 -- a session's answers with their places and kinds, from the command of that number on
 abbrev pub placed : ℕ → ℕ → List CommandView → List Reply → List Answered
@@ -31,3 +34,20 @@ OutcomesAreShown =
     (scripts others : List (List CommandView)) (replies answers : List (List Reply)) (journal edits : List Place) → ArePlain scripts replies journal → ArePlain others answers edits
     → outcome_text scripts replies journal ≡ outcome_text others answers edits
     → (map shown_of (all_placed 1 scripts replies) ≡ map shown_of (all_placed 1 others answers)) × (journal ≡ edits)
+
+-- fewer than 2^32 scripts, with fewer than 2^32 commands each
+pub record HasShortScripts (scripts : List (List CommandView)) : Type 0 where
+  pub few : length scripts + 1 ≤ 2 ^ 32
+  pub each : AllByRecursion (λ (commands : List CommandView). length commands < 2 ^ 32) scripts
+
+-- no text of an answer has a line feed
+abbrev pub HasPlainTexts : List (List Reply) → Type 0
+HasPlainTexts replies = AllByRecursion (λ rs. AllByRecursion IsPlainReply rs) replies
+
+-- A document that is that of two runs shows of both the same journal and, of each answer in order, the same place, kind and version.
+abbrev pub RunsAreShown : Type 0
+RunsAreShown =
+    (options options' : Options) (dict dict' : Dictionary) (know know' : Knowledge) (scripts scripts' : List (List CommandView)) (document : List ℕ)
+    (one : IsOutcome options dict know scripts document) (other : IsOutcome options' dict' know' scripts' document)
+    → HasShortScripts scripts → HasShortScripts scripts' → HasPlainTexts one.replies → HasPlainTexts other.replies
+    → (map shown_of (all_placed 1 scripts one.replies) ≡ map shown_of (all_placed 1 scripts' other.replies)) × (one.journal ≡ other.journal)

@@ -3,7 +3,7 @@ ghost use Rattle.std.specs.Prelude.{◌≡◌, ℕ, List};
 ghost use Rattle.lg_base.specs.Contents.{Contents};
 ghost use Rattle.lg_run.specs.Words.{Task, TaskIs};
 ghost use Rattle.lg_run.specs.Inputs.{InputsAre, HasSome, IsOne};
-ghost use Rattle.lg_run.specs.Shown.{OutcomesAreShown};
+ghost use Rattle.lg_run.specs.Shown.{OutcomesAreShown, RunsAreShown};
 
 use lg_dictread::exactly_one_dictionary;
 use lg_knowread::exactly_one_knowledge;
@@ -26,9 +26,11 @@ pub fn words_have_one_task()
 {}
 
 /// The document of a run determines the journal and, of each answer in order, its place, its kind and its version, where no text
-/// in it has a line feed. The function does nothing: a caller whose proof needs the fact calls it.
+/// of an answer has a line feed: `outcomes` for any answers whose numbers are of their types, `runs` for two runs of scripts that
+/// write the same document. The function does nothing: a caller whose proof needs the fact calls it.
 pub fn documents_show()
-    ensures { OutcomesAreShown }
+    ensures outcomes { OutcomesAreShown }
+    ensures runs { RunsAreShown }
 {
     lg_text::documents_show();
 }
