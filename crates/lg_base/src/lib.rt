@@ -10,8 +10,6 @@ pub mod memory;
 pub mod printing;
 pub mod sinks;
 pub mod steps;
-#[cfg(test)]
-mod tests;
 pub mod text;
 
 pub use cost::{Cost, cost_number_laws, parse_cost, write_cost};

@@ -2,4 +2,12 @@
 #![tactic(auto)]
 
 #[cfg(test)]
+mod base;
+#[cfg(test)]
+mod expr;
+#[cfg(test)]
+mod knowread;
+#[cfg(test)]
 mod lex;
+#[cfg(test)]
+mod text;

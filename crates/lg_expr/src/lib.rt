@@ -11,8 +11,6 @@ mod law;
 mod macros;
 mod part;
 mod reader;
-#[cfg(test)]
-mod tests;
 mod word;
 
 pub use fault::{Fault, Refusal};

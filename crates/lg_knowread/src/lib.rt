@@ -7,8 +7,6 @@ pub mod knowledge;
 mod law;
 mod read;
 mod reading;
-#[cfg(test)]
-mod tests;
 mod words;
 
 pub use fault::KnowError;

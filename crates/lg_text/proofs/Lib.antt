@@ -1,5 +1,4 @@
 pub mod Joined
-pub mod Forks
 pub mod Bytes
 pub mod PlainTexts
 pub mod TextLines

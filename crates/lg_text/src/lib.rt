@@ -7,8 +7,6 @@ mod linkage;
 mod page;
 mod piece;
 mod reply;
-#[cfg(test)]
-mod tests;
 
 pub use journal::journal_text;
 pub use law::documents_show;

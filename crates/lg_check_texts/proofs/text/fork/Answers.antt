@@ -1,6 +1,6 @@
 use Rattle.std.proofs.Common.{rules, codes, pos}
-use Rattle.lg_text.proofs.Forks.{fork_is_printable}
-use Rattle.lg_text.proofs.tests.fork.Goals as goal
+use Rattle.lg_check_texts.proofs.Forks.{fork_is_printable}
+use Rattle.lg_check_texts.proofs.text.fork.Goals as goal
 
 -- the parts are those of a fork
 pub returns : goal.returns

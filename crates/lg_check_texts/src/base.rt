@@ -1,5 +1,5 @@
 //! What no clause says: that calls succeed, outside values of printed and read numbers, and faults in mid-stream.
-use crate::*;
+use lg_base::*;
 use std::fs;
 use std::io::Write;
 use std::test::Fail;

@@ -1,5 +1,5 @@
 use Rattle.std.proofs.Common.{◌-◌, ◌≤◌, length}
-use Rattle.lg_expr.proofs.tests.read.Given as goal
+use Rattle.lg_check_texts.proofs.expr.read.Given as goal
 
 -- each token has a byte or more
 abbrev pub invariant-loop-found : goal.invariant-loop-found

@@ -1,4 +1,4 @@
-use crate::{
+use lg_expr::{
     Fault, Known, Macros, Part, Progress, Refusal, State, exactly_one, expressions_fit, part_of,
     parts_are_written, step,
 };

@@ -4,12 +4,12 @@ ghost use Rattle.lg_gram.specs.Linkages.{IsLinkage};
 ghost use Rattle.lg_text.specs.Texts.{IsPrintable};
 ghost use Rattle.lg_text.specs.Replies.{IsAnswerTo, IsPrintableReply};
 
-use crate::{bound_text, journal_text, linkage_text, page_text, reply_text};
 use lg_base::{Cost, Text, Texts};
 use lg_gram::{
     Bound, Chosen, CommandKind, Connector, Connectors, Disjunct, EditRefusal, Link, Linkage, Links,
     Page, PageItem, PageItems, Place, Reply, Token, Tokens, Violation, matches,
 };
+use lg_text::{bound_text, journal_text, linkage_text, page_text, reply_text};
 use std::alloc::Global;
 use std::process::Abort;
 use std::test::Fail;

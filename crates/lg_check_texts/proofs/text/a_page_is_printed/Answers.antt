@@ -1,6 +1,6 @@
 use Rattle.std.proofs.Common.{◌≡◌, length}
-use Rattle.lg_text.proofs.Forks.{three_are_printable}
-use Rattle.lg_text.proofs.tests.a_page_is_printed.Goals as goal
+use Rattle.lg_check_texts.proofs.Forks.{three_are_printable}
+use Rattle.lg_check_texts.proofs.text.a_page_is_printed.Goals as goal
 
 -- each linkage of the page is good
 pub page_text-requires : goal.page_text-requires

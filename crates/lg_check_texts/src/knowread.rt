@@ -1,4 +1,4 @@
-use crate::{KnowError, Pattern, Rule, exactly_one_knowledge, read_knowledge};
+use lg_knowread::{KnowError, Pattern, Rule, exactly_one_knowledge, read_knowledge};
 use std::alloc::Global;
 
 /// A rule, its patterns by their number.
