@@ -1,5 +1,5 @@
 //! Macros put into expressions.
-ghost use Rattle.std.specs.Prelude.{◌≡◌, ◌+◌, ◌*◌, ◌<◌, ◌^◌, ◌-◌, min, max, true, false, length, map, IfOk, IfSome, MatchOption, Some, None};
+ghost use Rattle.std.specs.Prelude.{◌≡◌, ◌+◌, ◌<◌, ◌^◌, ◌-◌, min, true, false, length, map, IfOk, IfSome, MatchOption, Some, None};
 ghost use Rattle.std.specs.List.{position};
 ghost use Rattle.std.specs.Option.{option_map};
 ghost use Rattle.lg_gram.specs.Limits.{COUNTED, SIDE_COUNTED, REFERENCES_COUNTED, LEVEL_COUNTED};
