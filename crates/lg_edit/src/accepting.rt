@@ -18,7 +18,7 @@ const LEVEL: u32 = 200;
 /// of `EditRefusal`, where the expression has the macros of the dictionary put in. A word can be removed only where it is
 /// itself a word of the dictionary; that it is a stem does not count. No memory.
 ///
-/// The time is linear in the expression, its macros put in.
+/// The time is linear in the expression as it is written; a reference to a macro takes no longer than its look-up.
 pub fn check(view: &View, edit: &Edit) -> Result<(), EditRefusal>
     requires { IsEditInBounds (edit_view edit.now) }
     ensures { result_err result ≡ accept view.now (edit_view edit.now) }

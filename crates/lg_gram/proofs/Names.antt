@@ -27,7 +27,7 @@ packed_parts caps subs h =
     (sym (append_assoc caps subs _))
 
 -- the capitals of a name are those at its front
-pub prefix_len-caps : (caps subs : List ℕ) → list_all is_capital caps ≡ true → list_all is_subscript subs ≡ true → prefix_len is_capital (caps ++ subs) ≡ length caps
+prefix_len-caps : (caps subs : List ℕ) → list_all is_capital caps ≡ true → list_all is_subscript subs ≡ true → prefix_len is_capital (caps ++ subs) ≡ length caps
 prefix_len-caps [] [] all rest = refl
 prefix_len-caps [] (b ∷ subs) all rest =
     let small = (and_parts (is_subscript b) (list_all is_subscript subs) rest).0 in

@@ -1,5 +1,5 @@
 //! Laws of the grammar, each the contract of a function without a body.
-ghost use Rattle.std.specs.Prelude.{◌≡◌, ℕ, List, length};
+ghost use Rattle.std.specs.Prelude.{◌≡◌, List, length};
 ghost use Rattle.std.specs.Cmp.{IsTotalOrder};
 ghost use Rattle.lg_gram.specs.Names.{NamesAreWritten};
 ghost use Rattle.lg_gram.specs.Connectors.{connector_cmp, ConnectorsToldApart};

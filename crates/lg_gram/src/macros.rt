@@ -1,5 +1,5 @@
 //! Macros put into expressions.
-ghost use Rattle.std.specs.Prelude.{◌≡◌, ◌+◌, ◌*◌, ◌<◌, ◌^◌, ◌-◌, min, max, true, false, length, map, IfOk, IfSome, MatchOption, Some, None};
+ghost use Rattle.std.specs.Prelude.{◌≡◌, ◌+◌, ◌<◌, ◌^◌, ◌-◌, min, true, false, length, map, IfOk, IfSome, MatchOption, Some, None};
 ghost use Rattle.std.specs.List.{position};
 ghost use Rattle.std.specs.Option.{option_map};
 ghost use Rattle.lg_gram.specs.Limits.{COUNTED, SIDE_COUNTED, REFERENCES_COUNTED, LEVEL_COUNTED};
@@ -31,7 +31,8 @@ pub trait Macros {
         ensures limits { IfSome result (λ m. IsFormula (tree_of m.0.now)) };
 }
 
-/// The measures of an expression with its macros put in, in one pass.
+/// The measures of an expression with its macros put in, in one pass over the expression as it is written: a reference to
+/// a macro takes no longer than its look-up.
 #[cycle(filled_sizes)]
 pub fn filled_sizes<M: Macros>(raw: &RawExpr, macros: &M) -> Sizes
     ensures nodes { result.nodes ≡ min (node_count (filled (M.formulas macros.now) (raw_tree_of raw.now))) COUNTED }
