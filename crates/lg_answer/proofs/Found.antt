@@ -1,8 +1,8 @@
 -- The disjuncts of some words, and of one more.
-use Rattle.std.proofs.Common.{◌≡◌, ◌↔◌, ℕ, ◌+◌, ◌<◌, ◌≤◌, List, [], ◌∷◌, ◌++◌, length, get_or, take, Contains, All, Option, Some, None, inl, inr, refl, sym, ap, ◌∙◌, subst, arith, length-append, length-take}
+use Rattle.std.proofs.Common.{◌≡◌, ℕ, ◌+◌, ◌<◌, ◌≤◌, List, [], ◌∷◌, ◌++◌, length, get_or, take, Contains, All, Some, None, inl, inr, sym, ap, ◌∙◌, subst, arith, length-append, length-take}
 use Rattle.std.specs.declared.cmp.Ordering.TheVariants.{Less}
 use Rattle.std.specs.Ordering.{nat_cmp, ordering_then}
-use Rattle.std.specs.Option.{option_map, option_map_or}
+use Rattle.std.specs.Option.{option_map_or}
 use Rattle.std.specs.FinMap.{get}
 use Rattle.std.specs.Cmp.Lexicographic.{slice_cmp}
 use Rattle.std.specs.List.Sorted.{IsStrictlySortedBy}
@@ -18,8 +18,9 @@ use Rattle.lg_gram.specs.Problems.{FitsProblem}
 use Rattle.lg_gram.specs.Disjuncts.{disjunct_cmp, AreDisjuncts, IsDisjunctOf}
 use Rattle.lg_gram.specs.declared.disjunct.Disjunct.{Disjunct}
 use Rattle.lg_dict.specs.Dictionary.{Dictionary}
-use Rattle.lg_pp.proofs.Rising.{rise_append}
-use Rattle.lg_answer.specs.Problems.{IsOfWords, IsPositionOf, word_choices}
+use Rattle.lg_answer.proofs.Lists.{rise_append}
+use Rattle.lg_token.specs.Bounds.{word_choices}
+use Rattle.lg_answer.specs.Problems.{IsPositionOf}
 use Rattle.lg_answer.specs.Steps.{Increase, AreFound, AddsWord}
 
 -- the words before a word of a list in order come before it

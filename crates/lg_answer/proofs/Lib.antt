@@ -3,3 +3,4 @@ pub mod Whole
 pub mod Ordered
 pub mod Paging
 pub mod Printable
+pub mod Lists

@@ -1,5 +1,5 @@
 -- The words of each token of a sentence increase by bytes.
-use Rattle.std.proofs.Common.{◌≡◌, ℕ, ◌+◌, List, [], ◌∷◌, ◌++◌, length, Bool, false, subst, sym}
+use Rattle.std.proofs.Common.{ℕ, ◌+◌, List, [], ◌∷◌, ◌++◌, length, Bool, false, subst, sym}
 use Rattle.std.proofs.lemmas.List.Elements.{All-nil, All-cons, All-append}
 use Rattle.lg_gram.specs.declared.listing.Token.{Token}
 use Rattle.lg_dict.specs.Dictionary.{Dictionary}

@@ -1,14 +1,13 @@
 -- One candidate more of a page, and the page of those that were looked at.
-use Rattle.std.proofs.Common.{◌≡◌, ◌⊎◌, ◌↔◌, ℕ, suc, ◌+◌, ◌<◌, ◌≤◌, List, [], ◌∷◌, ◌++◌, length, map, get_or, take, drop, Bool, true, false, cond, All, inl, inr, refl, sym, ap, ◌∙◌, subst, arith, length-append, length-take, length-drop, ltb, ltb-true, lt-ltb, true≢false}
+use Rattle.std.proofs.Common.{◌≡◌, ◌⊎◌, ◌↔◌, ℕ, suc, ◌+◌, ◌<◌, ◌≤◌, List, [], ◌∷◌, ◌++◌, length, get_or, take, drop, Bool, true, false, cond, inl, inr, refl, sym, ap, ◌∙◌, subst, arith, length-take, length-drop, ltb, ltb-true, lt-ltb}
 use Rattle.std.specs.Prelude.{Option, None, Some, is_none, is_some, not}
 use Rattle.std.specs.List.{enumerate_from}
 use Rattle.std.proofs.lemmas.Bool.{cases_lt}
-use Rattle.std.proofs.lemmas.List.{map-append, take_more, take_all, take-append-le, get_or-drop, length_push, length-take-le}
+use Rattle.std.proofs.lemmas.List.{map-append, take_more, take_all, take-append-le, get_or-drop, length_push}
 use Rattle.std.proofs.lemmas.List.Elements.{All-push}
 use Rattle.std.proofs.lemmas.List.Sums.{sum_by_push}
 use Rattle.lg_gram.specs.Linkages.{Linkage}
 use Rattle.lg_gram.specs.declared.listing.PageItem.{PageItem}
-use Rattle.lg_gram.specs.declared.listing.Page.{Page}
 use Rattle.lg_knowread.specs.declared.knowledge.Knowledge.{Knowledge}
 use Rattle.lg_pp.specs.Breaks.{Judges}
 use Rattle.lg_answer.specs.Pages.{passed, IsPage}

@@ -1,7 +1,7 @@
 -- The problem of tokens that are within the bounds.
-use Rattle.std.proofs.Common.{◌≡◌, ◌⊎◌, ℕ, ◌+◌, ◌≤◌, List, [], ◌∷◌, length, Bool, true, false, cond, All, Option, Some, None, refl, arith}
+use Rattle.std.proofs.Common.{◌≡◌, ℕ, ◌≤◌, List, [], ◌∷◌, length, Bool, true, false, cond, All, Some, None, refl, arith}
 use Rattle.std.specs.Prelude.{nat_lt}
-use Rattle.std.specs.List.{AllZip, sum_by}
+use Rattle.std.specs.List.{sum_by}
 use Rattle.std.proofs.lemmas.Bool.Decides.{nat_tests}
 use Rattle.std.proofs.lemmas.List.Elements.{All-nil, All-cons}
 use Rattle.std.proofs.lemmas.List.Sums.{sum_by-cons}
@@ -9,8 +9,10 @@ use Rattle.lg_gram.specs.Problems.{IsProblem, IsPosition}
 use Rattle.lg_gram.specs.declared.disjunct.Disjunct.{Disjunct}
 use Rattle.lg_gram.specs.declared.listing.Token.{Token}
 use Rattle.lg_dict.specs.Dictionary.{Dictionary}
-use Rattle.lg_pp.proofs.Zipped.{zip_length, zip_at}
-use Rattle.lg_answer.specs.Problems.{IsProblemOf, LISTED_POSITIONS, LISTED_CHOICES, token_choices, all_choices, bound_of}
+use Rattle.std.proofs.lemmas.Slice.Zip.{AllZip-long}
+use Rattle.lg_answer.proofs.Lists.{zip_at}
+use Rattle.lg_token.specs.Bounds.{LISTED_POSITIONS, LISTED_CHOICES, token_choices, all_choices, bound_of}
+use Rattle.lg_answer.specs.Problems.{IsProblemOf}
 use Rattle.lg_answer.specs.Steps.{AreFound, AreFoundFor}
 
 neither : {A : Type 0} (a b : Bool) (x y : A) → cond a (Some x) (cond b (Some y) None) ≡ None → (a ≡ false) × (b ≡ false)
@@ -46,13 +48,13 @@ module _ (dict : Dictionary) where
 
   pub is_problem : (tokens : List Token) (positions : List (List Disjunct)) → bound_of dict tokens ≡ None → AreFoundFor dict tokens positions → IsProblem positions
   is_problem tokens positions none all = record {
-    few = let same = zip_length (λ t ds. AreFound dict t.words ds) tokens positions all in omega (arith, few_words tokens none);
+    few = let same = AllZip-long (λ t ds. AreFound dict t.words ds) tokens positions all in omega (arith, few_words tokens none);
     few_disjuncts = omega (arith, few_disjuncts tokens positions all, few_choices tokens none);
     each = each_position tokens positions all;
   }
 
   pub problem_found : (tokens : List Token) (positions : List (List Disjunct)) → AreFoundFor dict tokens positions → IsProblemOf dict tokens positions
   problem_found tokens positions all = record {
-    same_length = zip_length (λ t ds. AreFound dict t.words ds) tokens positions all;
+    same_length = AllZip-long (λ t ds. AreFound dict t.words ds) tokens positions all;
     each = λ i t here. (zip_at (λ t ds. AreFound dict t.words ds) tokens positions i t [] all here).position;
   }

@@ -1,11 +1,10 @@
 -- Listings of a sentence, and their pages.
-use Rattle.std.specs.Prelude.{◌≡◌, ◌↔◌, ◌⊎◌, ℕ, ◌+◌, ◌<◌, ◌≤◌, true, List, length, map, take, drop, All, Some, None, is_none, count_by}
+use Rattle.std.specs.Prelude.{◌≡◌, ◌↔◌, ◌⊎◌, ℕ, ◌+◌, ◌<◌, ◌≤◌, true, List, length, map, take, drop, All, None, is_none, count_by}
 use Rattle.std.specs.List.{enumerate_from}
 use Rattle.lg_gram.specs.Linkages.{Linkage}
 use Rattle.lg_gram.specs.Levels.{AreCandidates}
 use Rattle.lg_gram.specs.declared.disjunct.Disjunct.{Disjunct}
 use Rattle.lg_gram.specs.declared.listing.Token.{Token}
-use Rattle.lg_gram.specs.declared.listing.Bound.{Bound}
 use Rattle.lg_gram.specs.declared.listing.PageItem.{PageItem}
 use Rattle.lg_gram.specs.declared.listing.Page.{Page}
 use Rattle.lg_dict.specs.Dictionary.{Dictionary}
@@ -13,7 +12,9 @@ use Rattle.lg_token.specs.Tokens.{AreTokens}
 use Rattle.lg_knowread.specs.declared.knowledge.Knowledge.{Knowledge}
 use Rattle.lg_pp.specs.Labels.{IsGood}
 use Rattle.lg_pp.specs.Breaks.{Judges}
-use Rattle.lg_answer.specs.Problems.{IsProblemOf, bound_of}
+use Rattle.lg_token.specs.Bounds.{bound_of}
+pub use Rattle.lg_token.specs.Bounds.{IsBeyond}
+use Rattle.lg_answer.specs.Problems.{IsProblemOf}
 use Rattle.lg_answer.specs.declared.options.Options.{Options}
 use Rattle.lg_answer.specs.declared.refusal.AnswerRefusal.{AnswerRefusal}
 use Rattle.lg_answer.specs.declared.refusal.AnswerRefusal.TheVariants.{NoMemory, Beyond}
@@ -62,12 +63,6 @@ pub record IsListing (dict : Dictionary) (text : List ℕ) (listing : Listing) :
   pub unbound : bound_of dict listing.tokens ≡ None
   pub of_tokens : IsProblemOf dict listing.tokens listing.problem
   pub of_problem : AreCandidates listing.problem listing.candidates
-
--- the sentence is not listed for this reason
-pub record IsBeyond (dict : Dictionary) (text : List ℕ) (bound : Bound) : Type 0 where
-  pub tokens : List Token
-  pub of_text : AreTokens dict text tokens
-  pub is_bound : bound_of dict tokens ≡ Some bound
 
 -- why a sentence is not listed: memory may run out at any time, and a bound has its cause
 abbrev pub IsRefused : Dictionary → List ℕ → AnswerRefusal → Type 0

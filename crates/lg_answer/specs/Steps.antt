@@ -12,7 +12,8 @@ use Rattle.lg_gram.specs.declared.listing.PageItem.{PageItem}
 use Rattle.lg_dict.specs.Dictionary.{Dictionary}
 use Rattle.lg_knowread.specs.declared.knowledge.Knowledge.{Knowledge}
 use Rattle.lg_pp.specs.Breaks.{Judges}
-use Rattle.lg_answer.specs.Problems.{IsPositionOf, word_choices}
+use Rattle.lg_token.specs.Bounds.{word_choices}
+use Rattle.lg_answer.specs.Problems.{IsPositionOf}
 use Rattle.lg_answer.specs.Pages.{passed}
 
 -- words that increase by bytes, and tokens whose words do

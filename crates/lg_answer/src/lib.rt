@@ -1,7 +1,6 @@
 //! One listing of a sentence: its tokens, its problem, and its linkages page by page.
 #![tactic(auto)]
 
-mod bound;
 mod listing;
 mod options;
 mod page;

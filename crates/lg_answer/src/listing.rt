@@ -3,7 +3,6 @@ ghost use Rattle.std.specs.Prelude.{◌≡◌, ◌+◌, ◌-◌, ◌<◌, ◌^�
 ghost use Rattle.std.specs.List.{sum_by};
 ghost use Rattle.lg_answer.specs.Pages.{IsOpen, IsListing, IsRefused, IsPage, IsLinkageFor};
 
-use crate::bound::bound_of;
 use crate::page::page_of;
 use crate::problem::problem_of;
 use crate::refusal::AnswerRefusal;
@@ -12,7 +11,7 @@ use lg_dict::View;
 use lg_gram::{Linkage, Page, Problem, Stats, Tokens};
 use lg_knowread::Knowledge;
 use lg_rules::plain_list;
-use lg_token::tokens;
+use lg_token::{bound_of, tokens};
 use std::alloc::Global;
 use std::marker::Model;
 

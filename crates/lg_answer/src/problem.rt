@@ -1,6 +1,7 @@
 //! The problem of a sentence.
 ghost use Rattle.std.specs.Prelude.{◌≡◌, None, IfOk, OnOk};
-ghost use Rattle.lg_answer.specs.Problems.{IsProblemOf, bound_of};
+ghost use Rattle.lg_token.specs.Bounds.{bound_of};
+ghost use Rattle.lg_answer.specs.Problems.{IsProblemOf};
 ghost use Rattle.lg_answer.specs.Steps.{Increase, HaveOrder, AreFound, AddsWord, AreFoundFor};
 
 use lg_base::{NoMemory, Text};

@@ -8,6 +8,7 @@ use Rattle.lg_gram.specs.declared.listing.Stats.{Stats}
 use Rattle.lg_gram.specs.declared.listing.Token.{Token}
 use Rattle.lg_dict.specs.Dictionary.{Dictionary}
 use Rattle.lg_knowread.specs.declared.knowledge.Knowledge.{Knowledge}
+use Rattle.lg_token.specs.Bounds.{AreListed}
 use Rattle.lg_answer.specs.Pages.{Listing, IsListing, IsPage, IsLinkageFor}
 use Rattle.lg_answer.specs.declared.options.Options.{Options}
 use Rattle.lg_session.specs.Engines.{Progress, GoesOn, IsOpened, start_of, moved}
@@ -90,4 +91,4 @@ module _ (l : Lister) (dict : Dictionary) (text : List ℕ) (want : Option ℕ) 
       → IsOpened (listings l.know l.options) (StandsFor l.options) dict (start_of text want tokens first) next page stats
   opened next tokens page stats low turns disjuncts kept =
       let on = goes_on l dict (start_of text want tokens first) held next tokens page (skipped_stands tokens turns.same_tokens) turns in
-      record { shows = on.shows; counts = record { listing = held.listing; of_text = skipped_listing; disjuncts = disjuncts; kept = kept }; stands = on.stands; near = omega (arith, on.near, low) }
+      record { tokenized = subst (AreListed dict text) (sym turns.same_tokens) (record { of_text = skipped_listing.of_text; unbound = skipped_listing.unbound }); shows = on.shows; counts = record { listing = held.listing; of_text = skipped_listing; disjuncts = disjuncts; kept = kept }; stands = on.stands; near = omega (arith, on.near, low) }

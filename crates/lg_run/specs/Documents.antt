@@ -8,7 +8,8 @@ use Rattle.lg_gram.specs.declared.reply.Place.{Place}
 use Rattle.lg_gram.specs.declared.reply.Reply.{Reply}
 use Rattle.lg_dict.specs.Dictionary.{Dictionary}
 use Rattle.lg_knowread.specs.declared.knowledge.Knowledge.{Knowledge}
-use Rattle.lg_answer.specs.Pages.{Listing, IsListing, IsBeyond, IsPage, IsLinkageFor}
+use Rattle.lg_token.specs.Bounds.{IsBeyond}
+use Rattle.lg_answer.specs.Pages.{Listing, IsListing, IsPage, IsLinkageFor}
 use Rattle.lg_answer.specs.declared.options.Options.{Options}
 use Rattle.lg_script.specs.Commands.{CommandView}
 use Rattle.lg_script.specs.Kinds.{kind_of}
@@ -53,9 +54,9 @@ pub record AreCounted (dict : Dictionary) (text : List ℕ) (stats : Stats) : Ty
   pub disjuncts : stats.disjuncts ≡ sum_by length listing.problem
   pub kept : stats.kept ≡ stats.disjuncts
 
--- the meaning of sentences: listings of their candidates, and the bounds that they pass
+-- the meaning of sentences: listings of their candidates
 abbrev pub listings : Knowledge → Options → Meaning
-listings know options = record { shows = IsShown know options; counts = AreCounted; limits = IsBeyond }
+listings know options = record { shows = IsShown know options; counts = AreCounted }
 
 -- ---- the document of sessions
 

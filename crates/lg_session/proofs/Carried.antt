@@ -4,6 +4,7 @@ use Rattle.lg_gram.specs.declared.reply.Place.{Place}
 use Rattle.lg_gram.specs.declared.reply.Reply.{Reply}
 use Rattle.lg_dict.specs.Dictionary.{Dictionary}
 use Rattle.lg_edit.specs.Edits.{accept}
+use Rattle.lg_token.specs.Bounds.{AreListed, IsBeyond}
 use Rattle.lg_script.specs.Commands.{CommandView}
 use Rattle.lg_script.specs.Histories.{reply_version}
 use Rattle.lg_session.specs.Engines.{start_of}
@@ -29,11 +30,12 @@ carried run more p held then command reply (legal.refused h edit n cause name is
   named = is.named;
 })
 carried run more p held then command reply (legal.version h n) there = legal.version h n
-carried run more p held then command reply (legal.listed h asked text first want n tokens page stats asks shows counts) there = legal.listed h asked text first want n tokens page stats asks
+carried run more p held then command reply (legal.listed h asked text first want n tokens page stats asks tokenized shows counts) there = legal.listed h asked text first want n tokens page stats asks
+    (kept run more n (λ dict. AreListed dict text tokens) there tokenized)
     (kept run more n (λ dict. run.meaning.shows dict (start_of text want tokens first) page) there shows)
     (kept run more n (λ dict. run.meaning.counts dict text stats) there counts)
-carried run more p held then command reply (legal.beyond h asked text first want n bound asks limits) there = legal.beyond h asked text first want n bound asks
-    (kept run more n (λ dict. run.meaning.limits dict text bound) there limits)
+carried run more p held then command reply (legal.beyond h asked text first want n bound asks passes) there = legal.beyond h asked text first want n bound asks
+    (kept run more n (λ dict. IsBeyond dict text bound) there passes)
 carried run more p held then command reply (legal.more h page shows) there = legal.more h page
     (kept run more h.version (λ dict. run.meaning.shows dict h.progress page) there shows)
 carried run more p held then command reply legal.no_more there = legal.no_more

@@ -9,6 +9,7 @@ use Rattle.lg_gram.specs.declared.reply.Reply.{Reply}
 use Rattle.lg_gram.specs.declared.reply.Reply.TheVariants.{Listed, Beyond, Published, Refused, At, NoListing}
 use Rattle.lg_dict.specs.Dictionary.{Dictionary}
 use Rattle.lg_edit.specs.Edits.{EditView, accept, after_edit}
+use Rattle.lg_token.specs.Bounds.{AreListed, IsBeyond}
 use Rattle.lg_script.specs.Commands.{CommandView, goes_on, makes, asks}
 use Rattle.lg_script.specs.Histories.{command_at, after_command, dictionary_after, version_of, reply_version, numbered}
 use Rattle.lg_session.specs.declared.session.Session.{Session}
@@ -124,18 +125,19 @@ module _ {H : Type 0} (Stands : H → Dictionary → Progress → Type 0) (story
             };
           };
           answer = legal.listed story.holding command text first want n tokens page stats asked
+              (subst (λ (dict : Dictionary). AreListed dict text tokens) here opened.tokenized)
               (subst (λ (dict : Dictionary). meaning.shows dict start page) here opened.shows)
               (subst (λ (dict : Dictionary). meaning.counts dict text stats) here opened.counts);
           timely = timely_asked command text first want (Listed n tokens page (Some stats)) (length session.journal.items) asked is;
         }
 
     pub beyond : (command : CommandView) (text : List ℕ) (first : ℕ) (want : Option ℕ) (n : ℕ) (bound : Bound) → AsksFor command text first want → n ≡ length session.journal.items
-        → meaning.limits session.view text bound → Turned meaning Stands story session p command (record session { held = None }, Beyond n bound)
+        → IsBeyond session.view text bound → Turned meaning Stands story session p command (record session { held = None }, Beyond n bound)
     beyond command text first want n bound asked is passes = record {
       then = None;
       grown = same_journal;
       come = record { newest = come.newest; holds = tt };
-      answer = legal.beyond story.holding command text first want n bound asked (subst (λ (dict : Dictionary). meaning.limits dict text bound) (newest_version session n is come) passes);
+      answer = legal.beyond story.holding command text first want n bound asked (subst (λ (dict : Dictionary). IsBeyond dict text bound) (newest_version session n is come) passes);
       timely = timely_asked command text first want (Beyond n bound) (length session.journal.items) asked is;
     }
 

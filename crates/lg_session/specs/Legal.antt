@@ -9,6 +9,7 @@ use Rattle.lg_gram.specs.declared.reply.Place.{Place}
 use Rattle.lg_gram.specs.declared.reply.Reply.{Reply}
 use Rattle.lg_gram.specs.declared.reply.Reply.TheVariants.{Listed, Beyond, Published, Refused, At, NoListing}
 use Rattle.lg_dict.specs.Dictionary.{Dictionary}
+use Rattle.lg_token.specs.Bounds.{AreListed, IsBeyond}
 use Rattle.lg_edit.specs.Edits.{EditView}
 use Rattle.lg_script.specs.declared.command.Command.{Command}
 use Rattle.lg_script.specs.Commands.{CommandView, command_view, parses, lists, goes_on, makes, asks}
@@ -44,8 +45,8 @@ abbrev pub dictionary_at : Run → ℕ → Dictionary
 dictionary_at run version = version_of run.scripts run.base run.journal version
 
 -- The answer to the command at a place, by what is held before it, and what is held after it. An edit is published or refused.
--- A sentence is listed by the dictionary of the version that the answer names, and the listing is held; a sentence past a bound
--- leaves no listing. `more` goes on with the listing that is held, by the dictionary that it began with.
+-- A sentence is listed by the dictionary of the version that the answer names, with its tokens, and the listing is held; a sentence
+-- past a bound leaves no listing. `more` goes on with the listing that is held, by the dictionary that it began with.
 pub data AnswerIs (run : Run) (p : Place) : Option Holding → CommandView → Reply → Option Holding → Type 0 where
   published : (held : Option Holding) (edit : EditView) (version : ℕ) → IsPublishedAt run.scripts run.base run.journal p edit version
       → AnswerIs run p held (makes edit) (Published version) held
@@ -53,10 +54,10 @@ pub data AnswerIs (run : Run) (p : Place) : Option Holding → CommandView → R
       → AnswerIs run p held (makes edit) (Refused version cause name) held
   version : (held : Option Holding) (version : ℕ) → AnswerIs run p held asks (At version) held
   listed : (held : Option Holding) (command : CommandView) (text : List ℕ) (first : ℕ) (want : Option ℕ) (version : ℕ) (tokens : List Token) (page : Page) (stats : Stats)
-      → AsksFor command text first want → run.meaning.shows (dictionary_at run version) (start_of text want tokens first) page → run.meaning.counts (dictionary_at run version) text stats
+      → AsksFor command text first want → AreListed (dictionary_at run version) text tokens → run.meaning.shows (dictionary_at run version) (start_of text want tokens first) page → run.meaning.counts (dictionary_at run version) text stats
       → AnswerIs run p held command (Listed version tokens page (Some stats)) (Some (record { version = version; progress = moved (start_of text want tokens first) page }))
   beyond : (held : Option Holding) (command : CommandView) (text : List ℕ) (first : ℕ) (want : Option ℕ) (version : ℕ) (bound : Bound)
-      → AsksFor command text first want → run.meaning.limits (dictionary_at run version) text bound
+      → AsksFor command text first want → IsBeyond (dictionary_at run version) text bound
       → AnswerIs run p held command (Beyond version bound) None
   more : (h : Holding) (page : Page) → run.meaning.shows (dictionary_at run h.version) h.progress page
       → AnswerIs run p (Some h) goes_on (Listed h.version h.progress.tokens page None) (Some (record h { progress = moved h.progress page }))

@@ -14,10 +14,11 @@ use lg_base::{NoMemory, Text, Texts};
 use lg_dict::{Dict, View};
 use lg_edit::Edit;
 use lg_gram::{
-    Bound, Connector, EditRefusal, Entry, Expr, Formula, Item, ItemKind, Items, Page, PageItems,
-    Place, RawEntry, RawExpr, Reply, Stats, Tokens,
+    Connector, EditRefusal, Entry, Expr, Formula, Item, ItemKind, Items, Page, PageItems, Place,
+    RawEntry, RawExpr, Reply, Stats, Token, Tokens,
 };
 use lg_script::{Command, Commands, Scripts};
+use lg_token::{bound_of, tokens};
 use std::alloc::Global;
 use std::process::Abort;
 use std::test::Fail;
@@ -28,6 +29,7 @@ struct Toy;
 
 #[derive(Drop)]
 struct ToyHeld {
+    tokens: Tokens,
     position: u64,
     want: u64,
     known: bool,
@@ -42,11 +44,10 @@ impl Engine for Toy {
     ghost meaning = { λ toy. record {
       shows = λ dict progress page. (page.next ≡ progress.position + unwrap_or progress.want 5 + 1) × (page.«end» ≡ is_some (get dict.words progress.text));
       counts = λ dict text stats. Unit {0};
-      limits = λ dict text bound. text ≡ [];
     } };
 
     ghost stands = { λ toy held dict progress. (held.position ≡ progress.position) × (held.want ≡ unwrap_or progress.want 5) × (held.want ≤ 1000000)
-        × (held.known ≡ is_some (get dict.words progress.text)) × (progress.tokens ≡ []) };
+        × (held.known ≡ is_some (get dict.words progress.text)) × (progress.tokens ≡ held.tokens) };
 
     fn begin<R: Threads + Sync>(
         &self,
@@ -57,15 +58,20 @@ impl Engine for Toy {
         first: u64,
         want: Option<u64>,
     ) -> Result<Opening<ToyHeld>, NoMemory> {
-        if text.bytes().is_empty() {
-            return Ok(Opening::Beyond(Bound::TooManyWords(0)));
+        let Ok(sentence) = str::from_utf8(text.bytes()) else {
+            unreachable!()
+        };
+        let tokens = tokens(alloc, view, sentence)?;
+        if let Some(bound) = bound_of(view, tokens.items()) {
+            return Ok(Opening::Beyond(bound));
         }
         let held = ToyHeld {
+            tokens,
             position: first - 1,
             want: want.unwrap_or(5),
             known: view.get(text.bytes()).is_some(),
         };
-        let (held, tokens, page) = shown(alloc, held);
+        let (held, tokens, page) = shown(alloc, held)?;
         let stats = Stats {
             disjuncts: 0,
             kept: 0,
@@ -79,19 +85,20 @@ impl Engine for Toy {
     }
 
     fn more(&self, alloc: Global, held: ToyHeld) -> Result<(ToyHeld, Tokens, Page), NoMemory> {
-        Ok(shown(alloc, held))
+        shown(alloc, held)
     }
 }
 
 // The next page.
-fn shown(alloc: Global, held: ToyHeld) -> (ToyHeld, Tokens, Page)
+fn shown(alloc: Global, held: ToyHeld) -> Result<(ToyHeld, Tokens, Page), NoMemory>
     requires position { held.position ≤ 2 ^ 60 }
     requires want { held.want ≤ 1000000 }
-    ensures held { result.0 ≡ record held { position = held.position + held.want } }
-    ensures tokens { result.1 ≡ [] }
-    ensures next { result.2.next ≡ held.position + held.want + 1 }
-    ensures known { result.2.«end» ≡ held.known }
+    ensures held { IfOk result (λ r. r.0 ≡ record held { position = held.position + held.want }) }
+    ensures tokens { IfOk result (λ r. r.1 ≡ held.tokens) }
+    ensures next { IfOk result (λ r. r.2.next ≡ held.position + held.want + 1) }
+    ensures known { IfOk result (λ r. r.2.«end» ≡ held.known) }
 {
+    let tokens = copied(alloc, &held.tokens)?;
     let position = held.position + held.want;
     let page = Page {
         items: PageItems::of(Vec::new(alloc)),
@@ -99,7 +106,33 @@ fn shown(alloc: Global, held: ToyHeld) -> (ToyHeld, Tokens, Page)
         end: held.known,
     };
     let held = ToyHeld { position, ..held };
-    (held, Tokens::of(Vec::new(alloc)), page)
+    Ok((held, tokens, page))
+}
+
+// The same tokens.
+fn copied(alloc: Global, tokens: &Tokens) -> Result<Tokens, NoMemory>
+    ensures { IfOk result (λ copy. copy ≡ tokens.now) }
+{
+    let mut items = Vec::new(alloc);
+    for token in tokens.items() {
+        items.push(copied_token(alloc, token)?)?;
+    }
+    Ok(Tokens::of(items))
+}
+
+fn copied_token(alloc: Global, token: &Token) -> Result<Token, NoMemory>
+    ensures { IfOk result (λ copy. copy ≡ token.now) }
+{
+    let mut words = Vec::new(alloc);
+    for word in token.words.items() {
+        words.push(Text::of(alloc, word.bytes())?)?;
+    }
+    Ok(Token {
+        from: token.from,
+        to: token.to,
+        text: Text::of(alloc, token.text.bytes())?,
+        words: Texts::of(words),
+    })
 }
 
 fn connector() -> Result<Connector, Fail> {
@@ -228,7 +261,7 @@ fn add_second(alloc: Global, commands: &mut Vec<Command>) -> Result<(), Fail>
     add(commands, list(alloc, 3, 4, "b")?)?;
     add(commands, del(alloc, b"c")?)?;
     add(commands, put_macro(alloc, b"c", b"<n>")?)?;
-    add(commands, parse(alloc, "")?)?;
+    add(commands, parse(alloc, "a a a a a a a a a")?)?;
     add(commands, Command::More)?;
     add(commands, del(alloc, b"b")?)
 }

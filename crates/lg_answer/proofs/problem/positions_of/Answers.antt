@@ -1,5 +1,5 @@
-use Rattle.std.proofs.Common.{sym, subst, ◌∙◌, ap}
-use Rattle.lg_pp.proofs.Zipped.{zip_more}
+use Rattle.std.proofs.Common.{subst, ◌∙◌, ap}
+use Rattle.lg_answer.proofs.Lists.{zip_more}
 use Rattle.lg_gram.specs.declared.listing.Token.{Token}
 use Rattle.lg_answer.specs.Steps.{AreFound}
 use Rattle.lg_answer.proofs.problem.positions_of.Goals as goal

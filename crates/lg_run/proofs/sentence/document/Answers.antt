@@ -2,7 +2,8 @@ use Rattle.std.proofs.Common.{◌≡◌, ℕ, subst}
 use Rattle.lg_gram.specs.declared.listing.Page.{Page}
 use Rattle.lg_dict.specs.Dictionary.{Dictionary}
 use Rattle.lg_answer.specs.declared.refusal.AnswerRefusal.TheVariants.{Beyond}
-use Rattle.lg_answer.specs.Pages.{IsPage, IsListing, IsBeyond, IsRefused}
+use Rattle.lg_token.specs.Bounds.{IsBeyond}
+use Rattle.lg_answer.specs.Pages.{IsPage, IsListing, IsRefused}
 use Rattle.lg_text.specs.Texts.{page_text, bound_line}
 use Rattle.lg_run.specs.Documents.{DocumentIs, listed, beyond, no_knowledge}
 use Rattle.lg_run.proofs.Answered.{of_each}
