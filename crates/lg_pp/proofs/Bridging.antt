@@ -8,11 +8,11 @@ use Rattle.lg_gram.specs.Rules.{HasLink}
 use Rattle.lg_gram.specs.Walks.{LinkFrom}
 use Rattle.lg_gram.specs.declared.linkage.Link.{Link}
 use Rattle.lg_walks.specs.Islands.{IsWithin, AreIslands}
-use Rattle.lg_walks.proofs.Labels.{walk_along}
 use Rattle.lg_pp.specs.Judging.{IsBridge}
 use Rattle.lg_pp.specs.Labels.{IsGood}
 use Rattle.lg_pp.proofs.Good.{ends_within}
 use Rattle.lg_pp.proofs.Kept.{AreKept}
+use Rattle.lg_pp.proofs.Walking.{walk_along}
 
 -- the links of a linkage but one
 abbrev pub AreOthers : Linkage → Link → List Link → Type 0

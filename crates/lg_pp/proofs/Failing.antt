@@ -12,9 +12,9 @@ use Rattle.lg_knowread.specs.declared.knowledge.Rule.{Rule}
 use Rattle.lg_knowread.specs.declared.knowledge.Rule.TheVariants.{Forbid, Demand, Bounded, Cycle}
 use Rattle.lg_pp.specs.Breaks.{IsTested}
 use Rattle.lg_pp.specs.Domains.{Begins, InDomain, IsNumber, SameGroup}
-use Rattle.lg_pp.specs.Judging.{AreFacts, FailsAtNumber, HasOther, IsBridge, IsCycle, IsGrouped, IsLabelled, MeetsOther, Overruns, class_of}
+use Rattle.lg_pp.specs.Judging.{AreFacts, FailsAtNumber, HasOther, IsBridge, IsCycle, IsGrouped, IsLabelled, IsOfDomains, MeetsOther, Overruns, class_of}
 use Rattle.lg_pp.specs.Labels.{FitsOne, HasMatch, Matches, MatchesOne, label_at}
-use Rattle.lg_pp.specs.Reach.{AreFlags, Collects, StartsKind}
+use Rattle.lg_pp.specs.Reach.{AreFlags, AreRows, Collects, StartsKind}
 use Rattle.lg_pp.specs.Steps.{AreAlike}
 use Rattle.lg_pp.specs.declared.rules.facts.Facts.{Facts}
 use Rattle.lg_pp.proofs.Good.{no_link, begins_by_label, has_match_by_label, matches_by_label}
@@ -24,6 +24,16 @@ use Rattle.lg_pp.proofs.Zipped.{zip_at, zip_length}
 
 any_name : Name
 any_name = record { caps = []; subs = [] }
+
+-- a grouped rule asks for domains
+asks_by_group : (rule : Rule) → IsGrouped rule → IsOfDomains rule
+asks_by_group (Forbid grouped trigger others) h = h
+asks_by_group (Demand grouped trigger others) h = h
+asks_by_group (Bounded kind) h = tt
+asks_by_group (Cycle pattern) h = h
+
+any_by_group : (rules : List Rule) → Any IsGrouped rules → Any IsOfDomains rules
+any_by_group rules h = (h.0, h.1, h.2, h.3, asks_by_group h.1 h.4)
 
 -- a rule of the list that is such
 any_rule : (P : Rule → Type 0) (rules : List Rule) (rule : Rule) → Contains rules rule → P rule → Any P rules
@@ -89,16 +99,19 @@ module _ (know : Knowledge) (g : Linkage) (facts : Facts) (are : AreFacts know g
   )
 
   -- bounds of domains
-  collects_at : (n m : ℕ) (start l : Link) → IsNumber g n start → IsNumber g m l → IsTrue (get_or (get_or facts.rows.items n []) m false) ↔ Collects know g start l
-  collects_at n m start l at_n at_m =
-      let row = zip_at (λ start row. AreFlags (Collects know g start) g.links row) g.links facts.rows.items n start [] are.rows at_n in
+  pub bounded_rows : (kind : ℕ) → Contains know.rules (Bounded kind) → AreRows know g facts.rows.items
+  bounded_rows kind known = are.rows (any_rule IsOfDomains know.rules (Bounded kind) known tt)
+
+  collects_at : AreRows know g facts.rows.items → (n m : ℕ) (start l : Link) → IsNumber g n start → IsNumber g m l → IsTrue (get_or (get_or facts.rows.items n []) m false) ↔ Collects know g start l
+  collects_at rows n m start l at_n at_m =
+      let row = zip_at (λ start row. AreFlags (Collects know g start) g.links row) g.links facts.rows.items n start [] rows at_n in
       zip_at (λ l flag. IsTrue flag ↔ Collects know g start l) g.links (get_or facts.rows.items n []) m l false row at_m
 
   in_domain_has : (start l : Link) → HasLink g start → InDomain know g start l → HasLink g l
   in_domain_has start l has inside = elim inside [ inl same ↦ subst (HasLink g) (sym same) has | inr by ↦ by.0.0 ]
 
-  pub fails_bounded : (kind n : ℕ) → (IsLabelled (StartsKind know.starts kind) labels n × Overruns g.links facts.rows.items n) ↔ FailsAtNumber know g (Bounded kind) n
-  fails_bounded kind n = (to, from) where
+  pub fails_bounded : (kind : ℕ) → Contains know.rules (Bounded kind) → (n : ℕ) → (IsLabelled (StartsKind know.starts kind) labels n × Overruns g.links facts.rows.items n) ↔ FailsAtNumber know g (Bounded kind) n
+  fails_bounded kind known n = (to, from) where
     begins : (l : Link) (label : Name) → HasLink g l → label_at g l ≡ Some label → StartsKind know.starts kind label ↔ Begins know g kind l
     begins l label = begins_by_label know g l label kind
 
@@ -108,7 +121,7 @@ module _ (know : Knowledge) (g : Linkage) (facts : Facts) (are : AreFacts know g
         let over = h.1 in
         let same = same_number g n over.0 s.0 over.1 s.1 in
         let far = over.2 in
-        let in_row = (collects_at n far.0 over.0 far.1 over.1 far.2).0 far.3 in
+        let in_row = (collects_at (bounded_rows kind known) n far.0 over.0 far.1 over.1 far.2).0 far.3 in
         (s.0, s.1, (s.2, (far.1, subst (λ z. InDomain know g z far.1) same in_row.1, subst (λ z. (far.1.left < z.left) ⊎ (far.1.right < z.left)) same far.4)))
 
     from : FailsAtNumber know g (Bounded kind) n → IsLabelled (StartsKind know.starts kind) labels n × Overruns g.links facts.rows.items n
@@ -117,7 +130,7 @@ module _ (know : Knowledge) (g : Linkage) (facts : Facts) (are : AreFacts know g
         let at = f.1 in
         let far = f.2.1 in
         let m = number_of g far.0 (in_domain_has start far.0 (has_number g n start at) far.1) in
-        let set = (collects_at n m.0 start far.0 at m.1).1 ((kind, f.2.0), far.1) in
+        let set = (collects_at (bounded_rows kind known) n m.0 start far.0 at m.1).1 ((kind, f.2.0), far.1) in
         (labelled_from (StartsKind know.starts kind) (Begins know g kind) begins n start at f.2.0, (start, at, (m.0, far.0, m.1, set, far.2)))
 
   -- groups: two links are of one class exactly where they are looked at together
@@ -126,7 +139,7 @@ module _ (know : Knowledge) (g : Linkage) (facts : Facts) (are : AreFacts know g
   class_tells true some m n k l at_m at_n =
       let rows = facts.rows.items in
       let tell = leasts_tell (AreAlike rows) (length g.links) groups (are.groups (some refl)) (alike_itself rows) (alike_turned rows) (alike_through rows) n m (slice_get_within g.links n l at_n) (slice_get_within g.links m k at_m) in
-      let same = alike_grouped know g rows are.rows n m l k at_n at_m in
+      let same = alike_grouped know g rows (are.rows (any_by_group know.rules (some refl))) n m l k at_n at_m in
       (λ e t. same.0 (tell.0 (sym e)), λ h. sym (tell.1 (same.1 (h refl))))
 
   tested_by_class : (grouped : Bool) → (grouped ≡ true → Any IsGrouped know.rules) → (others : List Pattern) (n : ℕ) (l : Link) → IsNumber g n l → HasOther grouped groups others labels (class_of grouped groups n) ↔ ((m : Link) × IsTested know g grouped l m × MatchesOne others g m)

@@ -55,7 +55,7 @@ module _ (R : ℕ → ℕ → Type 0) (count : ℕ) (leasts : List ℕ) (are : A
   leasts_tell m n below_m below_n = (joined_from m n below_m below_n, joined_to m n below_m below_n)
 
   -- a least number is its own
-  least_itself : (n : ℕ) → n < count → least (least n) ≡ least n
+  pub least_itself : (n : ℕ) → n < count → least (least n) ≡ least n
   least_itself n less = joined_to (least n) n (let h = least_below n less in omega arith) less (are.each n less).joined
 
   module _ (classes : List (List ℕ)) (have : AreClasses leasts count classes) where

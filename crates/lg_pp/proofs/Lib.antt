@@ -1,3 +1,4 @@
+pub mod Walking
 pub mod Zipped
 pub mod Rising
 pub mod Leasts
@@ -8,5 +9,6 @@ pub mod Bridging
 pub mod Firsts
 pub mod Starting
 pub mod Grouping
+pub mod Parting
 pub mod Failing
 pub mod Breaking

@@ -8,7 +8,6 @@ use Rattle.lg_gram.specs.Rules.{HasLink}
 use Rattle.lg_gram.specs.Walks.{LinkFrom}
 use Rattle.lg_gram.specs.declared.linkage.Link.{Link}
 use Rattle.lg_walks.specs.Islands.{IsWithin, AreIslands}
-use Rattle.lg_walks.proofs.Labels.{walk_along}
 use Rattle.lg_knowread.specs.declared.knowledge.Knowledge.{Knowledge}
 use Rattle.lg_pp.specs.Domains.{InDomain, IsOffRoot, Reaches}
 use Rattle.lg_pp.specs.Labels.{IsGood, FitsOne, MatchesOne, label_at}
@@ -17,6 +16,7 @@ use Rattle.std.proofs.lemmas.Option.{slice_get-get_or}
 use Rattle.lg_pp.proofs.Zipped.{zip_at, zip_length}
 use Rattle.lg_pp.proofs.Good.{no_link, ends_within, matches_by_label}
 use Rattle.lg_pp.proofs.Kept.{AreKept}
+use Rattle.lg_pp.proofs.Walking.{walk_along}
 
 -- not ignored, and not at the root
 abbrev pub IsClear : Knowledge → Linkage → ℕ → Link → Type 0

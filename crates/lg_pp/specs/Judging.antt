@@ -39,6 +39,13 @@ IsGrouped (Demand grouped trigger others) = IsTrue grouped
 IsGrouped (Bounded kind) = ⊥
 IsGrouped (Cycle pattern) = ⊥
 
+-- a rule that asks which links lie in the domains
+abbrev pub IsOfDomains : Rule → Type 0
+IsOfDomains (Forbid grouped trigger others) = IsTrue grouped
+IsOfDomains (Demand grouped trigger others) = IsTrue grouped
+IsOfDomains (Bounded kind) = Unit {0}
+IsOfDomains (Cycle pattern) = ⊥
+
 abbrev pub IsCycle : Rule → Type 0
 IsCycle (Forbid grouped trigger others) = ⊥
 IsCycle (Demand grouped trigger others) = ⊥
@@ -50,10 +57,10 @@ pub record AreWithin (count : ℕ) (groups : List ℕ) : Type 0 where
   pub enough : length groups ≡ count
   pub below : (n : ℕ) → n < count → slice_index groups n ≤ n
 
--- The labels and the rows of domains; the least link of each link's group, where some rule is grouped; and which links are bridges, where some rule asks it.
+-- The labels; the rows of domains, where some rule asks for them; the least link of each link's group, where some rule is grouped; and which links are bridges, where some rule asks it.
 pub record AreFacts (know : Knowledge) (g : Linkage) (facts : Facts) : Type 0 where
   pub labels : AreLabels g facts.labels.items
-  pub rows : AreRows know g facts.rows.items
+  pub rows : Any IsOfDomains know.rules → AreRows know g facts.rows.items
   pub within : AreWithin (length g.links) facts.groups.items
   pub groups : Any IsGrouped know.rules → AreLeasts (AreAlike facts.rows.items) (length g.links) facts.groups.items
   pub bridges : AreFlags (λ l. Any IsCycle know.rules × IsBridge g l) g.links facts.bridges

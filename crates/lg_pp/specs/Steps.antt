@@ -1,5 +1,5 @@
 -- What the loops over links keep.
-use Rattle.std.specs.Prelude.{◌≡◌, ◌↔◌, ℕ, ◌<◌, List, length, Bool, false, slice_index, slice_index_or}
+use Rattle.std.specs.Prelude.{◌≡◌, ◌↔◌, ℕ, ◌<◌, ◌≤◌, List, length, Bool, false, slice_index, slice_index_or}
 use Rattle.std.specs.List.{All, AllZip, Contains}
 use Rattle.std.specs.List.Sorted.{IsStrictlySortedBy}
 use Rattle.std.specs.Ordering.{nat_cmp}
@@ -17,6 +17,14 @@ pub record AreThose (P : ℕ → Type 0) (n : ℕ) (numbers : List ℕ) : Type 0
 -- links number m and n have the same flag in each row
 abbrev pub AreAlike : List (List Bool) → ℕ → ℕ → Type 0
 AreAlike rows m n = All (λ row. slice_index_or row m false ≡ slice_index_or row n false) rows
+
+-- they have the same least number so far, and the same flag in one more row
+abbrev pub AreStillAlike : List ℕ → List Bool → ℕ → ℕ → Type 0
+AreStillAlike leasts row m n = (slice_index leasts m ≡ slice_index leasts n) × (slice_index_or row m false ≡ slice_index_or row n false)
+
+-- no least number is above its own number, and each is its own
+abbrev pub AreHeads : List ℕ → Type 0
+AreHeads leasts = (n : ℕ) → n < length leasts → (slice_index leasts n ≤ n) × (slice_index leasts (slice_index leasts n) ≡ slice_index leasts n)
 
 -- m is the least number that R joins to n
 pub record IsLeastOf (R : ℕ → ℕ → Type 0) (n m : ℕ) : Type 0 where

@@ -1,9 +1,9 @@
 //! Groups: links that lie in the same domains.
-ghost use Rattle.std.specs.Prelude.{◌≡◌, ◌↔◌, ◌<◌, ◌≤◌, ◌^◌, length, IsTrue, IfOk};
+ghost use Rattle.std.specs.Prelude.{◌≡◌, ◌<◌, ◌≤◌, ◌^◌, length, min, slice_index, slice_set, IfOk};
 ghost use Rattle.std.specs.List.{All};
 ghost use Rattle.lg_pp.specs.Domains.{AreGroups};
 ghost use Rattle.lg_pp.specs.Labels.{IsGood};
-ghost use Rattle.lg_pp.specs.Steps.{AreAlike, AreClasses, AreLeasts, AreMembers, IsLeastOf};
+ghost use Rattle.lg_pp.specs.Steps.{AreAlike, AreClasses, AreHeads, AreLeasts, AreMembers, AreStillAlike};
 
 use crate::flags::Flags;
 use crate::label::labels;
@@ -25,42 +25,47 @@ pub fn groups(alloc: Global, know: &Knowledge, g: &Linkage) -> Result<Vec<Number
     classes(alloc, &leasts)
 }
 
-/// For each link, below this count of them, the least link with the same flag in each row.
+/// For each link, below this count of them, the least link with the same flag in each row. Takes links times rows steps.
 pub(crate) fn leasts(alloc: Global, rows: &[Flags], count: usize) -> Result<Vec<usize>, NoMemory>
     requires { All (λ row. count ≤ length row) rows.now }
     ensures { IfOk result (λ leasts. AreLeasts (AreAlike rows.now) count leasts.items) }
 {
-    let mut leasts = Vec::new(alloc);
-    for n in 0..count {
-        leasts.push(least(rows, n))?;
+    let mut leasts = vec![in alloc; 0; count]?;
+    for row in rows {
+        leasts = parted(alloc, &leasts, row.items())?;
     }
     Ok(leasts)
 }
 
-fn least(rows: &[Flags], n: usize) -> usize
-    requires { All (λ row. n < length row) rows.now }
-    ensures { IsLeastOf (AreAlike rows.now) n result }
+// For each number the least with the same least number so far and the same flag: that least number itself, or the first
+// whose flag is the other one.
+fn parted(alloc: Global, leasts: &[usize], flags: &[bool]) -> Result<Vec<usize>, NoMemory>
+    requires heads { AreHeads leasts.now }
+    requires flags { length leasts.now ≤ length flags.now }
+    ensures { IfOk result (λ parts. AreLeasts (AreStillAlike leasts.now flags.now) (length leasts.now) parts.items) }
 {
-    for m in 0..n {
-        if are_alike(rows, m, n) {
-            return m;
+    let mut others = vec![in alloc; leasts.len(); leasts.len()]?;
+    let mut parts = Vec::new(alloc);
+    for n in 0..leasts.len() {
+        let head = leasts[n];
+        if flags[n] == flags[head] {
+            parts.push(head)?;
+        } else {
+            parts.push(first_other(&mut others, head, n))?;
         }
     }
-    n
+    Ok(parts)
 }
 
-// Whether two links have the same flag in each row.
-fn are_alike(rows: &[Flags], m: usize, n: usize) -> bool
-    requires { All (λ row. (m < length row) × (n < length row)) rows.now }
-    ensures { IsTrue result ↔ AreAlike rows.now m n }
+// The first of the class with the other flag, which is n where none was noted before.
+fn first_other(others: &mut Vec<usize>, head: usize, n: usize) -> usize
+    requires { head < length others.old.items }
+    ensures first { result ≡ min (slice_index others.old.items head) n }
+    ensures noted { others.new.items ≡ slice_set others.old.items head result }
 {
-    for row in rows {
-        let flags = row.items();
-        if flags[m] != flags[n] {
-            return false;
-        }
-    }
-    true
+    let first = if others[head] < n { others[head] } else { n };
+    others[head] = first;
+    first
 }
 
 // The numbers with one least number, together.

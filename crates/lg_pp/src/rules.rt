@@ -22,13 +22,16 @@ use trigger::first_trigger;
 /// The first rule that the linkage breaks, by its number from 1, with the least link, by left and then right, at which
 /// it fails; None where it breaks none.
 ///
-/// Domains are found once, groups and walks for cycles once and where some rule asks for them; then a rule takes links
-/// times patterns.
+/// Domains, groups and walks for cycles are found once each, and only where some rule asks for them; then a rule takes
+/// links times patterns.
 pub fn judge(alloc: Global, know: &Knowledge, g: &Linkage) -> Result<Option<Violation>, NoMemory>
     requires few { length know.now.rules < 2 ^ 32 }
     requires good { IsGood g.now }
     ensures { IfOk result (Judges know.now g.now) }
 {
+    if know.rules.items().is_empty() {
+        return Ok(None);
+    }
     let facts = Facts::of(alloc, know, g)?;
     for (n, rule) in know.rules.items().iter().enumerate() {
         let first = first_failure(alloc, know, g, &facts, rule)?;

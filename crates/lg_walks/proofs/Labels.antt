@@ -17,12 +17,6 @@ walk_back E a b (stay i) = stay i
 walk_back E a b (forth i k j e w) = walk_then E j k i (walk_back E k j w) (back k i i e (stay i))
 walk_back E a b (back i k j e w) = walk_then E j k i (walk_back E k j w) (forth k i i e (stay i))
 
--- a walk over edges that are edges of another kind too
-pub walk_along : (E F : ℕ → ℕ → Type 0) → ((a b : ℕ) → E a b → F a b) → (a b : ℕ) → Walk E a b → Walk F a b
-walk_along E F edges a b (stay i) = stay i
-walk_along E F edges a b (forth i k j e w) = forth i k j (edges i k e) (walk_along E F edges k j w)
-walk_along E F edges a b (back i k j e w) = back i k j (edges k i e) (walk_along E F edges k j w)
-
 -- what is the same at both ends of each edge is the same at both ends of a walk
 walk_label : (E : ℕ → ℕ → Type 0) (f : ℕ → ℕ) → ((a b : ℕ) → E a b → f a ≡ f b) → (a b : ℕ) → Walk E a b → f a ≡ f b
 walk_label E f ends a b (stay i) = refl

@@ -1,9 +1,9 @@
 //! What the rules ask of the links of a linkage.
 ghost use Rattle.std.specs.Prelude.{◌≡◌, ◌↔◌, ◌≤◌, length, IsTrue, IfOk};
 ghost use Rattle.std.specs.List.{All, Any};
-ghost use Rattle.lg_pp.specs.Judging.{AreFacts, AreWithin, IsBridge, IsCycle, IsGrouped};
-ghost use Rattle.lg_pp.specs.Labels.{IsGood};
-ghost use Rattle.lg_pp.specs.Reach.{AreFlags};
+ghost use Rattle.lg_pp.specs.Judging.{AreFacts, AreWithin, IsBridge, IsCycle, IsGrouped, IsOfDomains};
+ghost use Rattle.lg_pp.specs.Labels.{IsGood, AreLabels};
+ghost use Rattle.lg_pp.specs.Reach.{AreFlags, AreRows};
 ghost use Rattle.lg_pp.specs.Steps.{AreAlike, AreLeasts};
 
 use crate::flags::Flags;
@@ -16,9 +16,9 @@ use lg_gram::{Label, Linkage};
 use lg_knowread::{Knowledge, Rule};
 use std::alloc::Global;
 
-/// The labels of the links; for each link, which links lie in the domain that it starts; the least link of each link's
-/// group, where some rule is grouped; and, where some rule is a cycle, which links have ends that no walk over the other
-/// links joins.
+/// The labels of the links; for each link, which links lie in the domain that it starts, where some rule is bounded or
+/// grouped; the least link of each link's group, where some rule is grouped; and, where some rule is a cycle, which links
+/// have ends that no walk over the other links joins.
 #[derive(Drop)]
 pub(crate) struct Facts {
     pub(crate) labels: Vec<Label>,
@@ -35,7 +35,7 @@ impl Facts {
     {
         let rules = know.rules.items();
         let labels = labels(alloc, g)?;
-        let rows = rows(alloc, know, g, &labels)?;
+        let rows = rows_if(alloc, is_any_of_domains(rules), know, g, &labels)?;
         let groups = groups_if(alloc, is_any_grouped(rules), &rows, g.links().len())?;
         let bridges = bridges_if(alloc, is_any_cycle(rules), g)?;
         Ok(Facts {
@@ -44,6 +44,26 @@ impl Facts {
             groups,
             bridges,
         })
+    }
+}
+
+// Which links lie in the domain of each link, where it is wanted; else no rows.
+fn rows_if(
+    alloc: Global,
+    wanted: bool,
+    know: &Knowledge,
+    g: &Linkage,
+    labels: &[Label],
+) -> Result<Vec<Flags>, NoMemory>
+    requires good { IsGood g.now }
+    requires labels { AreLabels g.now labels.now }
+    ensures rows { IfOk result (λ rows. IsTrue wanted → AreRows know.now g.now rows.items) }
+    ensures long { IfOk result (λ rows. All (λ row. length g.now.links ≤ length row) rows.items) }
+{
+    if wanted {
+        rows(alloc, know, g, labels)
+    } else {
+        Ok(Vec::new(alloc))
     }
 }
 
@@ -75,6 +95,18 @@ fn bridges_if(alloc: Global, wanted: bool, g: &Linkage) -> Result<Flags, NoMemor
     } else {
         Flags::none(alloc, g.links().len())
     }
+}
+
+fn is_any_of_domains(rules: &[Rule]) -> bool
+    ensures { IsTrue result ↔ Any IsOfDomains rules.now }
+{
+    rules.iter().any(|rule| is_of_domains(rule))
+}
+
+fn is_of_domains(rule: &Rule) -> bool
+    ensures { IsTrue result ↔ IsOfDomains rule.now }
+{
+    matches!(rule, Rule::Bounded { .. }) || is_grouped(rule)
 }
 
 fn is_any_grouped(rules: &[Rule]) -> bool

@@ -1,19 +1,24 @@
-use Rattle.std.proofs.Common.{◌≡◌, ℕ, ◌+◌, List, [], ◌∷◌, ◌++◌, get_or, inl, inr, subst, arith}
-use Rattle.std.proofs.lemmas.Bool.{cases_lt}
-use Rattle.std.proofs.lemmas.List.{get_or_append_left, get_or_push, length_push}
-use Rattle.lg_pp.specs.Steps.{AreAlike, AreLeasts, IsLeastOf}
+use Rattle.std.proofs.Common.{◌≡◌, replicate, arith}
+use Rattle.std.proofs.lemmas.List.{take_all}
+use Rattle.lg_pp.proofs.Parting.{leasts_none, are_heads, leasts_more}
 use Rattle.lg_pp.proofs.group.leasts.Goals as goal
 
-leasts_push : (R : ℕ → ℕ → Type 0) (n m : ℕ) (leasts : List ℕ) → AreLeasts R n leasts → IsLeastOf R n m → AreLeasts R (n + 1) (leasts ++ m ∷ [])
-leasts_push R n m leasts are here =
-    let same = are.same_length in
-    record {
-      same_length = rw length_push (cc);
-      each = λ k less. elim (cases_lt k n) [
-        | inl earlier ↦ rw (get_or_append_left leasts (m ∷ []) 0 k (omega arith)) (are.each k earlier)
-        | inr past ↦ let at : n ≡ k = omega arith in subst (λ i. IsLeastOf R i (get_or (leasts ++ m ∷ []) i 0)) at (rw (get_or_push leasts m 0 n same) here)
-      ];
-    }
+pub loop-row-init : goal.loop-row-init
+loop-row-init c =
+    let all : c.in_ok-leasts.leasts.items ≡ replicate c.args.count 0 = c.in_ok-leasts.ensures.items_if_clones_equal (λ y same. same) in
+    rw all (leasts_none c.args.rows.now c.args.count)
 
-pub loop-n-preserved : goal.loop-n-preserved
-loop-n-preserved c = rw c.in_ok-push.ensures.items (leasts_push (AreAlike c.args.rows.now) c.loop-n.n c.least.result c.loop-n.leasts.items c.loop-n.invariant c.least.ensures)
+pub parted-requires-clause-heads : goal.parted-requires-clause-heads
+parted-requires-clause-heads c =
+    rw c.deref.ensures.value (are_heads c.args.rows.now c.loop-row.row-index c.row-item.result c.loop-row-test.true c.row-item.is c.args.count c.loop-row.leasts.items c.loop-row.invariant)
+
+-- one more row parts the classes
+pub loop-row-preserved : goal.loop-row-preserved
+loop-row-preserved c =
+    leasts_more c.args.rows.now c.loop-row.row-index c.row-item.result c.loop-row-test.true c.row-item.is c.args.count c.loop-row.leasts.items c.loop-row.invariant c.in_ok-leasts-2.leasts.items
+    (rw (c.deref.ensures.value, c.items.ensures) at c.in_ok-leasts-2.ensures)
+
+pub returns : goal.returns
+returns c =
+    let e = take_all c.loop-row.row-index c.args.rows.now (omega arith) in
+    rw (← e) c.loop-row.invariant

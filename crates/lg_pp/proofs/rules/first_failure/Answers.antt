@@ -4,7 +4,7 @@ use Rattle.lg_knowread.specs.declared.knowledge.Rule.TheVariants.{Forbid, Demand
 use Rattle.lg_pp.specs.Judging.{FailsAtNumber, IsFirst, IsLabelled, MeetsOther, Overruns}
 use Rattle.lg_pp.specs.Labels.{Matches}
 use Rattle.lg_pp.specs.Reach.{StartsKind}
-use Rattle.lg_pp.proofs.Failing.{labels_count, bridges_count, fails_forbid, fails_demand, fails_bounded, fails_cycle}
+use Rattle.lg_pp.proofs.Failing.{labels_count, bounded_rows, bridges_count, fails_forbid, fails_demand, fails_bounded, fails_cycle}
 use Rattle.lg_pp.proofs.Firsts.{first_moved}
 use Rattle.lg_pp.proofs.Grouping.{rows_count, rows_long}
 use Rattle.lg_pp.proofs.rules.first_failure.Goals as goal
@@ -28,12 +28,14 @@ first_overrun-requires-clause-links c =
 pub first_overrun-requires-clause-rows : goal.first_overrun-requires-clause-rows
 first_overrun-requires-clause-rows c =
     let count = labels_count c.args.know.now c.args.g.now c.args.facts.now c.requires.facts in
-    let rows = rows_count c.args.know.now c.args.g.now c.args.facts.now.rows.items c.requires.facts.rows in
+    let of = bounded_rows c.args.know.now c.args.g.now c.args.facts.now c.requires.facts c.in-Bounded.kind (rw c.in-Bounded.is at c.requires.known) in
+    let rows = rows_count c.args.know.now c.args.g.now c.args.facts.now.rows.items of in
     rw (c.deref.ensures.value, c.deref-in-Bounded.ensures.value) (omega arith)
 
 pub first_overrun-requires-clause-flags : goal.first_overrun-requires-clause-flags
 first_overrun-requires-clause-flags c =
-    rw c.deref-in-Bounded.ensures.value (rows_long c.args.know.now c.args.g.now c.args.facts.now.rows.items c.requires.facts.rows c.links-links.result.now c.links-links.ensures.value)
+    let of = bounded_rows c.args.know.now c.args.g.now c.args.facts.now c.requires.facts c.in-Bounded.kind (rw c.in-Bounded.is at c.requires.known) in
+    rw c.deref-in-Bounded.ensures.value (rows_long c.args.know.now c.args.g.now c.args.facts.now.rows.items of c.links-links.result.now c.links-links.ensures.value)
 
 pub first_bridge-requires : goal.first_bridge-requires
 first_bridge-requires c =
@@ -87,7 +89,7 @@ returns-in-Bounded c =
     let P : ℕ → Type 0 = λ n. IsLabelled (StartsKind know.starts kind) labels n × Overruns g.links facts.rows.items n in
     let Q : ℕ → Type 0 = FailsAtNumber know g (Bounded kind) in
     rw c.in-Bounded.is
-    (first_moved P Q (length labels) (length g.links) c.first_overrun.result (labels_count know g facts c.requires.facts) (fails_bounded know g facts c.requires.facts kind)
+    (first_moved P Q (length labels) (length g.links) c.first_overrun.result (labels_count know g facts c.requires.facts) (fails_bounded know g facts c.requires.facts kind (rw c.in-Bounded.is at c.requires.known))
     (rw (c.deref.ensures.value, c.deref-in-Bounded.ensures.value, c.items-starts.ensures, c.links-links.ensures.value) at c.first_overrun.ensures))
 
 pub returns-in-Cycle : goal.returns-in-Cycle

@@ -1,8 +1,7 @@
-use Rattle.std.proofs.Common.{arith, rules, ◌≡◌, ◌∙◌, ◌<◌, ◌+◌, ◌-◌, ◌^◌, ◌++◌, ◌∷◌, [], List, length, get_or, take, drop, refl, sym, ap, length-append, Vec, Global}
+use Rattle.std.proofs.Common.{arith, rules, ◌≡◌, ◌∙◌, ◌<◌, ◌+◌, ◌-◌, ◌^◌, ◌++◌, ◌∷◌, [], length, get_or, take, drop, refl, ap, length-append, Vec, Global}
 use Rattle.std.proofs.lemmas.Grind.{common_steps}
 use Rattle.std.proofs.lemmas.List.{get_or_default}
 use Rattle.lg_gram.specs.declared.linkage.Link.{Link}
-use Rattle.lg_rules.specs.Partners.{AreLinks}
 use Rattle.lg_rules.proofs.Completing.{Owes, owes_all, owes_last, with_link, without_link, never_without, turn_links, turn_few, turn_shorter, front_links}
 use Rattle.lg_rules.proofs.list.completing.+complete.Goals as goal
 use Rattle.lg_rules.proofs.list.completing.+complete.Goals.{then-fits+in_ok-push+in_ok-complete, else-fits}
