@@ -26,7 +26,7 @@ files_code =
 abbrev pub read_fails : FilesView → List ℕ → Bool
 read_fails files name = is_listed files.failing (length files.asked + 1) || is_none (file files.contents name)
 
--- Failed comes exactly where the read fails; want of memory may come in its place
+-- Failed comes exactly where the read fails; out of memory may come in its place
 abbrev pub FailsWhere : {T : Type 0} → Bool → Result T FileError → Type 0
 FailsWhere fails (Ok _) = fails ≡ false
 FailsWhere fails (Err NoMemory) = ⊤
