@@ -1,7 +1,7 @@
 -- What one item is told to define.
-use Rattle.std.proofs.Common.{◌≡◌, ℕ, Option, None, Some, IfSome, List, [], ◌∷◌, ◌++◌, map, Result, Ok, Err, Vec, refl, sym, ap, subst, ◌∙◌}
+use Rattle.std.proofs.Common.{◌≡◌, ℕ, Option, List, [], ◌∷◌, ◌++◌, map, Result, Ok, Err, Vec, refl, sym, ap, subst, ◌∙◌}
 use Rattle.std.proofs.lemmas.List.{append-nil}
-use Rattle.lg_base.specs.Contents.{Contents, file}
+use Rattle.lg_base.specs.Contents.{Contents}
 use Rattle.lg_base.specs.Files.{AsksWithin}
 use Rattle.lg_gram.specs.declared.entry.Item.{Item}
 use Rattle.lg_gram.specs.declared.entry.ItemKind.{ItemKind}
@@ -13,10 +13,12 @@ use Rattle.lg_dictread.specs.declared.dict_error.DictError.{DictError}
 use Rattle.lg_dictread.specs.declared.dict_error.DictError.TheVariants.{WordFile}
 use Rattle.lg_dictread.specs.declared.dict_error.WordFileError.{WordFileError}
 use Rattle.lg_dictread.specs.declared.dict_error.WordFileError.TheVariants.{Failed, TooLong, NotUtf8}
-use Rattle.lg_dictread.specs.Definitions.{Lines, IsTwice, Defined, gives, fails, FileGives, runs, asked_by, on_line, refuse_items, defines, twice, unread}
-use Rattle.lg_dictread.specs.Telling.{Answers, IsMissing, OnError}
-use Rattle.lg_dictread.specs.Defining.{AddsNames, TellsNames, Listed, AddsDefined, ItemIs, TellsDefined, IsUnread, TellsFile, AsksFile}
-use Rattle.lg_dictread.proofs.ErrorMaps.{if_some, if_some_map, memory_error, memory_both, error_untold}
+use Rattle.lg_dictread.specs.Findings.{Found, not_read, has_bytes, Asked, names_of, AreKnown}
+use Rattle.lg_dictread.specs.Definitions.{Lines, AreNew, IsTwice, Defined, gives, fails, FileGives, runs, KindGives, on_line, defined_as, of_kind, define, refuse_items, defines, twice, unread}
+use Rattle.lg_dictread.specs.Telling.{Answers, UnlessMemory, ErrorTells, out_of_memory, file_unread, first_fault}
+use Rattle.lg_dictread.specs.Defining.{AddsNames, TellsNames, Listed, AddsDefined, ItemIs, asked_by, TellsDefined, IsFinding, IsUnread, TellsFile, AsksFile}
+use Rattle.lg_dictread.proofs.Found.{known_none}
+use Rattle.lg_dictread.proofs.ErrorMaps.{memory_error, memory_both}
 
 -- nothing is added
 pub adds_none : (lines : Lines) (names : List (List ℕ)) → AddsNames lines lines names names []
@@ -46,71 +48,82 @@ module _ (known : Option Contents) (asked now : List (List ℕ)) (old : Defined)
   abbrev macros_listed : Listed
   macros_listed = record listed { macros = names }
 
+  -- what the item gives, and what it does to the answer
+  answered : (kind : ItemKind) (given_names : List (List ℕ)) (here : List Asked) → now ≡ asked ++ names_of here → AreKnown known here → KindGives kind text here (gives given_names) → AreNew (of_kind kind old) (on_line line given_names)
+      → Answers known (ItemIs old (item kind)) asked now (define (defined_as kind (on_line line given_names)))
+  answered kind given_names here grown found given new = record {
+    asked = here;
+    names = grown;
+    found = found;
+    answers = λ items rest answer further. defines old (item kind).0 line items given_names here rest answer given new further;
+  }
+
+  -- one of the names is there already
+  refused : (kind : ItemKind) (given_names : List (List ℕ)) (here : List Asked) → now ≡ asked ++ names_of here → AreKnown known here → KindGives kind text here (gives given_names)
+      → (error : DictError) → UnlessMemory (IsTwice (of_kind kind old) (on_line line given_names)) error → AsksWithin asked now (asked_by kind text)
+      → ErrorTells (AsksWithin asked now (asked_by kind text)) known (ItemIs old (item kind)) refuse_items asked now error
+  refused kind given_names here grown found given error again within =
+      memory_error (IsTwice (of_kind kind old) (on_line line given_names)) (AsksWithin asked now (asked_by kind text)) known (ItemIs old (item kind)) refuse_items asked now within
+      (λ e is. record { asked = here; names = grown; found = found; answers = λ items. twice old (item kind).0 line items given_names here e given is }) error again
+
   pub word_told : (result : Result (Unit {0}) DictError) → now ≡ asked → TellsNames old.words more listed.words names ((text, line) ∷ []) result → Told kinds.Word with_words words_listed result
   word_told (Ok done) same h = (
     record { words = (text, line) ∷ []; macros = [] },
     record { words = h; macros = adds_none old.macros listed.macros },
-    if_some known _ (λ contents. ([], asks_none asked now same, (refl, λ items rest answer further. defines old (item kinds.Word).0 line items (text ∷ []) rest answer refl h.are_new further))),
+    answered kinds.Word (text ∷ []) [] (asks_none asked now same) (known_none known) (refl, refl) h.are_new,
   )
-  word_told (Err error) same h =
-      memory_error (IsTwice old.words ((text, line) ∷ [])) (λ e. Answers known (ItemIs old (item kinds.Word)) asked now (refuse_items e)) (IsMissing known) (AsksWithin asked now []) ([], [], refl, asks_none asked now same)
-      (λ e again. if_some known _ (λ contents. ([], asks_none asked now same, (refl, λ items. twice old (item kinds.Word).0 line items (text ∷ []) e refl again)))) error h
+  word_told (Err error) same h = refused kinds.Word (text ∷ []) [] (asks_none asked now same) (known_none known) (refl, refl) error h ([], [], refl, asks_none asked now same)
 
   pub macro_told : (result : Result (Unit {0}) DictError) → now ≡ asked → TellsNames old.macros more listed.macros names ((text, line) ∷ []) result → Told kinds.Macro with_macros macros_listed result
   macro_told (Ok done) same h = (
     record { words = []; macros = (text, line) ∷ [] },
     record { words = adds_none old.words listed.words; macros = h },
-    if_some known _ (λ contents. ([], asks_none asked now same, (refl, λ items rest answer further. defines old (item kinds.Macro).0 line items (text ∷ []) rest answer refl h.are_new further))),
+    answered kinds.Macro (text ∷ []) [] (asks_none asked now same) (known_none known) (refl, refl) h.are_new,
   )
-  macro_told (Err error) same h =
-      memory_error (IsTwice old.macros ((text, line) ∷ [])) (λ e. Answers known (ItemIs old (item kinds.Macro)) asked now (refuse_items e)) (IsMissing known) (AsksWithin asked now []) ([], [], refl, asks_none asked now same)
-      (λ e again. if_some known _ (λ contents. ([], asks_none asked now same, (refl, λ items. twice old (item kinds.Macro).0 line items (text ∷ []) e refl again)))) error h
+  macro_told (Err error) same h = refused kinds.Macro (text ∷ []) [] (asks_none asked now same) (known_none known) (refl, refl) error h ([], [], refl, asks_none asked now same)
 
   -- the words of a file
   abbrev words_of : List ℕ → List (List ℕ)
   words_of bytes = map (λ r. r.0) (runs_from WhiteSpace (without_mark bytes) 0)
 
-  -- a file that was read
-  abbrev IsRead : List ℕ → Contents → Type 0
-  IsRead bytes contents = FileGives (file contents text) (gives (words_of bytes))
+  abbrev one : Found → List Asked
+  one found = record { name = text; found = found } ∷ []
 
-  pub file_told : (bytes : List ℕ) (result : Result (Unit {0}) DictError) → now ≡ asked ++ text ∷ [] → IfSome known (IsRead bytes)
+  -- a file that was read
+  pub file_told : (bytes : List ℕ) (result : Result (Unit {0}) DictError) → now ≡ asked ++ text ∷ [] → AreKnown known (one (has_bytes bytes)) → FileGives (has_bytes bytes) (gives (words_of bytes))
       → TellsNames old.words more listed.words names (on_line line (words_of bytes)) result → Told kinds.File with_words words_listed result
-  file_told bytes (Ok done) same read h = (
+  file_told bytes (Ok done) same found given h = (
     record { words = on_line line (words_of bytes); macros = [] },
     record { words = h; macros = adds_none old.macros listed.macros },
-    if_some_map known (IsRead bytes) _ (λ contents given. (text ∷ [], same, (refl, λ items rest answer further. defines old (item kinds.File).0 line items (words_of bytes) rest answer given h.are_new further))) read,
+    answered kinds.File (words_of bytes) (one (has_bytes bytes)) same found (has_bytes bytes, refl, given) h.are_new,
   )
-  file_told bytes (Err error) same read h =
-      memory_error (IsTwice old.words (on_line line (words_of bytes))) (λ e. Answers known (ItemIs old (item kinds.File)) asked now (refuse_items e)) (IsMissing known) (AsksWithin asked now (text ∷ [])) (text ∷ [], [], refl, same)
-      (λ e again. if_some_map known (IsRead bytes) _ (λ contents given. (text ∷ [], same, (refl, λ items. twice old (item kinds.File).0 line items (words_of bytes) e given again))) read) error h
+  file_told bytes (Err error) same found given h = refused kinds.File (words_of bytes) (one (has_bytes bytes)) same found (has_bytes bytes, refl, given) error h (text ∷ [], [], refl, same)
 
   -- a file that was not
-  abbrev UnreadTold : Contents → DictError → Type 0
-  UnreadTold contents error = OnError (IsMissing (Some contents)) (AsksWithin asked now (text ∷ [])) (λ e. Answers (Some contents) (ItemIs old (item kinds.File)) asked now (refuse_items e)) error
+  abbrev UnreadTold : DictError → Type 0
+  UnreadTold error = ErrorTells (AsksWithin asked now (text ∷ [])) known (ItemIs old (item kinds.File)) refuse_items asked now error
 
-  unread_answers : (contents : Contents) (cause : WordFileError) → now ≡ asked ++ text ∷ [] → FileGives (file contents text) (fails cause) → Answers (Some contents) (ItemIs old (item kinds.File)) asked now (refuse_items (WordFile line text cause))
-  unread_answers contents cause same given = (text ∷ [], same, (refl, λ items. unread old (item kinds.File).0 line items cause given))
+  unread_answers : (cause : WordFileError) (found : Found) → now ≡ asked ++ text ∷ [] → FileGives found (fails cause) → AreKnown known (one found) → UnreadTold (WordFile line text cause)
+  unread_answers cause found same given are =
+      first_fault (WordFile line text cause) (record { asked = one found; names = same; found = are; answers = λ items. unread old (item kinds.File).0 line items (one found) cause (found, refl, given) })
 
-  by_cause : (contents : Contents) (cause : WordFileError) → now ≡ asked ++ text ∷ [] → AsksWithin asked now (text ∷ []) → ((cause ≡ Failed → file contents text ≡ None) → FileGives (file contents text) (fails cause))
-      → UnreadTold contents (WordFile line text cause)
-  by_cause contents TooLong same within leads = unread_answers contents TooLong same (leads (λ q. cc))
-  by_cause contents (NotUtf8 n) same within leads = unread_answers contents (NotUtf8 n) same (leads (λ q. cc))
-  by_cause contents Failed same within leads = (within, λ missing. unread_answers contents Failed same (leads (λ q. missing)))
+  by_cause : (cause : WordFileError) (found : Found) → now ≡ asked ++ text ∷ [] → AsksWithin asked now (text ∷ []) → FileGives found (fails cause) → IsFinding known text found cause → UnreadTold (WordFile line text cause)
+  by_cause TooLong found same within given finding = unread_answers TooLong found same given finding
+  by_cause (NotUtf8 n) found same within given finding = unread_answers (NotUtf8 n) found same given finding
+  by_cause Failed found same within given finding =
+      file_unread line text [] within same (known_none known) (λ items. unread old (item kinds.File).0 line items (one not_read) Failed (not_read, refl, subst (λ (f : Found). FileGives f (fails Failed)) finding given))
 
-  unread_known : (A : Type 0) (error : DictError) (o : Option Contents) → AsksFile {T = Vec ℕ A} asked now text (Err error) → IfSome o (λ contents. TellsFile {A = A} (file contents text) line text (Err error))
-      → OnError (IsMissing o) (AsksWithin asked now (text ∷ [])) (λ e. Answers o (ItemIs old (item kinds.File)) asked now (refuse_items e)) error
-  unread_known A error None asks read = error_untold (IsMissing None) (AsksWithin asked now (text ∷ [])) asks.0 error
-  unread_known A error (Some contents) asks read =
-      memory_both (IsUnread (file contents text) line text) (UnreadTold contents)
-      (now ≡ asked ++ text ∷ []) asks.0 (λ e same (cause, is, leads). subst (UnreadTold contents) (sym is) (by_cause contents cause same asks.0 leads)) error asks.1 read
+  unread_known : (A : Type 0) (error : DictError) → AsksFile {T = Vec ℕ A} asked now text (Err error) → TellsFile {A = A} known line text (Err error) → UnreadTold error
+  unread_known A error asks read =
+      memory_both (IsUnread known line text) UnreadTold (now ≡ asked ++ text ∷ []) (out_of_memory asks.0)
+      (λ e same (cause, found, is, given, finding). subst UnreadTold (sym is) (by_cause cause found same asks.0 given finding)) error asks.1 read
 
-  pub unread_told : (A : Type 0) (error : DictError) (kind : ItemKind) (name : List ℕ) → kind ≡ kinds.File → name ≡ text → AsksFile {T = Vec ℕ A} asked now name (Err error) → IfSome known (λ contents. TellsFile {A = A} (file contents name) line name (Err error))
-      → OnError (IsMissing known) (AsksWithin asked now (asked_by kind text)) (λ e. Answers known (ItemIs old (item kind)) asked now (refuse_items e)) error
+  pub unread_told : (A : Type 0) (error : DictError) (kind : ItemKind) (name : List ℕ) → kind ≡ kinds.File → name ≡ text → AsksFile {T = Vec ℕ A} asked now name (Err error) → TellsFile {A = A} known line name (Err error)
+      → ErrorTells (AsksWithin asked now (asked_by kind text)) known (ItemIs old (item kind)) refuse_items asked now error
   unread_told A error kind name is same asks read =
-      subst (λ (k : ItemKind). OnError (IsMissing known) (AsksWithin asked now (asked_by k text)) (λ e. Answers known (ItemIs old (item k)) asked now (refuse_items e)) error) (sym is)
-      (unread_known A error known (subst (λ (t : List ℕ). AsksFile {T = Vec ℕ A} asked now t (Err error)) same asks)
-      (subst (λ (t : List ℕ). IfSome known (λ contents. TellsFile {A = A} (file contents t) line t (Err error))) same read))
+      subst (λ (k : ItemKind). ErrorTells (AsksWithin asked now (asked_by k text)) known (ItemIs old (item k)) refuse_items asked now error) (sym is)
+      (unread_known A error (subst (λ (t : List ℕ). AsksFile {T = Vec ℕ A} asked now t (Err error)) same asks)
+      (subst (λ (t : List ℕ). TellsFile {A = A} known line t (Err error)) same read))
 
   -- ---- by the item's kind, where its text goes by another name
 
@@ -124,16 +137,12 @@ module _ (known : Option Contents) (asked now : List (List ℕ)) (old : Defined)
       subst (λ (k : ItemKind). Told k with_macros macros_listed result) (sym is)
       (macro_told result unasked (subst (λ (t : List ℕ). TellsNames old.macros more listed.macros names ((t, line) ∷ []) result) same h))
 
-  read_gives : (cut : (bytes : List ℕ) → AreRuns WhiteSpace (runs_from WhiteSpace bytes 0) 0 bytes) (A : Type 0) (bytes : Vec ℕ A) → IfSome known (λ contents. TellsFile {A = A} (file contents text) line text (Ok bytes)) → IfSome known (IsRead bytes.items)
-  read_gives cut A bytes read =
-      if_some_map known (λ contents. TellsFile {A = A} (file contents text) line text (Ok bytes)) (IsRead bytes.items)
-      (λ contents h. runs bytes.items (runs_from WhiteSpace (without_mark bytes.items) 0) h.0 h.1 h.2 (cut (without_mark bytes.items))) read
-
   pub of_file : (cut : (bytes : List ℕ) → AreRuns WhiteSpace (runs_from WhiteSpace bytes 0) 0 bytes) (A : Type 0) (bytes : Vec ℕ A) (result : Result (Unit {0}) DictError) (kind : ItemKind) (name file_text : List ℕ)
-      → kind ≡ kinds.File → name ≡ text → file_text ≡ without_mark bytes.items → now ≡ asked ++ name ∷ [] → IfSome known (λ contents. TellsFile {A = A} (file contents name) line name (Ok bytes))
+      → kind ≡ kinds.File → name ≡ text → file_text ≡ without_mark bytes.items → now ≡ asked ++ name ∷ [] → TellsFile {A = A} known line name (Ok bytes)
       → TellsNames old.words more listed.words names (on_line line (map (λ r. r.0) (runs_from WhiteSpace file_text 0))) result → Told kind with_words words_listed result
   of_file cut A bytes result kind name file_text is same marked asks read h =
       subst (λ (k : ItemKind). Told k with_words words_listed result) (sym is)
       (file_told bytes.items result (asks ∙ ap (λ (t : List ℕ). asked ++ t ∷ []) same)
-      (read_gives cut A bytes (subst (λ (t : List ℕ). IfSome known (λ contents. TellsFile {A = A} (file contents t) line t (Ok bytes))) same read))
+      (subst (λ (t : List ℕ). AreKnown known (record { name = t; found = has_bytes bytes.items } ∷ [])) same read.1)
+      (runs bytes.items (runs_from WhiteSpace (without_mark bytes.items) 0) read.0 (cut (without_mark bytes.items)))
       (subst (λ (t : List ℕ). TellsNames old.words more listed.words names (on_line line (map (λ r. r.0) (runs_from WhiteSpace t 0))) result) marked h))

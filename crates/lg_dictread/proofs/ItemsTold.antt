@@ -1,5 +1,5 @@
 -- What the items of an entry are told to define, one after another.
-use Rattle.std.proofs.Common.{◌≡◌, ℕ, Option, None, Some, IfSome, List, [], ◌∷◌, ◌++◌, refl, sym, ap, subst, ◌∙◌, append_assoc}
+use Rattle.std.proofs.Common.{◌≡◌, ℕ, Option, None, Some, List, [], ◌∷◌, ◌++◌, refl, sym, ap, subst, ◌∙◌, append_assoc}
 use Rattle.std.proofs.Common.{◌⊎◌, inl, inr, Bor, Iter}
 use Rattle.std.proofs.lemmas.List.{append-nil}
 use Rattle.std.proofs.lemmas.Slice.Zip.{Zip-more, either_empty_from_Zip}
@@ -10,12 +10,16 @@ use Rattle.std.specs.Slice.Iter.{iter_rest, iter_steps}
 use Rattle.lg_base.specs.Contents.{Contents}
 use Rattle.lg_base.specs.Files.{AsksWithin}
 use Rattle.lg_gram.specs.declared.entry.Item.{Item}
+use Rattle.lg_gram.specs.declared.entry.ItemKind.{ItemKind}
+use Rattle.lg_gram.specs.declared.entry.ItemKind.TheVariants as kinds
 use Rattle.lg_dictread.specs.declared.dict_error.DictError.{DictError}
-use Rattle.lg_dictread.specs.Definitions.{Lines, AreNew, Defined, none_defined, both, asked_by, ItemsAnswer, define, refuse_items, with_defined, ItemsGive, no_item, defines, twice, unread}
-use Rattle.lg_dictread.specs.Telling.{Answers, AsksFront, IsMissing, OnError}
-use Rattle.lg_dictread.specs.Defining.{names_in, AddsNames, Listed, none_listed, AddsDefined, ItemIs, ItemsAre}
-use Rattle.lg_dictread.proofs.ErrorMaps.{if_some, if_some_map, if_some_both, error_map}
-use Rattle.lg_dictread.proofs.ItemAnswers.{Laws, answer_of, items_give, is_items_answer}
+use Rattle.lg_dictread.specs.Definitions.{Lines, AreNew, Defined, none_defined, both, Given, gives, fails, KindGives, ItemsAnswer, define, refuse_items, with_defined, ItemsGive, no_item, defines, twice, unread}
+use Rattle.lg_dictread.specs.Findings.{Asked, names_of, AreKnown}
+use Rattle.lg_dictread.specs.Telling.{Answers, AsksFront, ErrorTells}
+use Rattle.lg_dictread.specs.Defining.{names_in, AddsNames, Listed, none_listed, AddsDefined, ItemIs, ItemsAre, asked_by}
+use Rattle.lg_dictread.proofs.Found.{names_then as found_then, grown_then, known_none, known_then, known_in, or_none, front_of}
+use Rattle.lg_dictread.proofs.ErrorMaps.{error_map}
+use Rattle.lg_dictread.proofs.ItemAnswers.{Laws, some_items}
 use Rattle.lg_dictread.proofs.ItemTold.{adds_none}
 
 -- ---- additions one after another
@@ -53,12 +57,14 @@ with_none d = λ i. define (record { words = append-nil d.words i; macros = appe
 
 -- ---- the items so far
 
--- what is defined so far, and what the answer of the items that are left makes of the answer of all
+-- what is defined and found so far, and what the answer of the items that are left makes of the answer of all
 pub record SoFar (known : Option Contents) (asked now : List (List ℕ)) (old at : Defined) (listed : Listed) (all rest : List (Item × ℕ)) : Type 0 where
   pub new : Defined
   pub adds : AddsDefined old at none_listed listed new
-  pub leads : IfSome known (λ contents. (names : List (List ℕ)) × (now ≡ asked ++ names)
-      × ((more : List (List ℕ)) (answer : ItemsAnswer) → ItemsGive contents at rest more answer → ItemsGive contents old all (names ++ more) (with_defined new answer)))
+  pub found : List Asked
+  pub grown : now ≡ asked ++ names_of found
+  pub known_so : AreKnown known found
+  pub leads : (more : List Asked) (answer : ItemsAnswer) → ItemsGive at rest more answer → ItemsGive old all (found ++ more) (with_defined new answer)
 
 with_nothing : (answer : ItemsAnswer) → with_defined none_defined answer ≡ answer
 with_nothing (define d) = refl
@@ -68,8 +74,22 @@ pub so_far_none : (known : Option Contents) (asked : List (List ℕ)) (old : Def
 so_far_none known asked old all = record {
   new = none_defined;
   adds = record { words = adds_none old.words []; macros = adds_none old.macros [] };
-  leads = if_some known _ (λ contents. ([], sym (append-nil asked), λ more answer h. subst (ItemsGive contents old all more) (sym (with_nothing answer)) h));
+  found = [];
+  grown = sym (append-nil asked);
+  known_so = known_none known;
+  leads = λ more answer h. subst (ItemsGive old all more) (sym (with_nothing answer)) h;
 }
+
+-- an item asks for its word file
+asked_here : (kind : ItemKind) (text : List ℕ) (here : List Asked) (given : Given) → KindGives kind text here given → names_of here ≡ asked_by kind text
+asked_here kinds.Word text here given h = ap names_of h.0
+asked_here kinds.Macro text here given h = ap names_of h.0
+asked_here kinds.File text here given h = ap names_of h.1
+
+first_asked : (at : Defined) (left : List (Item × ℕ)) (i : Item × ℕ) (asked : List Asked) (answer : ItemsAnswer) → ItemsGive at (i ∷ left) asked answer → (more : List (List ℕ)) × (names_of asked ≡ asked_by i.0.kind i.0.text ++ more)
+first_asked at left i asked answer (defines e item line items given here more reply is new h) = (names_of more, found_then here more ∙ ap (λ (l : List (List ℕ)). l ++ names_of more) (asked_here item.kind item.text here (gives given) is))
+first_asked at left i asked answer (twice e item line items given here error is again) = ([], asked_here item.kind item.text here (gives given) is ∙ sym (append-nil (asked_by item.kind item.text)))
+first_asked at left i asked answer (unread e item line items here cause is) = ([], asked_here item.kind item.text here (fails cause) is ∙ sym (append-nil (asked_by item.kind item.text)))
 
 module _ (known : Option Contents) (asked now : List (List ℕ)) (old at : Defined) (listed : Listed) (all rest : List (Item × ℕ)) (so_far : SoFar known asked now old at listed all rest) where
   -- one item more
@@ -78,70 +98,55 @@ module _ (known : Option Contents) (asked now : List (List ℕ)) (old at : Defin
   so_far_more next to more left i d split adds answers = record {
     new = both so_far.new d;
     adds = defined_then old at to none_listed listed more so_far.new d so_far.adds adds;
-    leads = if_some_both known _ _ _
-        (λ contents leads (names, next_is, (asks, on)). (
-          leads.0 ++ names,
-          next_is ∙ ap (λ (l : List (List ℕ)). l ++ names) leads.1 ∙ append_assoc asked leads.0 names,
-          λ further answer h.
-              let here = on left further answer (subst (λ (x : Defined). ItemsGive contents x left further answer) (now_is at to listed more d adds) h) in
-              let whole = leads.2 (names ++ further) (with_defined d answer) (subst (λ (l : List (Item × ℕ)). ItemsGive contents at l (names ++ further) (with_defined d answer)) (sym split) here) in
-              subst (λ (l : List (List ℕ)). ItemsGive contents old all l (with_defined (both so_far.new d) answer)) (sym (append_assoc leads.0 names further))
-              (subst (ItemsGive contents old all (leads.0 ++ (names ++ further))) (with_both so_far.new d answer) whole),
-        ))
-        so_far.leads answers;
+    found = so_far.found ++ answers.asked;
+    grown = grown_then asked now next so_far.found answers.asked so_far.grown answers.names;
+    known_so = known_then known so_far.found answers.asked so_far.known_so answers.found;
+    leads = λ further answer h.
+        let here = answers.answers left further answer (subst (λ (x : Defined). ItemsGive x left further answer) (now_is at to listed more d adds) h) in
+        let whole = so_far.leads (answers.asked ++ further) (with_defined d answer) (subst (λ (l : List (Item × ℕ)). ItemsGive at l (answers.asked ++ further) (with_defined d answer)) (sym split) here) in
+        subst (λ (l : List Asked). ItemsGive old all l (with_defined (both so_far.new d) answer)) (sym (append_assoc so_far.found answers.asked further))
+        (subst (ItemsGive old all (so_far.found ++ (answers.asked ++ further))) (with_both so_far.new d answer) whole);
   }
 
   -- no item is left
   pub so_far_all : rest ≡ [] → (d : Defined) × AddsDefined old at none_listed listed d × Answers known (ItemsAre old all) asked now (define d)
-  so_far_all ends = (
-    so_far.new,
-    so_far.adds,
-    if_some_map known _ _
-        (λ contents leads.
-        let whole = leads.2 [] (define none_defined) (subst (λ (l : List (Item × ℕ)). ItemsGive contents at l [] (define none_defined)) (sym ends) (no_item at)) in
-        (leads.0, leads.1, subst (λ (l : List (List ℕ)). ItemsGive contents old all l (define so_far.new)) (append-nil leads.0) (subst (ItemsGive contents old all (leads.0 ++ [])) (with_none so_far.new) whole)))
-        so_far.leads,
-  )
-
-  -- an item is at fault
-  fault_here : (next : List (List ℕ)) (left : List (Item × ℕ)) (i : Item × ℕ) → rest ≡ i ∷ left → (error : DictError) → Answers known (ItemIs at i) now next (refuse_items error) → Answers known (ItemsAre old all) asked next (refuse_items error)
-  fault_here next left i split error answers =
-      if_some_both known _ _ _
-      (λ contents leads (names, next_is, (asks, on)). (
-        leads.0 ++ names,
-        next_is ∙ ap (λ (l : List (List ℕ)). l ++ names) leads.1 ∙ append_assoc asked leads.0 names,
-        leads.2 names (refuse_items error) (subst (λ (l : List (Item × ℕ)). ItemsGive contents at l names (refuse_items error)) (sym split) (on left)),
-      ))
-      so_far.leads answers
-
-  first_asked : (contents : Contents) (left : List (Item × ℕ)) (i : Item × ℕ) (names : List (List ℕ)) (answer : ItemsAnswer) → ItemsGive contents at (i ∷ left) names answer → (more : List (List ℕ)) × (names ≡ asked_by i.0.kind i.0.text ++ more)
-  first_asked contents left i names answer (defines e item line items given more reply is new h) = (more, refl)
-  first_asked contents left i names answer (twice e item line items given error is again) = ([], sym (append-nil (asked_by item.kind item.text)))
-  first_asked contents left i names answer (unread e item line items cause is) = ([], sym (append-nil (asked_by item.kind item.text)))
+  so_far_all ends =
+      let whole = so_far.leads [] (define none_defined) (subst (λ (l : List (Item × ℕ)). ItemsGive at l [] (define none_defined)) (sym ends) (no_item at)) in (
+        so_far.new,
+        so_far.adds,
+        record {
+          asked = so_far.found;
+          names = so_far.grown;
+          found = so_far.known_so;
+          answers = subst (λ (l : List Asked). ItemsGive old all l (define so_far.new)) (append-nil so_far.found) (subst (ItemsGive old all (so_far.found ++ [])) (with_none so_far.new) whole);
+        },
+      )
 
   -- the call ends at an item
   front_here : (laws : Laws) (next : List (List ℕ)) (left : List (Item × ℕ)) (i : Item × ℕ) → rest ≡ i ∷ left → AsksWithin now next (asked_by i.0.kind i.0.text) → AsksFront known (ItemsAre old all) asked next
   front_here laws next left i split within =
-      if_some_map known _ _
-      (λ contents leads names answer is.
-      let here = items_give laws contents (i ∷ left) at in
-      let first = first_asked contents left i (answer_of laws contents at (i ∷ left)).0 (answer_of laws contents at (i ∷ left)).1 here in
-      let whole = leads.2 (answer_of laws contents at (i ∷ left)).0 (answer_of laws contents at (i ∷ left)).1 (subst (λ (l : List (Item × ℕ)). ItemsGive contents at l (answer_of laws contents at (i ∷ left)).0 (answer_of laws contents at (i ∷ left)).1) (sym split) here) in
-      let same : names ≡ leads.0 ++ (answer_of laws contents at (i ∷ left)).0 = ap (λ (a : List (List ℕ) × ItemsAnswer). a.0) (sym (is_items_answer laws contents old all names answer is) ∙ is_items_answer laws contents old all (leads.0 ++ (answer_of laws contents at (i ∷ left)).0) _ whole) in (
-        leads.0 ++ within.0,
-        within.1 ++ first.0,
-        same ∙ ap (λ (l : List (List ℕ)). leads.0 ++ l) (first.1 ∙ ap (λ (l : List (List ℕ)). l ++ first.0) within.2 ∙ append_assoc within.0 within.1 first.0) ∙ sym (append_assoc leads.0 within.0 (within.1 ++ first.0)),
-        within.3 ∙ ap (λ (l : List (List ℕ)). l ++ within.0) leads.1 ∙ append_assoc asked leads.0 within.0,
-      ))
-      so_far.leads
+      let here = some_items laws (or_none known) (i ∷ left) at in
+      let first = first_asked at left i here.0 here.1 here.3 in
+      let cut = front_of here.0 within.0 (within.1 ++ first.0) (first.1 ∙ ap (λ (l : List (List ℕ)). l ++ first.0) within.2 ∙ append_assoc within.0 within.1 first.0) in
+      let parts : so_far.found ++ here.0 ≡ (so_far.found ++ cut.0) ++ cut.1 = ap (λ (l : List Asked). so_far.found ++ l) cut.2 ∙ sym (append_assoc so_far.found cut.0 cut.1) in
+      record {
+        front = so_far.found ++ cut.0;
+        rest = cut.1;
+        answer = with_defined so_far.new here.1;
+        names = grown_then asked now next so_far.found cut.0 so_far.grown (within.3 ∙ ap (λ (l : List (List ℕ)). now ++ l) (sym cut.3));
+        found = subst (AreKnown known) parts (known_then known so_far.found here.0 so_far.known_so (known_in known here.0 here.2));
+        answers = subst (λ (l : List Asked). ItemsGive old all l (with_defined so_far.new here.1)) parts
+            (so_far.leads here.0 here.1 (subst (λ (l : List (Item × ℕ)). ItemsGive at l here.0 here.1) (sym split) here.3));
+      }
 
   -- the error of an item is that of all
   pub so_far_error : (laws : Laws) (next : List (List ℕ)) (left : List (Item × ℕ)) (i : Item × ℕ) (error : DictError) → rest ≡ i ∷ left
-      → OnError (IsMissing known) (AsksWithin now next (asked_by i.0.kind i.0.text)) (λ e. Answers known (ItemIs at i) now next (refuse_items e)) error
-      → OnError (IsMissing known) (AsksFront known (ItemsAre old all) asked next) (λ e. Answers known (ItemsAre old all) asked next (refuse_items e)) error
+      → ErrorTells (AsksWithin now next (asked_by i.0.kind i.0.text)) known (ItemIs at i) refuse_items now next error
+      → ErrorTells (AsksFront known (ItemsAre old all) asked next) known (ItemsAre old all) refuse_items asked next error
   so_far_error laws next left i error split tells =
-      error_map (λ e. Answers known (ItemIs at i) now next (refuse_items e)) (λ e. Answers known (ItemsAre old all) asked next (refuse_items e))
-      (IsMissing known) (AsksWithin now next (asked_by i.0.kind i.0.text)) (AsksFront known (ItemsAre old all) asked next) (front_here laws next left i split) (fault_here next left i split) error tells
+      error_map (AsksWithin now next (asked_by i.0.kind i.0.text)) (AsksFront known (ItemsAre old all) asked next) known (ItemIs at i) (ItemsAre old all) refuse_items refuse_items asked now next so_far.found
+      so_far.known_so so_far.grown (front_here laws next left i split)
+      (λ further e on. so_far.leads further (refuse_items e) (subst (λ (l : List (Item × ℕ)). ItemsGive at l further (refuse_items e)) (sym split) (on left))) error tells
 
 -- ---- a loop over items and their lines
 

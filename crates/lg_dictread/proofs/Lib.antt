@@ -2,6 +2,8 @@ pub mod Entries
 pub mod Kept
 pub mod EntryTexts
 pub mod EntryBounds
+pub mod Found
+pub mod ErrorMaps
 pub mod NewNames
 pub mod ItemAnswers
 pub mod Measured
@@ -9,7 +11,6 @@ pub mod TextAnswers
 pub mod Dictionaries
 pub mod Lookups
 pub mod Adding
-pub mod ErrorMaps
 pub mod Unread
 pub mod ItemTold
 pub mod ItemsTold

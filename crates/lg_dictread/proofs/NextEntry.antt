@@ -7,7 +7,6 @@ use Rattle.std.proofs.lemmas.List.Folds.{flat_map-map}
 use Rattle.std.specs.List.{AllByRecursion, zip, flat_map, list_any}
 use Rattle.std.specs.Str.{IsUtf8}
 use Rattle.lg_base.specs.Contents.{Contents}
-use Rattle.lg_base.specs.Files.{AsksWithin}
 use Rattle.lg_gram.specs.Filled.{Formulas, filled}
 use Rattle.lg_gram.specs.Trees.{Tree}
 use Rattle.lg_gram.specs.declared.entry.Entry.{Entry}
@@ -36,7 +35,7 @@ use Rattle.lg_dictread.specs.Scanning.{items_end, items_stop, scan}
 use Rattle.lg_dictread.specs.Recalling.{Means, IsRefused, at_fault, large}
 use Rattle.lg_dictread.specs.Places.{line_of, entry_line, part_left}
 use Rattle.lg_dictread.specs.View.{TellsFault, TellsStop, KeepsItems, TellsItems}
-use Rattle.lg_dictread.specs.Telling.{Answers, AsksFront, IsMissing, UnlessMemory, OnError}
+use Rattle.lg_dictread.specs.Telling.{Answers, AsksFront, UnlessMemory, ErrorTells}
 use Rattle.lg_dictread.specs.Definitions.{same_text, both, Lines, AreNew, Defined, ItemsAnswer, define, refuse_items, ItemsGive}
 use Rattle.lg_dictread.specs.Defining.{names_in, defined_in, Listed, listed_in, none_listed, AddsDefined, HasUtf8Name, ItemsAre}
 use Rattle.lg_dictread.specs.Texts.{Earlier, rules_after, Meaning, meaning_of, IsSmall, IsLarge, IsErrorOf, EntryOutcome, means, fails, EntryGives, whole, at_items}
@@ -44,11 +43,12 @@ use Rattle.lg_dictread.specs.Texts as outcomes
 use Rattle.lg_dictread.specs.DictTexts.{entry_meaning}
 use Rattle.lg_dictread.specs.Reading.{formulas_of, named_meaning, AddsEntry, AreListed, ListsAll, TellsStopBy, AreUtf8, NextIs}
 use Rattle.lg_dictread.proofs.Entries.{ScanIs, scan_is}
-use Rattle.lg_dictread.proofs.ErrorMaps.{if_some, if_some_map, memory_map, memory_error, error_map}
+use Rattle.lg_dictread.proofs.ErrorMaps.{memory_map, memory_error, error_map}
 use Rattle.lg_dictread.proofs.ItemsTold.{new_then, names_then, now_is}
-use Rattle.lg_dictread.proofs.ItemAnswers as item_answers
-use Rattle.lg_dictread.proofs.ItemAnswers.{Laws, items_give}
-use Rattle.lg_dictread.proofs.TextAnswers.{EntryLaws, one_outcome}
+use Rattle.lg_dictread.specs.Findings.{Asked}
+use Rattle.lg_dictread.proofs.Found.{known_none, known_in, or_none}
+use Rattle.lg_dictread.proofs.ItemAnswers.{Laws}
+use Rattle.lg_dictread.proofs.TextAnswers.{EntryLaws, some_outcome}
 
 -- ---- items with their lines
 
@@ -172,88 +172,68 @@ line_told text ts x h line is = is ∙ ap (λ (l : List ℕ). slice_index l 0) h
 -- ---- what the entry gives
 
 module _ (known : Option Contents) (asked : List (List ℕ)) (text : List ℕ) (earlier : Earlier) (ts : List Token) where
-  abbrev Is : Contents → List (List ℕ) → EntryOutcome → Type 0
-  Is contents names o = EntryGives contents text earlier ts names o
+  unasked : (o : EntryOutcome) → EntryGives text earlier ts [] o → Answers known (NextIs text earlier ts) asked asked o
+  unasked o h = record { asked = []; names = sym (append-nil asked); found = known_none known; answers = h }
 
   -- nothing was asked
-  pub asks_nothing : AsksFront known (NextIs text earlier ts) asked asked
-  asks_nothing = if_some known _ (λ contents names o h. ([], names, refl, sym (append-nil asked)))
+  pub asks_nothing : Laws → EntryLaws → AsksFront known (NextIs text earlier ts) asked asked
+  asks_nothing laws entry_laws =
+      let here = some_outcome laws entry_laws text earlier (or_none known) ts in
+      record { front = []; rest = here.0; answer = here.1; names = sym (append-nil asked); found = known_in known here.0 here.2; answers = here.3 }
 
-  unasked : (o : EntryOutcome) → ((contents : Contents) → Is contents [] o) → Answers known (NextIs text earlier ts) asked asked o
-  unasked o h = if_some known _ (λ contents. ([], sym (append-nil asked), h contents))
+  abbrev Tells : List (List ℕ) → DictError → Type 0
+  Tells now error = ErrorTells (AsksFront known (NextIs text earlier ts) asked now) known (NextIs text earlier ts) fails asked now error
 
   -- a fault before the colon
-  pub items_stop_gives : (stop : Stop) (error : DictError) → TellsItems text (scan [] ts) (Err stop) → TellsStopBy stop error
-      → OnError (IsMissing known) (AsksFront known (NextIs text earlier ts) asked asked) (λ e. Answers known (NextIs text earlier ts) asked asked (fails e)) error
-  items_stop_gives stop error tells by =
+  pub items_stop_gives : Laws → EntryLaws → (stop : Stop) (error : DictError) → TellsItems text (scan [] ts) (Err stop) → TellsStopBy stop error → Tells asked error
+  items_stop_gives laws entry_laws stop error tells by =
       let Told : DictError → Type 0 = λ e. Answers known (NextIs text earlier ts) asked asked (fails e) in
-      memory_error Told Told (IsMissing known) (AsksFront known (NextIs text earlier ts) asked asked) asks_nothing (λ e h. h) error
+      memory_error Told (AsksFront known (NextIs text earlier ts) asked asked) known (NextIs text earlier ts) fails asked asked (asks_nothing laws entry_laws) (λ e h. h) error
       (stop_told text (λ f left. (f ≡ Syntax) × (scan [] ts ≡ items_stop left)) Told
       (λ f left e (is, same) at.
       let found : ScanIs [] ts (items_stop left) = subst (ScanIs [] ts) same (scan_is ts []) in
-      unasked (fails e) (λ contents. outcomes.at_fault f left e (subst (λ (x : expr_fault.Fault). EntryFault (rules_after earlier) ts x left) (sym is) (in_items found.0 found.1 found.2)) at))
+      unasked (fails e) (outcomes.at_fault f left e (subst (λ (x : expr_fault.Fault). EntryFault (rules_after earlier) ts x left) (sym is) (in_items found.0 found.1 found.2)) at))
       stop error tells by)
 
   -- a fault of the expression, or a formula past a measure
   refused_told : (head : PlacedItems) (h : HasHead text ts head) (line : ℕ) (error : DictError) → line ≡ entry_line text h.items
       → IsRefused text earlier.formulas line (tokens_from Dictionary text head.end.at) error → Answers known (NextIs text earlier ts) asked asked (fails error)
   refused_told head h line error is (at_fault f left first at) =
-      unasked (fails error) (λ contents. outcomes.at_fault f left error (in_expression h.items h.mark (tokens_from Dictionary text head.end.at) h.some h.are_items h.is_colon first) at)
+      unasked (fails error) (outcomes.at_fault f left error (in_expression h.items h.mark (tokens_from Dictionary text head.end.at) h.some h.are_items h.is_colon first) at)
   refused_told head h line error is (large e n rest stands passed) =
-      unasked (fails error) (λ contents. outcomes.large (record { items = h.items; expr = e; level = n }) rest error
+      unasked (fails error) (outcomes.large (record { items = h.items; expr = e; level = n }) rest error
       (record { mark = h.mark; body = tokens_from Dictionary text head.end.at; some = h.some; are_items = h.are_items; is_colon = h.is_colon; stands = stands })
       (subst (λ (n : ℕ). IsLarge (filled earlier.formulas e) n error) is passed))
 
-  pub refused_gives : (head : PlacedItems) (h : HasHead text ts head) (line : ℕ) (error : DictError) → line ≡ entry_line text h.items
-      → UnlessMemory (IsRefused text earlier.formulas line (tokens_from Dictionary text head.end.at)) error
-      → OnError (IsMissing known) (AsksFront known (NextIs text earlier ts) asked asked) (λ e. Answers known (NextIs text earlier ts) asked asked (fails e)) error
-  refused_gives head h line error is refused =
-      let Told : DictError → Type 0 = λ e. Answers known (NextIs text earlier ts) asked asked (fails e) in
-      memory_error (IsRefused text earlier.formulas line (tokens_from Dictionary text head.end.at)) Told (IsMissing known) (AsksFront known (NextIs text earlier ts) asked asked) asks_nothing (λ e r. refused_told head h line e is r) error refused
+  pub refused_gives : Laws → EntryLaws → (head : PlacedItems) (h : HasHead text ts head) (line : ℕ) (error : DictError) → line ≡ entry_line text h.items
+      → UnlessMemory (IsRefused text earlier.formulas line (tokens_from Dictionary text head.end.at)) error → Tells asked error
+  refused_gives laws entry_laws head h line error is refused =
+      memory_error (IsRefused text earlier.formulas line (tokens_from Dictionary text head.end.at)) (AsksFront known (NextIs text earlier ts) asked asked) known (NextIs text earlier ts) fails asked asked
+      (asks_nothing laws entry_laws) (λ e r. refused_told head h line e is r) error refused
 
   module _ (e : Written) (rest : List Token) (stands : EntryStands (rules_after earlier) ts e rest) where
     module _ (small : IsSmall (filled earlier.formulas e.expr)) (lined : List (Item × ℕ)) (are : lined ≡ map (λ i. (i.0, line_of text i)) e.items) (now : List (List ℕ)) where
-      at_lines : (contents : Contents) (names : List (List ℕ)) (answer : ItemsAnswer) → ItemsGive contents earlier.defined lined names answer → ItemsGive contents earlier.defined (map (λ i. (i.0, line_of text i)) e.items) names answer
-      at_lines contents names answer h = subst (λ (l : List (Item × ℕ)). ItemsGive contents earlier.defined l names answer) are h
+      at_lines : (found : List Asked) (answer : ItemsAnswer) → ItemsGive earlier.defined lined found answer → ItemsGive earlier.defined (map (λ i. (i.0, line_of text i)) e.items) found answer
+      at_lines found answer h = subst (λ (l : List (Item × ℕ)). ItemsGive earlier.defined l found answer) are h
 
       -- the items define so much
       pub whole_gives : (d : Defined) → Answers known (ItemsAre earlier.defined lined) asked now (define d) → Answers known (NextIs text earlier ts) asked now (means (meaning_of text earlier e d) d rest)
-      whole_gives d h = if_some_map known _ _ (λ contents (names, is, give). (names, is, whole e rest names d stands small (at_lines contents names (define d) give))) h
+      whole_gives d h = record { asked = h.asked; names = h.names; found = h.found; answers = whole e rest h.asked d stands small (at_lines h.asked (define d) h.answers) }
 
-      items_give_error : (error : DictError) → Answers known (ItemsAre earlier.defined lined) asked now (refuse_items error) → Answers known (NextIs text earlier ts) asked now (fails error)
-      items_give_error error h = if_some_map known _ _ (λ contents (names, is, give). (names, is, at_items e rest names error stands small (at_lines contents names (refuse_items error) give))) h
+      by_items : (found : List Asked) (answer : ItemsAnswer) → ItemsGive earlier.defined lined found answer → (o : EntryOutcome) × EntryGives text earlier ts found o
+      by_items found (define d) h = (means (meaning_of text earlier e d) d rest, whole e rest found d stands small (at_lines found (define d) h))
+      by_items found (refuse_items error) h = (fails error, at_items e rest found error stands small (at_lines found (refuse_items error) h))
 
-      module _ (laws : Laws) (entry_laws : EntryLaws) where
-        abbrev Front : List (List ℕ) → Type 0
-        Front names = AsksWithin asked now names
+      front_gives : AsksFront known (ItemsAre earlier.defined lined) asked now → AsksFront known (NextIs text earlier ts) asked now
+      front_gives h =
+          let o = by_items (h.front ++ h.rest) h.answer h.answers in
+          record { front = h.front; rest = h.rest; answer = o.0; names = h.names; found = h.found; answers = o.1 }
 
-        -- what the items ask is what the entry asks
-        same_asked : (contents : Contents) (names asks : List (List ℕ)) (o : EntryOutcome) (answer : ItemsAnswer) → Is contents names o → ItemsGive contents earlier.defined lined asks answer → asks ≡ names
-        same_asked contents names asks o (define d) h give =
-            (one_outcome laws entry_laws contents text earlier ts asks names (means (meaning_of text earlier e d) d rest) o (whole e rest asks d stands small (at_lines contents asks (define d) give)) h).0
-        same_asked contents names asks o (refuse_items error) h give =
-            (one_outcome laws entry_laws contents text earlier ts asks names (fails error) o (at_items e rest asks error stands small (at_lines contents asks (refuse_items error) give)) h).0
-
-        front_gives : AsksFront known (ItemsAre earlier.defined lined) asked now → AsksFront known (NextIs text earlier ts) asked now
-        front_gives h =
-            if_some_map known _ _
-            (λ contents front names o is.
-            let given = items_give laws contents lined earlier.defined in
-            let a = item_answers.answer_of laws contents earlier.defined lined in
-            subst Front (same_asked contents names a.0 o a.1 is given) (front a.0 a.1 given)) h
-
-        -- an item is at fault, or the call ends before
-        pub items_error : (error : DictError) → OnError (IsMissing known) (AsksFront known (ItemsAre earlier.defined lined) asked now) (λ x. Answers known (ItemsAre earlier.defined lined) asked now (refuse_items x)) error
-            → OnError (IsMissing known) (AsksFront known (NextIs text earlier ts) asked now) (λ x. Answers known (NextIs text earlier ts) asked now (fails x)) error
-        items_error error h =
-            error_map (λ x. Answers known (ItemsAre earlier.defined lined) asked now (refuse_items x)) (λ x. Answers known (NextIs text earlier ts) asked now (fails x))
-            (IsMissing known) (AsksFront known (ItemsAre earlier.defined lined) asked now) (AsksFront known (NextIs text earlier ts) asked now) front_gives items_give_error error h
-
-        -- all is asked, and memory runs out
-        pub all_asked : (o : EntryOutcome) → Answers known (NextIs text earlier ts) asked now o → AsksFront known (NextIs text earlier ts) asked now
-        all_asked o h =
-            if_some_map known _ _
-            (λ contents (asks, now_is, given) names p is. (asks, [], (one_outcome laws entry_laws contents text earlier ts names asks p o is given).0 ∙ sym (append-nil asks), now_is)) h
+      -- an item is at fault, or the call ends before
+      pub items_error : (error : DictError) → ErrorTells (AsksFront known (ItemsAre earlier.defined lined) asked now) known (ItemsAre earlier.defined lined) refuse_items asked now error → Tells now error
+      items_error error h =
+          error_map (AsksFront known (ItemsAre earlier.defined lined) asked now) (AsksFront known (NextIs text earlier ts) asked now) known (ItemsAre earlier.defined lined) (NextIs text earlier ts) refuse_items fails asked asked now []
+          (known_none known) (sym (append-nil asked)) front_gives (λ found x give. at_items e rest found x stands small (at_lines found (refuse_items x) give)) error h
 
 -- ---- what the entry means
 

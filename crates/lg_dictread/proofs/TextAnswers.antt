@@ -1,5 +1,6 @@
 -- A text has one answer, and asks for one list of word files.
 use Rattle.std.proofs.Common.{◌≡◌, ◌≢◌, ℕ, zero, suc, ◌+◌, ◌<◌, ◌≤◌, List, [], ◌∷◌, ◌++◌, length, map, inl, inr, refl, sym, ap, subst, ◌∙◌, arith, length-append}
+use Rattle.std.proofs.lemmas.List.{append-nil}
 use Rattle.lg_base.specs.Contents.{Contents}
 use Rattle.lg_gram.specs.declared.entry.Item.{Item}
 use Rattle.lg_gram.specs.Filled.{filled}
@@ -18,9 +19,10 @@ use Rattle.lg_dictread.specs.Scanning as scanning
 use Rattle.lg_dictread.specs.Places.{part_left, line_of, entry_line}
 use Rattle.lg_dictread.specs.Definitions.{Defined, ItemsAnswer, define, refuse_items, ItemsGive}
 use Rattle.lg_dictread.specs.Texts as texts
-use Rattle.lg_dictread.specs.Texts.{Earlier, nothing, rules_after, Meaning, meaning_of, then_entry, IsSmall, IsLarge, IsErrorOf, EntryOutcome, means, fails, EntryGives, whole, at_fault, large, at_items, TextAnswer, stands, refuse, with_meaning, TextIs, ended, DictionaryIs, not_utf8, text}
-use Rattle.lg_dictread.proofs.ItemAnswers as item_answers
-use Rattle.lg_dictread.proofs.ItemAnswers.{Laws, items_give, is_items_answer}
+use Rattle.lg_dictread.specs.Texts.{Earlier, nothing, rules_after, Meaning, meaning_of, then_entry, IsSmall, IsLarge, IsErrorOf, EntryOutcome, means, fails, EntryGives, whole, at_fault, large, at_items, TextAnswer, stands, refuse, with_meaning, TextIs, ended}
+use Rattle.lg_dictread.specs.Findings.{Asked, AreIn}
+use Rattle.lg_dictread.proofs.Found.{in_then}
+use Rattle.lg_dictread.proofs.ItemAnswers.{Laws, Agree, agree_left, agree_right, agree_rest, one_items, SomeItems, some_items}
 use Rattle.lg_dictread.proofs.Measured.{SmallOrLarge, small_or_large, not_large, one_large}
 
 -- ---- the error of a fault
@@ -62,164 +64,178 @@ pub record EntryLaws : Type 0 where
   pub some : (r : Rules) (ts : List Token) → EntryIs r ts (scanning.answer_of r ts)
   pub one : (r : Rules) (ts : List Token) (x y : EntryAnswer) → EntryIs r ts x → EntryIs r ts y → x ≡ y
 
-module _ (laws : Laws) (entry_laws : EntryLaws) (contents : Contents) (bytes : List ℕ) where
-  abbrev Outcome : Type 0
-  Outcome = List (List ℕ) × EntryOutcome
-
+module _ (laws : Laws) (entry_laws : EntryLaws) (bytes : List ℕ) where
   abbrev lined : Written → List (Item × ℕ)
   lined e = map (λ i. (i.0, line_of bytes i)) e.items
 
   module _ (earlier : Earlier) where
-    abbrev items_outcome : Written → List Token → List (List ℕ) × ItemsAnswer → Outcome
-    items_outcome e rest (asked, define new) = (asked, means (meaning_of bytes earlier e new) new rest)
-    items_outcome e rest (asked, refuse_items error) = (asked, fails error)
+    -- ---- an entry has one outcome
 
-    abbrev sized_outcome : (e : Written) → List Token → SmallOrLarge (filled earlier.formulas e.expr) (entry_line bytes e.items) → Outcome
-    sized_outcome e rest (inl small) = items_outcome e rest (item_answers.answer_of laws contents earlier.defined (lined e))
-    sized_outcome e rest (inr (error, h)) = ([], fails error)
+    abbrev by_items : Written → List Token → ItemsAnswer → EntryOutcome
+    by_items e rest (define new) = means (meaning_of bytes earlier e new) new rest
+    by_items e rest (refuse_items error) = fails error
 
-    abbrev stood_outcome : Written → List Token → Outcome
-    stood_outcome e rest = sized_outcome e rest (small_or_large (filled earlier.formulas e.expr) (entry_line bytes e.items))
+    -- what is found and the outcome, by the measures of the entry
+    abbrev Stood : (e : Written) → List Token → List Asked → EntryOutcome → SmallOrLarge (filled earlier.formulas e.expr) (entry_line bytes e.items) → Type 0
+    Stood e rest asked o (inl small) = (x : ItemsAnswer) × ItemsGive earlier.defined (lined e) asked x × (o ≡ by_items e rest x)
+    Stood e rest asked o (inr (error, h)) = (asked ≡ []) × (o ≡ fails error)
 
-    abbrev outcome : (ts : List Token) (a : EntryAnswer) → EntryIs (rules_after earlier) ts a → Outcome
-    outcome ts (entry e rest) h = stood_outcome e rest
-    outcome ts (fault f left) h = ([], fails (error_at (place_left bytes left) (part_left left) f (named (rules_after earlier) ts f left h)).0)
+    abbrev Sized : (e : Written) → List Token → List Asked → EntryOutcome → Type 0
+    Sized e rest asked o = Stood e rest asked o (small_or_large (filled earlier.formulas e.expr) (entry_line bytes e.items))
 
-    abbrev Gives : List Token → Outcome → Type 0
-    Gives ts o = EntryGives contents bytes earlier ts o.0 o.1
+    abbrev ByAnswer : (ts : List Token) (a : EntryAnswer) → EntryIs (rules_after earlier) ts a → List Asked → EntryOutcome → Type 0
+    ByAnswer ts (entry e rest) h asked o = Sized e rest asked o
+    ByAnswer ts (fault f left) h asked o = (asked ≡ []) × (o ≡ fails (error_at (place_left bytes left) (part_left left) f (named (rules_after earlier) ts f left h)).0)
 
-    items_gives : (ts : List Token) (e : Written) (rest : List Token) (a : List (List ℕ) × ItemsAnswer) → EntryStands (rules_after earlier) ts e rest → IsSmall (filled earlier.formulas e.expr)
-        → ItemsGive contents earlier.defined (lined e) a.0 a.1 → Gives ts (items_outcome e rest a)
-    items_gives ts e rest (asked, define new) h small give = whole e rest asked new h small give
-    items_gives ts e rest (asked, refuse_items error) h small give = at_items e rest asked error h small give
+    abbrev IsOutcome : List Token → List Asked → EntryOutcome → Type 0
+    IsOutcome ts asked o = ByAnswer ts (scanning.answer_of (rules_after earlier) ts) (entry_laws.some (rules_after earlier) ts) asked o
 
-    sized_gives : (ts : List Token) (e : Written) (rest : List Token) (s : SmallOrLarge (filled earlier.formulas e.expr) (entry_line bytes e.items)) → EntryStands (rules_after earlier) ts e rest → Gives ts (sized_outcome e rest s)
-    sized_gives ts e rest (inl small) h = items_gives ts e rest (item_answers.answer_of laws contents earlier.defined (lined e)) h small (items_give laws contents (lined e) earlier.defined)
-    sized_gives ts e rest (inr (error, is)) h = large e rest error h is
+    small_stood : (e : Written) (rest : List Token) (asked : List Asked) (x : ItemsAnswer) (s : SmallOrLarge (filled earlier.formulas e.expr) (entry_line bytes e.items)) → IsSmall (filled earlier.formulas e.expr)
+        → ItemsGive earlier.defined (lined e) asked x → Stood e rest asked (by_items e rest x) s
+    small_stood e rest asked x (inl small) is give = (x, give, refl)
+    small_stood e rest asked x (inr (error, h)) is give = absurd (not_large (filled earlier.formulas e.expr) (entry_line bytes e.items) error is h)
 
-    gives_outcome : (ts : List Token) (a : EntryAnswer) (h : EntryIs (rules_after earlier) ts a) → Gives ts (outcome ts a h)
-    gives_outcome ts (entry e rest) h = sized_gives ts e rest (small_or_large (filled earlier.formulas e.expr) (entry_line bytes e.items)) h
-    gives_outcome ts (fault f left) h =
-        let d = error_at (place_left bytes left) (part_left left) f (named (rules_after earlier) ts f left h) in
-        at_fault f left d.0 h d.1
+    large_stood : (e : Written) (rest : List Token) (error : DictError) (s : SmallOrLarge (filled earlier.formulas e.expr) (entry_line bytes e.items)) → IsLarge (filled earlier.formulas e.expr) (entry_line bytes e.items) error
+        → Stood e rest [] (fails error) s
+    large_stood e rest error (inl small) is = absurd (not_large (filled earlier.formulas e.expr) (entry_line bytes e.items) error small is)
+    large_stood e rest error (inr (other, h)) is = (refl, ap fails (sym (one_large (filled earlier.formulas e.expr) (entry_line bytes e.items) other error h is)))
 
-    -- the outcome of the tokens
-    abbrev pub outcome_of : List Token → Outcome
-    outcome_of ts = outcome ts (scanning.answer_of (rules_after earlier) ts) (entry_laws.some (rules_after earlier) ts)
-
-    pub entry_gives : (ts : List Token) → EntryGives contents bytes earlier ts (outcome_of ts).0 (outcome_of ts).1
-    entry_gives ts = gives_outcome ts (scanning.answer_of (rules_after earlier) ts) (entry_laws.some (rules_after earlier) ts)
-
-    -- ---- and nothing else
-
-    sized_small : (e : Written) (rest : List Token) (s : SmallOrLarge (filled earlier.formulas e.expr) (entry_line bytes e.items)) → IsSmall (filled earlier.formulas e.expr)
-        → sized_outcome e rest s ≡ items_outcome e rest (item_answers.answer_of laws contents earlier.defined (lined e))
-    sized_small e rest (inl small) is = refl
-    sized_small e rest (inr (error, h)) is = absurd (not_large (filled earlier.formulas e.expr) (entry_line bytes e.items) error is h)
-
-    sized_large : (e : Written) (rest : List Token) (s : SmallOrLarge (filled earlier.formulas e.expr) (entry_line bytes e.items)) (error : DictError) → IsLarge (filled earlier.formulas e.expr) (entry_line bytes e.items) error
-        → sized_outcome e rest s ≡ ([], fails error)
-    sized_large e rest (inl small) error is = absurd (not_large (filled earlier.formulas e.expr) (entry_line bytes e.items) error small is)
-    sized_large e rest (inr (other, h)) error is = ap (λ (x : DictError). ([], fails x)) (one_large (filled earlier.formulas e.expr) (entry_line bytes e.items) other error h is)
-
-    stood : (ts : List Token) (a : EntryAnswer) (h : EntryIs (rules_after earlier) ts a) (e : Written) (rest : List Token) → a ≡ entry e rest → outcome ts a h ≡ stood_outcome e rest
-    stood ts (entry d us) h e rest same =
-        let written : d ≡ e = cc in
-        let left : us ≡ rest = cc in
-        (λ i. stood_outcome (written i) (left i))
-    stood ts (fault f left) h e rest same = absurd cc
+    stood : (ts : List Token) (a : EntryAnswer) (h : EntryIs (rules_after earlier) ts a) (e : Written) (rest : List Token) (asked : List Asked) (o : EntryOutcome) → a ≡ entry e rest → Sized e rest asked o → ByAnswer ts a h asked o
+    stood ts (entry d us) h e rest asked o same is =
+        let written : e ≡ d = cc in
+        let left : rest ≡ us = cc in
+        subst (λ (w : Written). Sized w us asked o) written (subst (λ (l : List Token). Sized e l asked o) left is)
+    stood ts (fault f left) h e rest asked o same is = absurd cc
 
     faulted : (ts : List Token) (a : EntryAnswer) (h : EntryIs (rules_after earlier) ts a) (f : expr_fault.Fault) (left : List Token) (error : DictError) → a ≡ fault f left → IsErrorOf (place_left bytes left) (part_left left) f error
-        → outcome ts a h ≡ ([], fails error)
+        → ByAnswer ts a h [] (fails error)
     faulted ts (entry d us) h f left error same is = absurd cc
     faulted ts (fault g us) h f left error same is =
         let fault_same : f ≡ g = cc in
         let left_same : left ≡ us = cc in
-        let d = error_at (place_left bytes us) (part_left us) g (named (rules_after earlier) ts g us h) in
-        ap (λ (x : DictError). ([], fails x))
-        (same_error (place_left bytes us) (part_left us) g d.0 error d.1
-        (subst (λ (x : List Token). IsErrorOf (place_left bytes x) (part_left x) g error) left_same (subst (λ (x : expr_fault.Fault). IsErrorOf (place_left bytes left) (part_left left) x error) fault_same is)))
+        let d = error_at (place_left bytes us) (part_left us) g (named (rules_after earlier) ts g us h) in (
+          refl,
+          ap fails (sym (same_error (place_left bytes us) (part_left us) g d.0 error d.1
+              (subst (λ (x : List Token). IsErrorOf (place_left bytes x) (part_left x) g error) left_same (subst (λ (x : expr_fault.Fault). IsErrorOf (place_left bytes left) (part_left left) x error) fault_same is)))),
+        )
 
-    entry_is : (ts : List Token) (e : Written) (rest : List Token) → EntryStands (rules_after earlier) ts e rest → outcome_of ts ≡ stood_outcome e rest
-    entry_is ts e rest h =
+    entry_is : (ts : List Token) (e : Written) (rest : List Token) (asked : List Asked) (o : EntryOutcome) → EntryStands (rules_after earlier) ts e rest → Sized e rest asked o → IsOutcome ts asked o
+    entry_is ts e rest asked o h is =
         let r = rules_after earlier in
-        stood ts (scanning.answer_of r ts) (entry_laws.some r ts) e rest (entry_laws.one r ts (scanning.answer_of r ts) (entry e rest) (entry_laws.some r ts) h)
+        stood ts (scanning.answer_of r ts) (entry_laws.some r ts) e rest asked o (entry_laws.one r ts (scanning.answer_of r ts) (entry e rest) (entry_laws.some r ts) h) is
 
-    small_is : (ts : List Token) (e : Written) (rest : List Token) (asked : List (List ℕ)) (answer : ItemsAnswer) → EntryStands (rules_after earlier) ts e rest → IsSmall (filled earlier.formulas e.expr)
-        → ItemsGive contents earlier.defined (lined e) asked answer → outcome_of ts ≡ items_outcome e rest (asked, answer)
-    small_is ts e rest asked answer h small give =
-        entry_is ts e rest h
-        ∙ sized_small e rest (small_or_large (filled earlier.formulas e.expr) (entry_line bytes e.items)) small
-        ∙ ap (items_outcome e rest) (is_items_answer laws contents earlier.defined (lined e) asked answer give)
+    small_is : (ts : List Token) (e : Written) (rest : List Token) (asked : List Asked) (x : ItemsAnswer) → EntryStands (rules_after earlier) ts e rest → IsSmall (filled earlier.formulas e.expr)
+        → ItemsGive earlier.defined (lined e) asked x → IsOutcome ts asked (by_items e rest x)
+    small_is ts e rest asked x h small give =
+        entry_is ts e rest asked (by_items e rest x) h (small_stood e rest asked x (small_or_large (filled earlier.formulas e.expr) (entry_line bytes e.items)) small give)
 
-    pub is_outcome : (ts : List Token) (asked : List (List ℕ)) (o : EntryOutcome) → EntryGives contents bytes earlier ts asked o → outcome_of ts ≡ (asked, o)
+    is_outcome : (ts : List Token) (asked : List Asked) (o : EntryOutcome) → EntryGives bytes earlier ts asked o → IsOutcome ts asked o
     is_outcome ts asked o (whole e rest given new h small give) = small_is ts e rest given (define new) h small give
     is_outcome ts asked o (at_fault f left error h is) =
         let r = rules_after earlier in
         faulted ts (scanning.answer_of r ts) (entry_laws.some r ts) f left error (entry_laws.one r ts (scanning.answer_of r ts) (fault f left) (entry_laws.some r ts) h) is
     is_outcome ts asked o (large e rest error h is) =
-        entry_is ts e rest h ∙ sized_large e rest (small_or_large (filled earlier.formulas e.expr) (entry_line bytes e.items)) error is
+        entry_is ts e rest [] (fails error) h (large_stood e rest error (small_or_large (filled earlier.formulas e.expr) (entry_line bytes e.items)) is)
     is_outcome ts asked o (at_items e rest given error h small give) = small_is ts e rest given (refuse_items error) h small give
 
-    pub one_outcome : (ts : List Token) (asked other : List (List ℕ)) (o p : EntryOutcome) → EntryGives contents bytes earlier ts asked o → EntryGives contents bytes earlier ts other p → (asked ≡ other) × (o ≡ p)
-    one_outcome ts asked other o p h k =
-        let same : (asked, o) ≡ (other, p) = sym (is_outcome ts asked o h) ∙ is_outcome ts other p k in
-        (ap (λ (x : Outcome). x.0) same, ap (λ (x : Outcome). x.1) same)
+    one_stood : (e : Written) (rest : List Token) (s : SmallOrLarge (filled earlier.formulas e.expr) (entry_line bytes e.items)) (asked other : List Asked) (o p : EntryOutcome) → Stood e rest asked o s → Stood e rest other p s → Agree asked other → (asked ≡ other) × (o ≡ p)
+    one_stood e rest (inl small) asked other o p (x, give, is) (y, yield, also) agree =
+        let q = one_items laws earlier.defined (lined e) asked other x y give yield agree in
+        (q.0, is ∙ ap (by_items e rest) q.1 ∙ sym also)
+    one_stood e rest (inr (error, passed)) asked other o p h k agree = (h.0 ∙ sym k.0, h.1 ∙ sym k.1)
+
+    one_answer : (ts : List Token) (a : EntryAnswer) (is : EntryIs (rules_after earlier) ts a) (asked other : List Asked) (o p : EntryOutcome) → ByAnswer ts a is asked o → ByAnswer ts a is other p → Agree asked other → (asked ≡ other) × (o ≡ p)
+    one_answer ts (entry e rest) is asked other o p h k agree = one_stood e rest (small_or_large (filled earlier.formulas e.expr) (entry_line bytes e.items)) asked other o p h k agree
+    one_answer ts (fault f left) is asked other o p h k agree = (h.0 ∙ sym k.0, h.1 ∙ sym k.1)
+
+    pub one_outcome : (ts : List Token) (asked other : List Asked) (o p : EntryOutcome) → EntryGives bytes earlier ts asked o → EntryGives bytes earlier ts other p → Agree asked other → (asked ≡ other) × (o ≡ p)
+    one_outcome ts asked other o p h k agree =
+        one_answer ts (scanning.answer_of (rules_after earlier) ts) (entry_laws.some (rules_after earlier) ts) asked other o p (is_outcome ts asked o h) (is_outcome ts other p k) agree
+
+    -- ---- and some outcome
+
+    module _ (contents : Contents) where
+      abbrev pub SomeOutcome : List Token → Type 0
+      SomeOutcome ts = (asked : List Asked) × (o : EntryOutcome) × AreIn contents asked × EntryGives bytes earlier ts asked o
+
+      items_some : (ts : List Token) (e : Written) (rest : List Token) → EntryStands (rules_after earlier) ts e rest → IsSmall (filled earlier.formulas e.expr) → SomeItems laws contents earlier.defined (lined e) → SomeOutcome ts
+      items_some ts e rest h small (asked, define new, found, give) = (asked, means (meaning_of bytes earlier e new) new rest, found, whole e rest asked new h small give)
+      items_some ts e rest h small (asked, refuse_items error, found, give) = (asked, fails error, found, at_items e rest asked error h small give)
+
+      sized_some : (ts : List Token) (e : Written) (rest : List Token) → SmallOrLarge (filled earlier.formulas e.expr) (entry_line bytes e.items) → EntryStands (rules_after earlier) ts e rest → SomeOutcome ts
+      sized_some ts e rest (inl small) h = items_some ts e rest h small (some_items laws contents (lined e) earlier.defined)
+      sized_some ts e rest (inr (error, is)) h = ([], fails error, tt, large e rest error h is)
+
+      answer_some : (ts : List Token) (a : EntryAnswer) → EntryIs (rules_after earlier) ts a → SomeOutcome ts
+      answer_some ts (entry e rest) h = sized_some ts e rest (small_or_large (filled earlier.formulas e.expr) (entry_line bytes e.items)) h
+      answer_some ts (fault f left) h =
+          let d = error_at (place_left bytes left) (part_left left) f (named (rules_after earlier) ts f left h) in
+          ([], fails d.0, tt, at_fault f left d.0 h d.1)
+
+      pub some_outcome : (ts : List Token) → SomeOutcome ts
+      some_outcome ts = answer_some ts (scanning.answer_of (rules_after earlier) ts) (entry_laws.some (rules_after earlier) ts)
 
   -- ---- texts
 
-  abbrev pub SomeText : Earlier → List Token → Type 0
-  SomeText earlier ts = (asked : List (List ℕ)) × (answer : TextAnswer) × TextIs contents bytes earlier ts asked answer
-
   -- an entry leaves fewer tokens
-  rest_shorter : (earlier : Earlier) (ts : List Token) (asked : List (List ℕ)) (o : EntryOutcome) (m : Meaning) (new : Defined) (rest : List Token) → o ≡ means m new rest → EntryGives contents bytes earlier ts asked o → length rest < length ts
+  rest_shorter : (earlier : Earlier) (ts : List Token) (asked : List Asked) (o : EntryOutcome) (m : Meaning) (new : Defined) (rest : List Token) → o ≡ means m new rest → EntryGives bytes earlier ts asked o → length rest < length ts
   rest_shorter earlier ts asked o m new rest same (whole e left given d h small give) = let is : left ≡ rest = cc in subst (λ (l : List Token). length l < length ts) is (shorter (rules_after earlier) ts e left h)
   rest_shorter earlier ts asked o m new rest same (at_fault f left error h is) = absurd cc
   rest_shorter earlier ts asked o m new rest same (large e left error h is) = absurd cc
   rest_shorter earlier ts asked o m new rest same (at_items e left given error h small give) = absurd cc
 
-  with_outcome : (earlier : Earlier) (ts : List Token) (asked : List (List ℕ)) (o : EntryOutcome) → ts ≢ [] → EntryGives contents bytes earlier ts asked o
-      → ((next : Earlier) (rest : List Token) → length rest < length ts → SomeText next rest) → SomeText earlier ts
-  with_outcome earlier ts asked (means m new rest) some h next =
-      let more = next (then_entry earlier new m) rest (rest_shorter earlier ts asked (means m new rest) m new rest refl h) in
-      (asked ++ more.0, with_meaning m more.1, texts.entry earlier ts rest asked more.0 m new more.1 some h more.2)
-  with_outcome earlier ts asked (fails error) some h next = (asked, refuse error, texts.fault earlier ts asked error some h)
+  module _ (contents : Contents) where
+    abbrev pub SomeText : Earlier → List Token → Type 0
+    SomeText earlier ts = (asked : List Asked) × (answer : TextAnswer) × AreIn contents asked × TextIs bytes earlier ts asked answer
 
-  some_within : (n : ℕ) (earlier : Earlier) (ts : List Token) → length ts < n → SomeText earlier ts
-  some_within zero earlier ts low = absurd (omega arith)
-  some_within (suc n) earlier [] low = ([], stands [], ended earlier)
-  some_within (suc n) earlier (t ∷ ts) low =
-      let all = t ∷ ts in
-      with_outcome earlier all (outcome_of earlier all).0 (outcome_of earlier all).1 (λ q. cc) (entry_gives earlier all)
-      (λ next rest less. some_within n next rest (omega arith))
+    -- what may come after the outcome of an entry
+    abbrev pub SomeMore : Earlier → List Token → List Asked → Type 0
+    SomeMore earlier ts asked = (more : List Asked) × (answer : TextAnswer) × AreIn contents more × TextIs bytes earlier ts (asked ++ more) answer
 
-  pub some_text : (earlier : Earlier) (ts : List Token) → SomeText earlier ts
-  some_text earlier ts = some_within (length ts + 1) earlier ts (omega arith)
+    after_outcome : (earlier : Earlier) (ts : List Token) (asked : List Asked) (o : EntryOutcome) → ts ≢ [] → EntryGives bytes earlier ts asked o
+        → ((next : Earlier) (rest : List Token) → length rest < length ts → SomeText next rest) → SomeMore earlier ts asked
+    after_outcome earlier ts asked (means m new rest) some h next =
+        let more = next (then_entry earlier new m) rest (rest_shorter earlier ts asked (means m new rest) m new rest refl h) in
+        (more.0, with_meaning m more.1, more.2, texts.entry earlier ts rest asked more.0 m new more.1 some h more.3)
+    after_outcome earlier ts asked (fails error) some h next =
+        ([], refuse error, tt, subst (λ (l : List Asked). TextIs bytes earlier ts l (refuse error)) (sym (append-nil asked)) (texts.fault earlier ts asked error some h))
 
-  abbrev Same : List (List ℕ) → List (List ℕ) → TextAnswer → TextAnswer → Type 0
-  Same asked other x y = (asked ≡ other) × (x ≡ y)
+    some_within : (n : ℕ) (earlier : Earlier) (ts : List Token) → length ts < n → SomeText earlier ts
+    some_within zero earlier ts low = absurd (omega arith)
+    some_within (suc n) earlier [] low = ([], stands [], tt, ended earlier)
+    some_within (suc n) earlier (t ∷ ts) low =
+        let o = some_outcome earlier contents (t ∷ ts) in
+        let more = after_outcome earlier (t ∷ ts) o.0 o.1 (λ q. cc) o.3 (λ next rest less. some_within n next rest (omega arith)) in
+        (o.0 ++ more.0, more.1, in_then contents o.0 more.0 o.2 more.2, more.3)
 
-  pub one_text : (earlier : Earlier) (ts : List Token) (asked other : List (List ℕ)) (x y : TextAnswer) → TextIs contents bytes earlier ts asked x → TextIs contents bytes earlier ts other y → (asked ≡ other) × (x ≡ y)
-  one_text earlier ts asked other x y (ended e) (ended f) = (refl, refl)
-  one_text earlier ts asked other x y (ended e) (texts.entry f us rest given more m new answer any h next) = absurd (any refl)
-  one_text earlier ts asked other x y (ended e) (texts.fault f us given error any h) = absurd (any refl)
-  one_text earlier ts asked other x y (texts.entry e us rest given more m new answer any h next) (ended f) = absurd (any refl)
-  one_text earlier ts asked other x y (texts.entry e us rest given more m new answer any h next) (texts.entry f vs left handed others n also reply some k further) =
-      let q = one_outcome e us given handed (means m new rest) (means n also left) h k in
+    pub some_text : (earlier : Earlier) (ts : List Token) → SomeText earlier ts
+    some_text earlier ts = some_within (length ts + 1) earlier ts (omega arith)
+
+    pub some_more : (earlier : Earlier) (ts : List Token) (asked : List Asked) (o : EntryOutcome) → ts ≢ [] → EntryGives bytes earlier ts asked o → SomeMore earlier ts asked
+    some_more earlier ts asked o some h = after_outcome earlier ts asked o some h (λ next rest less. some_text next rest)
+
+  pub one_text : (earlier : Earlier) (ts : List Token) (asked other : List Asked) (x y : TextAnswer) → TextIs bytes earlier ts asked x → TextIs bytes earlier ts other y → Agree asked other → (asked ≡ other) × (x ≡ y)
+  one_text earlier ts asked other x y (ended e) (ended f) agree = (refl, refl)
+  one_text earlier ts asked other x y (ended e) (texts.entry f us rest given more m new answer any h next) agree = absurd (any refl)
+  one_text earlier ts asked other x y (ended e) (texts.fault f us given error any h) agree = absurd (any refl)
+  one_text earlier ts asked other x y (texts.entry e us rest given more m new answer any h next) (ended f) agree = absurd (any refl)
+  one_text earlier ts asked other x y (texts.entry e us rest given more m new answer any h next) (texts.entry f vs left handed others n also reply some k further) agree =
+      let q = one_outcome e us given handed (means m new rest) (means n also left) h k (agree_right given handed others (agree_left given more (handed ++ others) agree)) in
       let meanings : n ≡ m = let same = q.1 in cc in
       let names_same : also ≡ new = let same = q.1 in cc in
       let left_same : left ≡ rest = let same = q.1 in cc in
       let tail = one_text (then_entry e new m) rest more others answer reply next
-      (subst (λ (l : List Token). TextIs contents bytes (then_entry e new m) l others reply) left_same
-      (subst (λ (d : Defined). TextIs contents bytes (then_entry e d m) left others reply) names_same
-      (subst (λ (j : Meaning). TextIs contents bytes (then_entry e also j) left others reply) meanings further))) in
+      (subst (λ (l : List Token). TextIs bytes (then_entry e new m) l others reply) left_same
+      (subst (λ (d : Defined). TextIs bytes (then_entry e d m) left others reply) names_same
+      (subst (λ (j : Meaning). TextIs bytes (then_entry e also j) left others reply) meanings further)))
+      (agree_rest given more others (subst (λ (l : List Asked). Agree (given ++ more) (l ++ others)) (sym q.0) agree)) in
       ((λ i. q.0 i ++ tail.0 i), (λ i. with_meaning (sym meanings i) (tail.1 i)))
-  one_text earlier ts asked other x y (texts.entry e us rest given more m new answer any h next) (texts.fault f vs handed error some k) =
-      let q = (one_outcome e us given handed (means m new rest) (fails error) h k).1 in absurd cc
-  one_text earlier ts asked other x y (texts.fault e us given error any h) (ended f) = absurd (any refl)
-  one_text earlier ts asked other x y (texts.fault e us given error any h) (texts.entry f vs left handed others n also reply some k further) =
-      let q = (one_outcome e us given handed (fails error) (means n also left) h k).1 in absurd cc
-  one_text earlier ts asked other x y (texts.fault e us given error any h) (texts.fault f vs handed wrong some k) =
-      let q = one_outcome e us given handed (fails error) (fails wrong) h k in
+  one_text earlier ts asked other x y (texts.entry e us rest given more m new answer any h next) (texts.fault f vs handed error some k) agree =
+      let q = (one_outcome e us given handed (means m new rest) (fails error) h k (agree_left given more handed agree)).1 in absurd cc
+  one_text earlier ts asked other x y (texts.fault e us given error any h) (ended f) agree = absurd (any refl)
+  one_text earlier ts asked other x y (texts.fault e us given error any h) (texts.entry f vs left handed others n also reply some k further) agree =
+      let q = (one_outcome e us given handed (fails error) (means n also left) h k (agree_right given handed others agree)).1 in absurd cc
+  one_text earlier ts asked other x y (texts.fault e us given error any h) (texts.fault f vs handed wrong some k) agree =
+      let q = one_outcome e us given handed (fails error) (fails wrong) h k agree in
       let errors : error ≡ wrong = let same = q.1 in cc in
       (q.0, ap refuse errors)

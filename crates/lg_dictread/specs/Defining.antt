@@ -1,21 +1,22 @@
 -- What the tables of a reader hold, and what an item adds to them.
-use Rattle.std.specs.Prelude.{◌≡◌, ℕ, ◌≤◌, List, [], ◌∷◌, ◌++◌, length, map, Option, None, Some, Result, Ok, Err}
+use Rattle.std.specs.Prelude.{◌≡◌, ℕ, List, [], ◌∷◌, ◌++◌, map, Option, Result, Ok, Err}
 use Rattle.std.specs.Str.{IsUtf8}
 use Rattle.lg_base.specs.Contents.{Contents}
 use Rattle.lg_base.specs.Files.{AsksWithin}
 use Rattle.lg_gram.specs.declared.entry.Item.{Item}
+use Rattle.lg_gram.specs.declared.entry.ItemKind.{ItemKind}
 use Rattle.lg_gram.specs.declared.entry.ItemKind.TheVariants as kinds
 use Rattle.lg_dictread.specs.declared.dict_error.DictError.{DictError}
 use Rattle.lg_dictread.specs.declared.dict_error.DictError.TheVariants.{WordFile}
 use Rattle.lg_dictread.specs.declared.dict_error.WordFileError.{WordFileError}
 use Rattle.lg_dictread.specs.declared.dict_error.WordFileError.TheVariants.{Failed}
 use Rattle.std.specs.declared.vec.Vec.{Vec}
-use Rattle.lg_dictread.specs.Limits.{FILE}
+use Rattle.lg_dictread.specs.Findings.{Found, not_read, has_bytes, Asked, AreKnown}
 use Rattle.lg_dictread.specs.declared.define.Tables.{Tables}
 use Rattle.lg_dictread.specs.declared.define.Names.{Names}
-use Rattle.lg_dictread.specs.Definitions.{Lines, AreNew, IsTwice, Defined, both, fails, FileGives, asked_by, ItemsAnswer, define, refuse_items, with_defined, ItemsGive}
+use Rattle.lg_dictread.specs.Definitions.{Lines, AreNew, IsTwice, Defined, both, fails, FileGives, ItemsAnswer, define, refuse_items, with_defined, ItemsGive}
 use Rattle.lg_dictread.specs.Tables.{text_entries}
-use Rattle.lg_dictread.specs.Telling.{Determined, Answers, IsMissing, UnlessMemory, OnError}
+use Rattle.lg_dictread.specs.Telling.{Determined, Answers, UnlessMemory, ErrorTells}
 
 abbrev pub defined_in : Tables → Defined
 defined_in t = record { words = text_entries t.words; macros = text_entries t.macros }
@@ -50,33 +51,44 @@ pub record AddsDefined (old now : Defined) (listed more : Listed) (new : Defined
   pub words : AddsNames old.words now.words listed.words more.words new.words
   pub macros : AddsNames old.macros now.macros listed.macros more.macros new.macros
 
--- what an item does to the answer of the items from it on, where it asks for these names
-abbrev pub LeadsOn : Contents → Defined → Item × ℕ → List (List ℕ) → ItemsAnswer → Type 0
-LeadsOn contents old i asked (define new) = (items : List (Item × ℕ)) (more : List (List ℕ)) (answer : ItemsAnswer) → ItemsGive contents (both old new) items more answer
-    → ItemsGive contents old (i ∷ items) (asked ++ more) (with_defined new answer)
-LeadsOn contents old i asked (refuse_items error) = (items : List (Item × ℕ)) → ItemsGive contents old (i ∷ items) asked (refuse_items error)
+-- what an item does to the answer of the items from it on, where this was found for it
+abbrev pub LeadsOn : Defined → Item × ℕ → List Asked → ItemsAnswer → Type 0
+LeadsOn old i asked (define new) = (items : List (Item × ℕ)) (more : List Asked) (answer : ItemsAnswer) → ItemsGive (both old new) items more answer
+    → ItemsGive old (i ∷ items) (asked ++ more) (with_defined new answer)
+LeadsOn old i asked (refuse_items error) = (items : List (Item × ℕ)) → ItemsGive old (i ∷ items) asked (refuse_items error)
 
--- the names that one item asks for, and what it answers
+-- what one item asks for, and what it answers
 abbrev pub ItemIs : Defined → Item × ℕ → Determined ItemsAnswer
-ItemIs old i contents asked answer = (asked ≡ asked_by i.0.kind i.0.text) × LeadsOn contents old i asked answer
+ItemIs old i asked answer = LeadsOn old i asked answer
 
 -- the same of all items
 abbrev pub ItemsAre : Defined → List (Item × ℕ) → Determined ItemsAnswer
-ItemsAre old items contents asked answer = ItemsGive contents old items asked answer
+ItemsAre old items asked answer = ItemsGive old items asked answer
+
+-- the names of files that an item asks for
+abbrev pub asked_by : ItemKind → List ℕ → List (List ℕ)
+asked_by kinds.Word text = []
+asked_by kinds.Macro text = []
+asked_by kinds.File text = text ∷ []
 
 -- the definitions that are added are the answer, or the error is; where the call ends before, this holds
 abbrev pub TellsDefined : {T : Type 0} → Type 0 → Option Contents → Determined ItemsAnswer → List (List ℕ) → List (List ℕ) → (T → Defined → Type 0) → Result T DictError → Type 0
 TellsDefined Ended known is old new Adds (Ok x) = (d : Defined) × Adds x d × Answers known is old new (define d)
-TellsDefined Ended known is old new Adds (Err error) = OnError (IsMissing known) Ended (λ e. Answers known is old new (refuse_items e)) error
+TellsDefined Ended known is old new Adds (Err error) = ErrorTells Ended known is refuse_items old new error
 
--- the error of a word file that is found so; where it may be there, reading it may fail
-abbrev pub IsUnread : Option (List ℕ) → ℕ → List ℕ → DictError → Type 0
-IsUnread found line name error = (cause : WordFileError) × (error ≡ WordFile line name cause) × ((cause ≡ Failed → found ≡ None) → FileGives found (fails cause))
+-- this is found of the file, where contents are known; but reading it may fail
+abbrev pub IsFinding : Option Contents → List ℕ → Found → WordFileError → Type 0
+IsFinding known name found Failed = found ≡ not_read
+IsFinding known name found cause = AreKnown known (record { name = name; found = found } ∷ [])
 
--- the bytes of a word file that is found so, or why it gives no words
-abbrev pub TellsFile : {A : Type 0} → Option (List ℕ) → ℕ → List ℕ → Result (Vec ℕ A) DictError → Type 0
-TellsFile found line name (Ok bytes) = (found ≡ Some bytes.items) × (length bytes.items ≤ FILE) × IsUtf8 bytes.items
-TellsFile found line name (Err error) = UnlessMemory (IsUnread found line name) error
+-- the error of a word file of which something is found
+abbrev pub IsUnread : Option Contents → ℕ → List ℕ → DictError → Type 0
+IsUnread known line name error = (cause : WordFileError) × (found : Found) × (error ≡ WordFile line name cause) × FileGives found (fails cause) × IsFinding known name found cause
+
+-- the bytes that are found of a word file, or why it gives no words
+abbrev pub TellsFile : {A : Type 0} → Option Contents → ℕ → List ℕ → Result (Vec ℕ A) DictError → Type 0
+TellsFile known line name (Ok bytes) = IsUtf8 bytes.items × AreKnown known (record { name = name; found = has_bytes bytes.items } ∷ [])
+TellsFile known line name (Err error) = UnlessMemory (IsUnread known line name) error
 
 -- the file is asked for once; memory may run out before
 abbrev pub AsksFile : {T : Type 0} → List (List ℕ) → List (List ℕ) → List ℕ → Result T DictError → Type 0

@@ -1,9 +1,8 @@
 -- What the items of an entry define, and the first of them that may not stand.
-use Rattle.std.specs.Prelude.{◌≡◌, ℕ, ◌<◌, ◌≤◌, List, [], ◌∷◌, ◌++◌, Bool, Option, Some, None, map, length, nat_eq}
+use Rattle.std.specs.Prelude.{◌≡◌, ℕ, List, [], ◌∷◌, ◌++◌, Bool, Option, Some, None, map, nat_eq}
 use Rattle.std.specs.Cmp.Lexicographic.{pointwise}
 use Rattle.std.specs.Map.{lookup}
 use Rattle.std.specs.Str.{IsUtf8, IsValidUpTo}
-use Rattle.lg_base.specs.Contents.{Contents, file}
 use Rattle.lg_gram.specs.declared.entry.Item.{Item}
 use Rattle.lg_gram.specs.declared.entry.ItemKind.{ItemKind}
 use Rattle.lg_gram.specs.declared.entry.ItemKind.TheVariants as kinds
@@ -14,7 +13,7 @@ use Rattle.lg_dictread.specs.declared.dict_error.DictError.{DictError}
 use Rattle.lg_dictread.specs.declared.dict_error.DictError.TheVariants.{DuplicateWord, WordFile}
 use Rattle.lg_dictread.specs.declared.dict_error.WordFileError.{WordFileError}
 use Rattle.lg_dictread.specs.declared.dict_error.WordFileError.TheVariants.{Failed, TooLong, NotUtf8}
-use Rattle.lg_dictread.specs.Limits.{FILE}
+use Rattle.lg_dictread.specs.Findings.{Found, not_read, too_long, has_bytes, Asked}
 
 -- names, each with the line of the item that defines it
 abbrev pub Lines : Type 0
@@ -61,27 +60,21 @@ pub data Given : Type 0 where
   fails : WordFileError → Given
 
 -- A word file gives the runs of its bytes between white space. It has no comments and no quotes.
-pub data FileGives (found : Option (List ℕ)) : Given → Type 0 where
-  missing : found ≡ None → FileGives found (fails Failed)
-  long : (bytes : List ℕ) → found ≡ Some bytes → FILE < length bytes → FileGives found (fails TooLong)
-  at_fault : (bytes : List ℕ) (n : ℕ) → found ≡ Some bytes → length bytes ≤ FILE → IsValidUpTo bytes n → FileGives found (fails (NotUtf8 n))
-  runs : (bytes : List ℕ) (rs : List (List ℕ × ℕ)) → found ≡ Some bytes → length bytes ≤ FILE → IsUtf8 bytes → AreRuns WhiteSpace rs 0 (without_mark bytes)
-      → FileGives found (gives (map (λ r. r.0) rs))
+pub data FileGives : Found → Given → Type 0 where
+  missing : FileGives not_read (fails Failed)
+  long : FileGives too_long (fails TooLong)
+  at_fault : (bytes : List ℕ) (n : ℕ) → IsValidUpTo bytes n → FileGives (has_bytes bytes) (fails (NotUtf8 n))
+  runs : (bytes : List ℕ) (rs : List (List ℕ × ℕ)) → IsUtf8 bytes → AreRuns WhiteSpace rs 0 (without_mark bytes)
+      → FileGives (has_bytes bytes) (gives (map (λ r. r.0) rs))
 
--- a word and a macro name themselves
-abbrev pub KindGives : Contents → ItemKind → List ℕ → Given → Type 0
-KindGives contents kinds.Word text given = given ≡ gives (text ∷ [])
-KindGives contents kinds.Macro text given = given ≡ gives (text ∷ [])
-KindGives contents kinds.File text given = FileGives (file contents text) given
+-- what an item asks for, and what it gives: a word and a macro name themselves
+abbrev pub KindGives : ItemKind → List ℕ → List Asked → Given → Type 0
+KindGives kinds.Word text asked given = (asked ≡ []) × (given ≡ gives (text ∷ []))
+KindGives kinds.Macro text asked given = (asked ≡ []) × (given ≡ gives (text ∷ []))
+KindGives kinds.File text asked given = (found : Found) × (asked ≡ record { name = text; found = found } ∷ []) × FileGives found given
 
-abbrev pub ItemGives : Contents → Item → Given → Type 0
-ItemGives contents item given = KindGives contents item.kind item.text given
-
--- the names of files that an item asks for
-abbrev pub asked_by : ItemKind → List ℕ → List (List ℕ)
-asked_by kinds.Word text = []
-asked_by kinds.Macro text = []
-asked_by kinds.File text = text ∷ []
+abbrev pub ItemGives : Item → List Asked → Given → Type 0
+ItemGives item asked given = KindGives item.kind item.text asked given
 
 -- the names of an item, each with the item's line
 abbrev pub on_line : ℕ → List (List ℕ) → Lines
@@ -108,17 +101,17 @@ abbrev pub with_defined : Defined → ItemsAnswer → ItemsAnswer
 with_defined d (define more) = define (both d more)
 with_defined d (refuse_items error) = refuse_items error
 
--- Items, each with its line, from left to right, where so much is defined before: the names of the files that are asked
--- for, in order, and the answer.
-pub data ItemsGive (contents : Contents) : Defined → List (Item × ℕ) → List (List ℕ) → ItemsAnswer → Type 0 where
-  no_item : (earlier : Defined) → ItemsGive contents earlier [] [] (define none_defined)
-  defines : (earlier : Defined) (item : Item) (line : ℕ) (items : List (Item × ℕ)) (names asked : List (List ℕ)) (answer : ItemsAnswer)
-      → ItemGives contents item (gives names) → AreNew (of_kind item.kind earlier) (on_line line names)
-      → ItemsGive contents (both earlier (defined_as item.kind (on_line line names))) items asked answer
-      → ItemsGive contents earlier ((item, line) ∷ items) (asked_by item.kind item.text ++ asked) (with_defined (defined_as item.kind (on_line line names)) answer)
-  twice : (earlier : Defined) (item : Item) (line : ℕ) (items : List (Item × ℕ)) (names : List (List ℕ)) (error : DictError)
-      → ItemGives contents item (gives names) → IsTwice (of_kind item.kind earlier) (on_line line names) error
-      → ItemsGive contents earlier ((item, line) ∷ items) (asked_by item.kind item.text) (refuse_items error)
-  unread : (earlier : Defined) (item : Item) (line : ℕ) (items : List (Item × ℕ)) (cause : WordFileError)
-      → ItemGives contents item (fails cause)
-      → ItemsGive contents earlier ((item, line) ∷ items) (asked_by item.kind item.text) (refuse_items (WordFile line item.text cause))
+-- Items, each with its line, from left to right, where so much is defined before: the files that are asked for, in order,
+-- with what was found, and the answer.
+pub data ItemsGive : Defined → List (Item × ℕ) → List Asked → ItemsAnswer → Type 0 where
+  no_item : (earlier : Defined) → ItemsGive earlier [] [] (define none_defined)
+  defines : (earlier : Defined) (item : Item) (line : ℕ) (items : List (Item × ℕ)) (names : List (List ℕ)) (here asked : List Asked) (answer : ItemsAnswer)
+      → ItemGives item here (gives names) → AreNew (of_kind item.kind earlier) (on_line line names)
+      → ItemsGive (both earlier (defined_as item.kind (on_line line names))) items asked answer
+      → ItemsGive earlier ((item, line) ∷ items) (here ++ asked) (with_defined (defined_as item.kind (on_line line names)) answer)
+  twice : (earlier : Defined) (item : Item) (line : ℕ) (items : List (Item × ℕ)) (names : List (List ℕ)) (here : List Asked) (error : DictError)
+      → ItemGives item here (gives names) → IsTwice (of_kind item.kind earlier) (on_line line names) error
+      → ItemsGive earlier ((item, line) ∷ items) here (refuse_items error)
+  unread : (earlier : Defined) (item : Item) (line : ℕ) (items : List (Item × ℕ)) (here : List Asked) (cause : WordFileError)
+      → ItemGives item here (fails cause)
+      → ItemsGive earlier ((item, line) ∷ items) here (refuse_items (WordFile line item.text cause))

@@ -1,4 +1,5 @@
 pub mod Limits
+pub mod Findings
 pub mod Items
 pub mod Entries
 pub mod Scanning

@@ -17,7 +17,7 @@ use Rattle.lg_dictread.specs.declared.dict_error.DictError.{DictError}
 use Rattle.lg_dictread.specs.declared.dict_error.DictError.TheVariants as errors
 use Rattle.lg_dictread.specs.declared.stop.Stop.{Stop}
 use Rattle.lg_dictread.specs.declared.stop.Stop.TheVariants as stops
-use Rattle.lg_dictread.specs.Telling.{Determined, Answers, AsksFront, IsMissing, UnlessMemory, OnError}
+use Rattle.lg_dictread.specs.Telling.{Determined, Answers, AsksFront, UnlessMemory, ErrorTells}
 use Rattle.lg_dictread.specs.declared.define.Names.{Names}
 use Rattle.lg_dictread.specs.declared.earlier.Earlier as code_earlier
 use Rattle.lg_dictread.specs.Definitions.{same_text, Lines, AreNew, Defined}
@@ -95,7 +95,7 @@ AreUtf8 ts = AllByRecursion (λ t. HasUtf8 t.0) ts
 
 -- what the entry at the front of the tokens gives, after what was read before
 abbrev pub NextIs : List ℕ → Earlier → List Token → Determined EntryOutcome
-NextIs text earlier ts contents asked outcome = EntryGives contents text earlier ts asked outcome
+NextIs text earlier ts asked outcome = EntryGives text earlier ts asked outcome
 
 -- one entry more, which means this and defines so much
 pub record AddsEntry (old now : code_earlier.Earlier) (m : Meaning) (new : Defined) : Type 0 where
@@ -107,4 +107,4 @@ abbrev pub TellsNext : Option Contents → List ℕ → List Token → List (Lis
 TellsNext known text ts asked more old now (Ok end) = (m : Meaning) × (new : Defined) × AddsEntry old now m new
     × Answers known (NextIs text (earlier_of old) ts) asked more (means m new (tokens_from Dictionary text end.at))
 TellsNext known text ts asked more old now (Err error) =
-    OnError (IsMissing known) (AsksFront known (NextIs text (earlier_of old) ts) asked more) (λ e. Answers known (NextIs text (earlier_of old) ts) asked more (fails e)) error
+    let is = NextIs text (earlier_of old) ts in ErrorTells (AsksFront known is asked more) known is fails asked more error

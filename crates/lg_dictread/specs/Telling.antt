@@ -1,39 +1,46 @@
--- How a call tells its answer, where files tell what they hold, and what else holds of it.
-use Rattle.std.specs.Prelude.{◌≡◌, ℕ, ◌≤◌, List, ◌++◌, Option, None, IfSome, Result, IfErr}
-use Rattle.lg_base.specs.Contents.{Contents, file}
+-- How a call tells its answer by what it found, and what else holds of it.
+use Rattle.std.specs.Prelude.{◌≡◌, ℕ, ◌≤◌, List, [], ◌∷◌, ◌++◌, Option, Result, IfErr}
+use Rattle.lg_base.specs.Contents.{Contents}
 use Rattle.lg_base.specs.Faults.{Rose}
-use Rattle.lg_base.specs.Files.{AsksWithin, EndsWith}
+use Rattle.lg_base.specs.Files.{EndsWith}
 use Rattle.lg_dictread.specs.declared.dict_error.DictError.{DictError}
 use Rattle.lg_dictread.specs.declared.dict_error.DictError.TheVariants as errors
 use Rattle.lg_dictread.specs.declared.dict_error.WordFileError.TheVariants.{Failed}
+use Rattle.lg_dictread.specs.Findings.{Asked, not_read, names_of, AreKnown}
 
--- what contents determine: the names of files that are asked for, in order, and an answer
+-- an answer by what was found: the files that are asked for, in order, and the answer
 abbrev pub Determined : Type 0 → Type 1
-Determined A = Contents → List (List ℕ) → A → Type 0
+Determined A = List Asked → A → Type 0
 
-module _ {A : Type 0} (known : Option Contents) (is : Determined A) (old new : List (List ℕ)) where
-  -- this is the answer, and its names were asked
-  abbrev pub Answers : A → Type 0
-  Answers answer = IfSome known (λ contents. (names : List (List ℕ)) × (new ≡ old ++ names) × is contents names answer)
+-- This is the answer by what was found of each file that was asked for in this call.
+pub record Answers {A : Type 0} (known : Option Contents) (is : Determined A) (old new : List (List ℕ)) (answer : A) : Type 0 where
+  pub asked : List Asked
+  pub names : new ≡ old ++ names_of asked
+  pub found : AreKnown known asked
+  pub answers : is asked answer
 
-  -- whatever the answer is, a front part of its names was asked
-  abbrev pub AsksFront : Type 0
-  AsksFront = IfSome known (λ contents. (names : List (List ℕ)) (answer : A) → is contents names answer → AsksWithin old new names)
+-- A front part of the files that an answer asks for was asked for in this call.
+pub record AsksFront {A : Type 0} (known : Option Contents) (is : Determined A) (old new : List (List ℕ)) : Type 0 where
+  pub front : List Asked
+  pub rest : List Asked
+  pub answer : A
+  pub names : new ≡ old ++ names_of front
+  pub found : AreKnown known (front ++ rest)
+  pub answers : is (front ++ rest) answer
+
+-- What an error says: memory ran out, and this holds; a word file was not read, nothing was asked for after it, and this
+-- is the answer, whatever the contents have for it; or the error is the answer.
+pub data ErrorTells {A : Type 0} (Ended : Type 0) (known : Option Contents) (is : Determined A) (refuse : DictError → A) (old new : List (List ℕ)) : DictError → Type 0 where
+  out_of_memory : Ended → ErrorTells Ended known is refuse old new errors.NoMemory
+  file_unread : (line : ℕ) (name : List ℕ) (asked : List Asked) → Ended → new ≡ old ++ (names_of asked ++ name ∷ []) → AreKnown known asked
+      → is (asked ++ record { name = name; found = not_read } ∷ []) (refuse (errors.WordFile line name Failed))
+      → ErrorTells Ended known is refuse old new (errors.WordFile line name Failed)
+  first_fault : (error : DictError) → Answers known is old new (refuse error) → ErrorTells Ended known is refuse old new error
 
 -- Where memory runs out, nothing is told; any other error is.
 abbrev pub UnlessMemory : (DictError → Type 0) → DictError → Type 0
 UnlessMemory Told errors.NoMemory = Unit {0}
 UnlessMemory Told error = Told error
-
--- the file is not there
-abbrev pub IsMissing : Option Contents → List ℕ → Type 0
-IsMissing known name = IfSome known (λ contents. file contents name ≡ None)
-
--- Where memory runs out, or a file that may be there is not read, this holds; any other error is told.
-abbrev pub OnError : (List ℕ → Type 0) → Type 0 → (DictError → Type 0) → DictError → Type 0
-OnError Missing Ended Told errors.NoMemory = Ended
-OnError Missing Ended Told (errors.WordFile line name Failed) = Ended × (Missing name → Told (errors.WordFile line name Failed))
-OnError Missing Ended Told error = Told error
 
 -- why a call failed: a word file that was not read is the last that was asked, and the count of faults rose
 abbrev pub IsCause : ℕ → ℕ → List (List ℕ) → DictError → Type 0

@@ -21,6 +21,7 @@ use Rattle.lg_expr.specs.Grammar.{Rules}
 use Rattle.lg_expr.specs.Parts.{Part, names}
 use Rattle.lg_dictread.specs.declared.dict_error.DictError.{DictError}
 use Rattle.lg_dictread.specs.declared.dict_error.DictError.TheVariants.{NotUtf8, Syntax, UnknownMacro, CostForm, TooDeep, TooManyNodes, TooManyChoices, SideTooLong}
+use Rattle.lg_dictread.specs.Findings.{Asked, names_of, AreIn}
 use Rattle.lg_dictread.specs.Entries.{Written, EntryStands, EntryFault}
 use Rattle.lg_dictread.specs.Places.{part_left, line_of, entry_line}
 use Rattle.lg_dictread.specs.Definitions.{same_text, Defined, none_defined, both, define, refuse_items, ItemsGive}
@@ -81,22 +82,22 @@ pub data EntryOutcome : Type 0 where
   means : Meaning → Defined → List Token → EntryOutcome
   fails : DictError → EntryOutcome
 
--- The entry at the front of the tokens: the names of the word files that are asked for, in order, and what it gives.
-pub data EntryGives (contents : Contents) (text : List ℕ) (earlier : Earlier) (ts : List Token) : List (List ℕ) → EntryOutcome → Type 0 where
-  whole : (e : Written) (rest : List Token) (asked : List (List ℕ)) (new : Defined)
+-- The entry at the front of the tokens: the word files that are asked for, in order, with what was found, and what it gives.
+pub data EntryGives (text : List ℕ) (earlier : Earlier) (ts : List Token) : List Asked → EntryOutcome → Type 0 where
+  whole : (e : Written) (rest : List Token) (asked : List Asked) (new : Defined)
       → EntryStands (rules_after earlier) ts e rest → IsSmall (filled earlier.formulas e.expr)
-      → ItemsGive contents earlier.defined (map (λ i. (i.0, line_of text i)) e.items) asked (define new)
-      → EntryGives contents text earlier ts asked (means (meaning_of text earlier e new) new rest)
+      → ItemsGive earlier.defined (map (λ i. (i.0, line_of text i)) e.items) asked (define new)
+      → EntryGives text earlier ts asked (means (meaning_of text earlier e new) new rest)
   at_fault : (f : expr_fault.Fault) (left : List Token) (error : DictError)
       → EntryFault (rules_after earlier) ts f left → IsErrorOf (place_left text left) (part_left left) f error
-      → EntryGives contents text earlier ts [] (fails error)
+      → EntryGives text earlier ts [] (fails error)
   large : (e : Written) (rest : List Token) (error : DictError)
       → EntryStands (rules_after earlier) ts e rest → IsLarge (filled earlier.formulas e.expr) (entry_line text e.items) error
-      → EntryGives contents text earlier ts [] (fails error)
-  at_items : (e : Written) (rest : List Token) (asked : List (List ℕ)) (error : DictError)
+      → EntryGives text earlier ts [] (fails error)
+  at_items : (e : Written) (rest : List Token) (asked : List Asked) (error : DictError)
       → EntryStands (rules_after earlier) ts e rest → IsSmall (filled earlier.formulas e.expr)
-      → ItemsGive contents earlier.defined (map (λ i. (i.0, line_of text i)) e.items) asked (refuse_items error)
-      → EntryGives contents text earlier ts asked (fails error)
+      → ItemsGive earlier.defined (map (λ i. (i.0, line_of text i)) e.items) asked (refuse_items error)
+      → EntryGives text earlier ts asked (fails error)
 
 -- what a text stands for, or its first fault
 pub data TextAnswer : Type 0 where
@@ -108,20 +109,27 @@ abbrev pub with_meaning : Meaning → TextAnswer → TextAnswer
 with_meaning m (stands ms) = stands (m ∷ ms)
 with_meaning m (refuse error) = refuse error
 
--- The tokens of a text, after what was read before: the names of the word files that are asked for, in order, and the
--- answer. The entries are read one after another, so that a macro may be named from the next entry on.
-pub data TextIs (contents : Contents) (text : List ℕ) : Earlier → List Token → List (List ℕ) → TextAnswer → Type 0 where
-  ended : (earlier : Earlier) → TextIs contents text earlier [] [] (stands [])
-  entry : (earlier : Earlier) (ts rest : List Token) (asked more : List (List ℕ)) (m : Meaning) (new : Defined) (answer : TextAnswer)
-      → ts ≢ [] → EntryGives contents text earlier ts asked (means m new rest)
-      → TextIs contents text (then_entry earlier new m) rest more answer
-      → TextIs contents text earlier ts (asked ++ more) (with_meaning m answer)
-  fault : (earlier : Earlier) (ts : List Token) (asked : List (List ℕ)) (error : DictError)
-      → ts ≢ [] → EntryGives contents text earlier ts asked (fails error)
-      → TextIs contents text earlier ts asked (refuse error)
+-- The tokens of a text, after what was read before: the word files that are asked for, in order, with what was found, and
+-- the answer. The entries are read one after another, so that a macro may be named from the next entry on.
+pub data TextIs (text : List ℕ) : Earlier → List Token → List Asked → TextAnswer → Type 0 where
+  ended : (earlier : Earlier) → TextIs text earlier [] [] (stands [])
+  entry : (earlier : Earlier) (ts rest : List Token) (asked more : List Asked) (m : Meaning) (new : Defined) (answer : TextAnswer)
+      → ts ≢ [] → EntryGives text earlier ts asked (means m new rest)
+      → TextIs text (then_entry earlier new m) rest more answer
+      → TextIs text earlier ts (asked ++ more) (with_meaning m answer)
+  fault : (earlier : Earlier) (ts : List Token) (asked : List Asked) (error : DictError)
+      → ts ≢ [] → EntryGives text earlier ts asked (fails error)
+      → TextIs text earlier ts asked (refuse error)
 
--- A dictionary file, where word files have these contents.
-pub data DictionaryIs (contents : Contents) (bytes : List ℕ) : List (List ℕ) → TextAnswer → Type 0 where
-  not_utf8 : (n : ℕ) → IsValidUpTo bytes n → DictionaryIs contents bytes [] (refuse (NotUtf8 n))
-  text : (ts : List Token) (asked : List (List ℕ)) (answer : TextAnswer) → IsText Dictionary bytes ts
-      → TextIs contents (without_mark bytes) nothing ts asked answer → DictionaryIs contents bytes asked answer
+-- A dictionary file: the word files that are asked for, in order, with what was found, and the answer.
+pub data DictionaryGives (bytes : List ℕ) : List Asked → TextAnswer → Type 0 where
+  not_utf8 : (n : ℕ) → IsValidUpTo bytes n → DictionaryGives bytes [] (refuse (NotUtf8 n))
+  text : (ts : List Token) (asked : List Asked) (answer : TextAnswer) → IsText Dictionary bytes ts
+      → TextIs (without_mark bytes) nothing ts asked answer → DictionaryGives bytes asked answer
+
+-- A dictionary file, where word files have these contents: the names that are asked for, in order, and the answer.
+pub record DictionaryIs (contents : Contents) (bytes : List ℕ) (names : List (List ℕ)) (answer : TextAnswer) : Type 0 where
+  pub asked : List Asked
+  pub names_are : names ≡ names_of asked
+  pub found : AreIn contents asked
+  pub gives : DictionaryGives bytes asked answer

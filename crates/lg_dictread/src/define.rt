@@ -5,10 +5,10 @@ ghost use Rattle.lg_lex.specs.declared.run.Separators.TheVariants.{WhiteSpace};
 ghost use Rattle.lg_lex.specs.Runs.{runs_from};
 ghost use Rattle.std.specs.List.{AllByRecursion, zip};
 ghost use Rattle.lg_base.specs.Files.{AsksWithin};
-ghost use Rattle.lg_dictread.specs.Definitions.{on_line, asked_by};
+ghost use Rattle.lg_dictread.specs.Definitions.{on_line};
 ghost use Rattle.lg_dictread.specs.Telling.{AsksFront, HasCause};
 ghost use Rattle.lg_dictread.specs.Tables.{text_entries};
-ghost use Rattle.lg_dictread.specs.Defining.{TellsNames, HasUtf8Name, defined_in, listed_in, none_listed, ItemIs, ItemsAre, AddsDefined, TellsDefined};
+ghost use Rattle.lg_dictread.specs.Defining.{TellsNames, HasUtf8Name, asked_by, defined_in, listed_in, none_listed, ItemIs, ItemsAre, AddsDefined, TellsDefined};
 
 use crate::dict_error::DictError;
 use crate::table::{Table, add};

@@ -7,8 +7,8 @@ ghost use Rattle.lg_lex.specs.declared.marks.Marks.TheVariants.{Dictionary};
 ghost use Rattle.lg_lex.specs.Lexing.{tokens_from};
 ghost use Rattle.lg_lex.specs.Spots.{IsSpot};
 ghost use Rattle.lg_dictread.specs.Texts.{nothing, stands, refuse};
-ghost use Rattle.lg_dictread.specs.DictTexts.{entry_meaning, TextOf, DictionaryOf};
-ghost use Rattle.lg_dictread.specs.Telling.{Answers, AsksFront, IsMissing, OnError, HasCause};
+ghost use Rattle.lg_dictread.specs.DictTexts.{entry_meaning, TextOf, DictionaryOf, AsksInFront};
+ghost use Rattle.lg_dictread.specs.Telling.{Answers, AsksFront, ErrorTells, HasCause};
 ghost use Rattle.lg_dictread.specs.Reading.{IsKept, ListsAll, AreUtf8, TellsNext};
 
 use crate::define::define_items;
@@ -76,8 +76,7 @@ fn read_text<F: Files>(alloc: Global, text: &[u8], files: &mut F) -> Result<Vec<
     ensures value { IfOk result (λ entries. Answers (F.contents files.old) (TextOf text.now nothing (tokens_from Dictionary text.now 0))
         (F.asked files.old) (F.asked files.new) (stands (map entry_meaning entries.items))) }
     ensures fault { let is = TextOf text.now nothing (tokens_from Dictionary text.now 0) in
-        IfErr result (OnError (IsMissing (F.contents files.old)) (AsksFront (F.contents files.old) is (F.asked files.old) (F.asked files.new))
-        (λ error. Answers (F.contents files.old) is (F.asked files.old) (F.asked files.new) (refuse error))) }
+        IfErr result (ErrorTells (AsksFront (F.contents files.old) is (F.asked files.old) (F.asked files.new)) (F.contents files.old) is refuse (F.asked files.old) (F.asked files.new)) }
     ensures fit { IfOk result (λ entries. AreEntries entries.items) }
     ensures cause { HasCause (F.faults files.old) (F.faults files.new) (F.asked files.new) result }
 {
@@ -108,9 +107,9 @@ pub fn read_dict<F: Files>(
     ensures unchanged { F.contents files.new ≡ F.contents files.old }
     ensures value { IfOk result (λ entries. Answers (F.contents files.old) (DictionaryOf bytes.now)
         (F.asked files.old) (F.asked files.new) (stands (map entry_meaning entries.items))) }
-    ensures fault { IfErr result (OnError (IsMissing (F.contents files.old)) (AsksFront (F.contents files.old) (DictionaryOf bytes.now) (F.asked files.old) (F.asked files.new))
-        (λ error. Answers (F.contents files.old) (DictionaryOf bytes.now) (F.asked files.old) (F.asked files.new) (refuse error))) }
-    ensures asks { AsksFront (F.contents files.old) (DictionaryOf bytes.now) (F.asked files.old) (F.asked files.new) }
+    ensures fault { let is = DictionaryOf bytes.now in
+        IfErr result (ErrorTells (AsksFront (F.contents files.old) is (F.asked files.old) (F.asked files.new)) (F.contents files.old) is refuse (F.asked files.old) (F.asked files.new)) }
+    ensures asks { AsksInFront (F.contents files.old) bytes.now (F.asked files.old) (F.asked files.new) }
     ensures fit { IfOk result (λ entries. AreEntries entries.items) }
     ensures cause { HasCause (F.faults files.old) (F.faults files.new) (F.asked files.new) result }
 {

@@ -9,7 +9,8 @@ ghost use Rattle.lg_gram.specs.EntryViews.{EntryView};
 ghost use Rattle.lg_dictread.specs.EntryTexts.{EntryTextIs};
 ghost use Rattle.lg_dictread.specs.Limits.{FILE};
 ghost use Rattle.lg_base.specs.Contents.{Contents};
-ghost use Rattle.lg_dictread.specs.Texts.{TextAnswer, DictionaryIs};
+ghost use Rattle.lg_dictread.specs.Findings.{Asked};
+ghost use Rattle.lg_dictread.specs.Texts.{TextAnswer, DictionaryGives, DictionaryIs};
 
 use lg_expr::{exactly_one, expressions_keep_bounds};
 use lg_lex::{
@@ -50,13 +51,15 @@ pub fn entry_texts_keep_bounds()
     expressions_keep_bounds();
 }
 
-/// A dictionary file stands for one list of entries or has one first fault, and it asks for one list of word files.
+/// A dictionary file stands for one list of entries or has one first fault, and it asks for one list of word files, by what
+/// is found of the files or by what they hold.
 ///
 /// The function does nothing: a caller whose proof needs the fact calls it.
 pub fn exactly_one_dictionary()
     ensures some { (contents : Contents) (bytes : List ℕ) → (asked : List (List ℕ)) × (answer : TextAnswer) × DictionaryIs contents bytes asked answer }
     ensures one { (contents : Contents) (bytes : List ℕ) (asked other : List (List ℕ)) (x y : TextAnswer) →
         DictionaryIs contents bytes asked x → DictionaryIs contents bytes other y → (asked ≡ other) × (x ≡ y) }
+    ensures found { (bytes : List ℕ) (asked : List Asked) (x y : TextAnswer) → DictionaryGives bytes asked x → DictionaryGives bytes asked y → x ≡ y }
 {
     runs_are_one_list();
     tokens_are_one_list();

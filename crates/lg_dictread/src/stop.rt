@@ -2,7 +2,7 @@ use lg_base::NoMemory;
 use lg_lex::Place;
 use std::alloc::{AllocError, AllocFailed};
 
-/// Why no entry stands at a spot of a text: want of memory, or the first fault. A fault has the place of the token at
+/// Why no entry stands at a spot of a text: memory ran out, or the first fault. A fault has the place of the token at
 /// fault or, where the text ends inside the entry, of its end.
 #[derive(Clone, Copy, Debug, PartialEq, Eq)]
 pub(crate) enum Stop<'a> {

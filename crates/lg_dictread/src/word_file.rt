@@ -1,8 +1,7 @@
 //! Word files.
 
-ghost use Rattle.std.specs.Prelude.{◌≡◌, IfSome};
+ghost use Rattle.std.specs.Prelude.{◌≡◌};
 ghost use Rattle.std.specs.Str.{IsUtf8};
-ghost use Rattle.lg_base.specs.Contents.{file};
 ghost use Rattle.lg_dictread.specs.Telling.{UnlessMemory, HasCause};
 ghost use Rattle.lg_dictread.specs.Defining.{TellsFile, AsksFile};
 
@@ -21,7 +20,7 @@ pub(crate) fn read_word_file<F: Files>(
 ) -> Result<Vec<u8>, DictError>
     requires { IsUtf8 name.now }
     ensures unchanged { F.contents files.new ≡ F.contents files.old }
-    ensures told { IfSome (F.contents files.old) (λ known. TellsFile (file known name.now) line name.now result) }
+    ensures told { TellsFile (F.contents files.old) line name.now result }
     ensures asked { AsksFile (F.asked files.old) (F.asked files.new) name.now result }
     ensures cause { HasCause (F.faults files.old) (F.faults files.new) (F.asked files.new) result }
 {

@@ -9,10 +9,11 @@ use Rattle.lg_dict.specs.Dictionary.{dictionary_of}
 use Rattle.lg_dictread.specs.declared.dict_error.DictError.{DictError}
 use Rattle.lg_dictread.specs.declared.dict_error.DictError.TheVariants as errors
 use Rattle.lg_dictread.specs.declared.dict_error.WordFileError.TheVariants as causes
+use Rattle.lg_dictread.specs.Findings.{names_of}
 use Rattle.lg_dictread.specs.Limits.{FILE}
-use Rattle.lg_dictread.specs.Telling.{Answers, AsksFront, IsMissing, OnError, IsCause}
+use Rattle.lg_dictread.specs.Telling.{Answers, AsksFront, ErrorTells, out_of_memory, file_unread, first_fault, IsCause}
 use Rattle.lg_dictread.specs.Texts.{Meaning, TextAnswer, refuse, DictionaryIs}
-use Rattle.lg_dictread.specs.DictTexts.{entry_meaning, DictionaryOf}
+use Rattle.lg_dictread.specs.DictTexts.{entry_meaning, DictionaryOf, AsksInFront}
 use Rattle.lg_run.specs.Lines.{too_long_line, dict_line}
 use Rattle.lg_run.specs.Inputs.{accepted, refused, missing, HasSome, IsOne, FileIs, absent, long, whole, dictionary_from, found_in, DictionaryReads, reads, DictionaryInput}
 use Rattle.lg_run.specs.Reads.{AsksInOrder, Comes, TellsStop, IsFaultOf}
@@ -91,11 +92,15 @@ one_text law contents name bytes _ _ _ _ (reads asked answer p) (reads other rep
     let same = law contents bytes asked other answer reply p q in (same.0, ap (found_in name) same.1)
 
 -- no more was asked than the format reads
-pub asks_text : (known : Option Contents) (name bytes : List ℕ) (old new : List (List ℕ)) → AsksFront known (DictionaryOf bytes) old new → IfSome known (λ contents. AsksInOrder (DictionaryReads contents name bytes) old new)
+pub asks_text : (known : Option Contents) (name bytes : List ℕ) (old new : List (List ℕ)) → AsksInFront known bytes old new → IfSome known (λ contents. AsksInOrder (DictionaryReads contents name bytes) old new)
 asks_text None name bytes old new h = tt
 asks_text (Some contents) name bytes old new h = asks where
   asks : AsksInOrder (DictionaryReads contents name bytes) old new
   asks _ _ (reads asked answer q) = h asked answer q
+
+-- an answer by what was found is that of the contents
+pub told_answer : (contents : Contents) (bytes : List ℕ) (old new : List (List ℕ)) (answer : TextAnswer) (h : Answers (Some contents) (DictionaryOf bytes) old new answer) → DictionaryIs contents bytes (names_of h.asked) answer
+told_answer contents bytes old new answer h = record { asked = h.asked; names_are = refl; found = h.found; gives = h.answers }
 
 -- an error that is a fault of the input says the line of the first text that is refused
 abbrev pub ErrorTold : Contents → List ℕ → List ℕ → List (List ℕ) → List (List ℕ) → DictError → Type 0
@@ -103,27 +108,43 @@ ErrorTold contents name bytes old new error = TellsStop (DictionaryReads content
 
 module _ (contents : Contents) (name bytes : List ℕ) (old new : List (List ℕ)) where
   read_so : (answer : TextAnswer) (line : List ℕ) → found_in name answer ≡ refused line → Answers (Some contents) (DictionaryOf bytes) old new answer → TellsStop (DictionaryReads contents name bytes) old new BadInput line
-  read_so answer line same h = record { names = h.0; read = subst (λ f. DictionaryReads contents name bytes h.0 f) same (reads h.0 answer h.2); grown = h.1 }
+  read_so answer line same h = record {
+    names = names_of h.asked;
+    read = subst (λ f. DictionaryReads contents name bytes (names_of h.asked) f) same (reads (names_of h.asked) answer (told_answer contents bytes old new answer h));
+    grown = h.names;
+  }
 
-  pub told_known : (error : DictError) → OnError (IsMissing (Some contents)) (AsksFront (Some contents) (DictionaryOf bytes) old new) (λ e. Answers (Some contents) (DictionaryOf bytes) old new (refuse e)) error → ErrorTold contents name bytes old new error
-  told_known errors.NoMemory h = tt
-  told_known (errors.WordFile line file causes.Failed) h = tt
-  told_known (errors.WordFile line file causes.TooLong) h = read_so (refuse (errors.WordFile line file causes.TooLong)) (too_long_line file) refl h
-  told_known (errors.WordFile line file (causes.NotUtf8 n)) h = let e = errors.WordFile line file (causes.NotUtf8 n) in read_so (refuse e) (dict_line name e) refl h
-  told_known (errors.NotUtf8 n) h = let e = errors.NotUtf8 n in read_so (refuse e) (dict_line name e) refl h
-  told_known (errors.Syntax line column) h = let e = errors.Syntax line column in read_so (refuse e) (dict_line name e) refl h
-  told_known (errors.UnknownMacro line macro) h = let e = errors.UnknownMacro line macro in read_so (refuse e) (dict_line name e) refl h
-  told_known (errors.CostForm line) h = let e = errors.CostForm line in read_so (refuse e) (dict_line name e) refl h
-  told_known (errors.TooDeep line) h = let e = errors.TooDeep line in read_so (refuse e) (dict_line name e) refl h
-  told_known (errors.TooManyNodes line n) h = let e = errors.TooManyNodes line n in read_so (refuse e) (dict_line name e) refl h
-  told_known (errors.TooManyChoices line n) h = let e = errors.TooManyChoices line n in read_so (refuse e) (dict_line name e) refl h
-  told_known (errors.SideTooLong line n) h = let e = errors.SideTooLong line n in read_so (refuse e) (dict_line name e) refl h
-  told_known (errors.DuplicateWord word n m) h = let e = errors.DuplicateWord word n m in read_so (refuse e) (dict_line name e) refl h
+  -- the first fault
+  first_known : (error : DictError) → Answers (Some contents) (DictionaryOf bytes) old new (refuse error) → ErrorTold contents name bytes old new error
+  first_known errors.NoMemory h = tt
+  first_known (errors.WordFile line file causes.Failed) h = tt
+  first_known (errors.WordFile line file causes.TooLong) h = read_so (refuse (errors.WordFile line file causes.TooLong)) (too_long_line file) refl h
+  first_known (errors.WordFile line file (causes.NotUtf8 n)) h = let e = errors.WordFile line file (causes.NotUtf8 n) in read_so (refuse e) (dict_line name e) refl h
+  first_known (errors.NotUtf8 n) h = let e = errors.NotUtf8 n in read_so (refuse e) (dict_line name e) refl h
+  first_known (errors.Syntax line column) h = let e = errors.Syntax line column in read_so (refuse e) (dict_line name e) refl h
+  first_known (errors.UnknownMacro line macro) h = let e = errors.UnknownMacro line macro in read_so (refuse e) (dict_line name e) refl h
+  first_known (errors.CostForm line) h = let e = errors.CostForm line in read_so (refuse e) (dict_line name e) refl h
+  first_known (errors.TooDeep line) h = let e = errors.TooDeep line in read_so (refuse e) (dict_line name e) refl h
+  first_known (errors.TooManyNodes line n) h = let e = errors.TooManyNodes line n in read_so (refuse e) (dict_line name e) refl h
+  first_known (errors.TooManyChoices line n) h = let e = errors.TooManyChoices line n in read_so (refuse e) (dict_line name e) refl h
+  first_known (errors.SideTooLong line n) h = let e = errors.SideTooLong line n in read_so (refuse e) (dict_line name e) refl h
+  first_known (errors.DuplicateWord word n m) h = let e = errors.DuplicateWord word n m in read_so (refuse e) (dict_line name e) refl h
+
+  told_known : (error : DictError) → ErrorTells (AsksFront (Some contents) (DictionaryOf bytes) old new) (Some contents) (DictionaryOf bytes) refuse old new error → ErrorTold contents name bytes old new error
+  told_known error (out_of_memory ended) = tt
+  told_known error (file_unread line file asked ended names found answers) = tt
+  told_known error (first_fault e h) = first_known e h
 
 pub told_error : (known : Option Contents) (name bytes : List ℕ) (old new : List (List ℕ)) (error : DictError) →
-    OnError (IsMissing known) (AsksFront known (DictionaryOf bytes) old new) (λ e. Answers known (DictionaryOf bytes) old new (refuse e)) error → IfSome known (λ contents. ErrorTold contents name bytes old new error)
+    ErrorTells (AsksFront known (DictionaryOf bytes) old new) known (DictionaryOf bytes) refuse old new error → IfSome known (λ contents. ErrorTold contents name bytes old new error)
 told_error None name bytes old new error h = tt
 told_error (Some contents) name bytes old new error h = told_known contents name bytes old new error h
+
+-- the dictionary of these entries is what the contents stand for
+pub told_value : (known : Option Contents) (bytes : List ℕ) (old new : List (List ℕ)) (answer : TextAnswer) → Answers known (DictionaryOf bytes) old new answer
+    → IfSome known (λ contents. (names : List (List ℕ)) × (new ≡ old ++ names) × DictionaryIs contents bytes names answer)
+told_value None bytes old new answer h = tt
+told_value (Some contents) bytes old new answer h = (names_of h.asked, h.names, told_answer contents bytes old new answer h)
 
 -- a word file that was not read is the cause of a read fault
 pub fault_error : (before now : ℕ) (name : List ℕ) (asked : List (List ℕ)) (error : DictError) → IsCause before now asked error → IsFaultOf asked before now (dict_status error) (dict_line name error)

@@ -7,9 +7,9 @@ use Rattle.lg_gram.specs.declared.entry.Item.{Item}
 use Rattle.lg_lex.specs.declared.run.Separators.TheVariants.{WhiteSpace}
 use Rattle.lg_base.specs.Contents.{Contents}
 use Rattle.lg_base.specs.Files.{AsksWithin}
-use Rattle.lg_dictread.specs.Definitions.{asked_by, define, refuse_items}
-use Rattle.lg_dictread.specs.Telling.{Answers, IsMissing, OnError}
-use Rattle.lg_dictread.specs.Defining.{HasUtf8Name, Listed, defined_in, listed_in, none_listed, ItemIs}
+use Rattle.lg_dictread.specs.Definitions.{define, refuse_items}
+use Rattle.lg_dictread.specs.Telling.{Answers, ErrorTells}
+use Rattle.lg_dictread.specs.Defining.{HasUtf8Name, Listed, defined_in, listed_in, none_listed, ItemIs, asked_by}
 use Rattle.lg_dictread.proofs.ItemAnswers.{Laws}
 use Rattle.lg_dictread.proofs.ItemsTold.{SoFar, so_far_none, so_far_more, so_far_all, so_far_error, one_pair, no_pair, one_first}
 use Rattle.lg_dictread.proofs.define.define_items.Goals as goal
@@ -71,7 +71,7 @@ returns-in_err-define_item-clause-told g c =
       one_fault = c.bytes_are_utf8_or_at_fault.ensures.one;
       fault_apart = c.bytes_are_utf8_or_at_fault.ensures.apart;
     } in
-    let told = subst (λ (k : Option Contents). OnError (IsMissing k) (AsksWithin (g.F.Files.asked c.loop-item.files) (g.F.Files.asked c.define_item.new.files) (asked_by i.0.kind i.0.text)) (λ e. Answers k (ItemIs (defined_in c.loop-item.tables) i) (g.F.Files.asked c.loop-item.files) (g.F.Files.asked c.define_item.new.files) (refuse_items e)) c.in_err-define_item.field-0.0) c.loop-item.invariant.unchanged c.in_err-define_item.ensures.told in
+    let told = subst (λ (k : Option Contents). ErrorTells (AsksWithin (g.F.Files.asked c.loop-item.files) (g.F.Files.asked c.define_item.new.files) (asked_by i.0.kind i.0.text)) k (ItemIs (defined_in c.loop-item.tables) i) refuse_items (g.F.Files.asked c.loop-item.files) (g.F.Files.asked c.define_item.new.files) c.in_err-define_item.field-0.0) c.loop-item.invariant.unchanged c.in_err-define_item.ensures.told in
     rw (p.1, p.2) (so_far_error known (g.F.Files.asked c.args.files.now) (g.F.Files.asked c.loop-item.files) (defined_in c.args.tables.now) (defined_in c.loop-item.tables) (listed_in c.loop-item.names)
     (zip c.args.items.now c.args.lines.now) (zip (iter_rest (zip_first before)) (iter_rest (zip_second before))) c.loop-item.invariant.so_far laws
     (g.F.Files.asked c.define_item.new.files) (zip (iter_rest (zip_first after)) (iter_rest (zip_second after))) i c.in_err-define_item.field-0.0

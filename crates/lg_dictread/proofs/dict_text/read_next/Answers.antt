@@ -13,18 +13,28 @@ use Rattle.lg_dictread.specs.declared.define.Tables.{Tables}
 use Rattle.lg_dictread.specs.Entries.{Written}
 use Rattle.lg_dictread.specs.Texts.{rules_after, meaning_of, means}
 use Rattle.lg_dictread.specs.Defining.{HasUtf8Name, defined_in, listed_in, none_listed, AddsDefined}
-use Rattle.lg_dictread.specs.Reading.{earlier_of, formulas_of, named_meaning}
+use Rattle.lg_dictread.specs.Reading.{earlier_of, formulas_of, named_meaning, NextIs}
+use Rattle.lg_dictread.specs.Telling.{out_of_memory}
+use Rattle.lg_dictread.proofs.Found.{all_front}
 use Rattle.lg_dictread.proofs.Formulas.{all_fit}
 use Rattle.lg_dictread.proofs.ItemAnswers.{Laws}
 use Rattle.lg_dictread.proofs.TextAnswers.{EntryLaws, shorter}
-use Rattle.lg_dictread.proofs.NextEntry.{items_zip, stands_utf8, items_stop_gives, refused_gives, has_head, line_told, entry_stands, whole_gives, items_error, all_asked, meaning_told, adds_entry, lists_all}
+use Rattle.lg_dictread.proofs.NextEntry.{items_zip, stands_utf8, items_stop_gives, refused_gives, has_head, line_told, entry_stands, whole_gives, items_error, meaning_told, adds_entry, lists_all}
 use Rattle.lg_dictread.proofs.dict_text.read_next.Goals as goal
 
 -- a token before the colon is at fault
 pub returns-in-Err-clause-told : goal.returns-in-Err-clause-told
 returns-in-Err-clause-told g c =
     let ts = tokens_from Dictionary c.args.text.now c.args.from.at in
-    items_stop_gives (g.F.Files.contents c.args.files.now) (g.F.Files.asked c.args.files.now) c.args.text.now (earlier_of c.args.earlier.now) ts c.in-Err.stop _ c.in-Err.ensures.told c.fault_error.ensures.told
+    let laws : Laws = record {
+      cut = c.runs_are_one_list.ensures.cut WhiteSpace 0;
+      one_cut = λ rs bytes. c.runs_are_one_list.ensures.one WhiteSpace rs 0 bytes;
+      utf8_or_fault = c.bytes_are_utf8_or_at_fault.ensures.some;
+      one_fault = c.bytes_are_utf8_or_at_fault.ensures.one;
+      fault_apart = c.bytes_are_utf8_or_at_fault.ensures.apart;
+    } in
+    let entry_laws : EntryLaws = record { some = c.exactly_one_entry.ensures.some; one = c.exactly_one_entry.ensures.one } in
+    items_stop_gives (g.F.Files.contents c.args.files.now) (g.F.Files.asked c.args.files.now) c.args.text.now (earlier_of c.args.earlier.now) ts laws entry_laws c.in-Err.stop _ c.in-Err.ensures.told c.fault_error.ensures.told
 
 -- the expression is at fault, or passes a measure
 pub returns-in_err-read-clause-told : goal.returns-in_err-read-clause-told
@@ -36,7 +46,15 @@ returns-in_err-read-clause-told g c =
     let x = c.in-Ok.head in
     let head = has_head text ts x c.in-Ok.ensures.told in
     let line = line_told text ts x head c.index-line.result.now (get_or_read x.lines.items _ _ (omega (arith, x.lines.ok.0, c.in-Ok.ensures.some)) c.index-line.ensures 0) in
-    rw (p.1, p.2) (refused_gives (g.F.Files.contents c.args.files.now) (g.F.Files.asked c.args.files.now) text earlier ts x head c.index-line.result.now c.in_err-read.field-0.0 line c.in_err-read.ensures.told)
+    let laws : Laws = record {
+      cut = c.runs_are_one_list.ensures.cut WhiteSpace 0;
+      one_cut = λ rs bytes. c.runs_are_one_list.ensures.one WhiteSpace rs 0 bytes;
+      utf8_or_fault = c.bytes_are_utf8_or_at_fault.ensures.some;
+      one_fault = c.bytes_are_utf8_or_at_fault.ensures.one;
+      fault_apart = c.bytes_are_utf8_or_at_fault.ensures.apart;
+    } in
+    let entry_laws : EntryLaws = record { some = c.exactly_one_entry.ensures.some; one = c.exactly_one_entry.ensures.one } in
+    rw (p.1, p.2) (refused_gives (g.F.Files.contents c.args.files.now) (g.F.Files.asked c.args.files.now) text earlier ts laws entry_laws x head c.index-line.result.now c.in_err-read.field-0.0 line c.in_err-read.ensures.told)
 
 -- the names of word files are UTF-8, as all tokens are
 pub define_items-requires : goal.define_items-requires
@@ -71,15 +89,7 @@ returns-in_err-names-clause-told g c =
     let stands = entry_stands earlier text ts rest x head _ read.level m in
     let lined = zip c.as_slice.result.now c.as_slice-2.result.now in
     let are = (λ i. zip (c.as_slice.ensures.value i) (c.as_slice-2.ensures.value i)) ∙ items_zip text head.items x.items.items x.lines.items head.keeps in
-    let laws : Laws = record {
-      cut = c.runs_are_one_list.ensures.cut WhiteSpace 0;
-      one_cut = λ rs bytes. c.runs_are_one_list.ensures.one WhiteSpace rs 0 bytes;
-      utf8_or_fault = c.bytes_are_utf8_or_at_fault.ensures.some;
-      one_fault = c.bytes_are_utf8_or_at_fault.ensures.one;
-      fault_apart = c.bytes_are_utf8_or_at_fault.ensures.apart;
-    } in
-    let entry_laws : EntryLaws = record { some = c.exactly_one_entry.ensures.some; one = c.exactly_one_entry.ensures.one } in
-    rw (p.1, p.2) (items_error known asked text earlier ts e rest stands m.small lined are (g.F.Files.asked c.define_items.new.files) laws entry_laws c.in_err-names.field-0.0 c.in_err-names.ensures.told)
+    rw (p.1, p.2) (items_error known asked text earlier ts e rest stands m.small lined are (g.F.Files.asked c.define_items.new.files) c.in_err-names.field-0.0 c.in_err-names.ensures.told)
 
 -- the formula keeps to its level
 pub push-requires-clause-fits : goal.push-requires-clause-fits
@@ -109,17 +119,10 @@ returns-in_err-push-clause-told g c =
     let stands = entry_stands earlier text ts rest x head _ read.level m in
     let lined = zip c.as_slice.result.now c.as_slice-2.result.now in
     let are = (λ i. zip (c.as_slice.ensures.value i) (c.as_slice-2.ensures.value i)) ∙ items_zip text head.items x.items.items x.lines.items head.keeps in
-    let laws : Laws = record {
-      cut = c.runs_are_one_list.ensures.cut WhiteSpace 0;
-      one_cut = λ rs bytes. c.runs_are_one_list.ensures.one WhiteSpace rs 0 bytes;
-      utf8_or_fault = c.bytes_are_utf8_or_at_fault.ensures.some;
-      one_fault = c.bytes_are_utf8_or_at_fault.ensures.one;
-      fault_apart = c.bytes_are_utf8_or_at_fault.ensures.apart;
-    } in
-    let entry_laws : EntryLaws = record { some = c.exactly_one_entry.ensures.some; one = c.exactly_one_entry.ensures.one } in
     let told = c.in_ok-names.ensures.told in
     let given = whole_gives known asked text earlier ts e rest stands m.small lined are now told.0 told.2 in
-    rw (p.1, p.2) (all_asked known asked text earlier ts e rest stands m.small lined are now laws entry_laws (means (meaning_of text earlier e told.0) told.0 rest) given)
+    let o = means (meaning_of text earlier e told.0) told.0 rest in
+    rw (p.1, p.2) (out_of_memory (all_front known (NextIs text earlier ts) asked now o given))
 
 pub returns-clause-told : goal.returns-clause-told
 returns-clause-told g c =

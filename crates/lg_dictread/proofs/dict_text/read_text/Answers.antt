@@ -1,19 +1,33 @@
-use Rattle.std.proofs.Common.{map, List, Option, sym, subst, ◌∙◌, arith}
+use Rattle.std.proofs.Common.{map, List, Option, refl, rules, sym, ap, subst, ◌∙◌, arith}
+use Rattle.lg_gram.specs.declared.entry.Entry.{Entry}
 use Rattle.std.proofs.lemmas.Result.{err_from_is_err_and}
 use Rattle.lg_base.specs.Contents.{Contents}
 use Rattle.lg_lex.specs.declared.marks.Marks.TheVariants.{Dictionary}
 use Rattle.lg_lex.specs.declared.run.Separators.TheVariants.{WhiteSpace}
 use Rattle.lg_lex.specs.Found.{lexeme_of, following}
 use Rattle.lg_lex.specs.Lexing.{tokens_from}
-use Rattle.lg_dictread.specs.Telling.{Answers, AsksFront, IsMissing, OnError}
+use Rattle.lg_dictread.specs.Telling.{Answers, AsksFront, ErrorTells}
 use Rattle.lg_dictread.specs.Texts.{Earlier, Meaning, then_entry, means, fails}
 use Rattle.lg_dictread.specs.DictTexts.{entry_meaning}
 use Rattle.lg_dictread.specs.Reading.{earlier_of, NextIs}
 use Rattle.lg_dictread.proofs.ItemAnswers.{Laws}
 use Rattle.lg_dictread.proofs.Listing.{entries_fit}
 use Rattle.lg_dictread.proofs.TextAnswers.{EntryLaws}
-use Rattle.lg_dictread.proofs.TextsTold.{Leads, leads_end, leads_more, leads_error, none_left, some_left}
+use Rattle.lg_dictread.proofs.TextsTold.{Leads, leads_start, leads_end, leads_more, leads_error, none_left, some_left}
+use Rattle.lg_dictread.proofs.Unread.{cause_since}
 use Rattle.lg_dictread.proofs.dict_text.read_text.Goals as goal
+
+pub loop-alloc-init : goal.loop-alloc-init
+loop-alloc-init g c = record {
+  spot = search rules;
+  utf8 = search rules;
+  kept = search rules;
+  listed = search rules;
+  unchanged = refl;
+  later = omega arith;
+  leads = leads_start (g.F.Files.contents c.args.files.now) c.args.text.now (g.F.Files.asked c.args.files.now) (tokens_from Dictionary c.args.text.now 0) (earlier_of c.new-earlier.result) (map entry_meaning c.new-earlier.result.entries.items) _
+      c.new-earlier.ensures.earlier (ap (λ (es : List Entry). map entry_meaning es) c.new-earlier.ensures.entries) refl;
+}
 
 -- one entry more
 pub loop-alloc-preserved : goal.loop-alloc-preserved
@@ -66,7 +80,7 @@ returns-in_err-spot-clause-fault g c =
     let ts = tokens_from Dictionary text c.loop-alloc.spot.at in
     let some = some_left c.next_spotted.result ts (λ f. (lexeme_of f.token, f.start.at)) (λ f. following f.token (tokens_from Dictionary text f.end.at)) c.loop-alloc-test.ensures c.next_spotted.ensures.next in
     let error = c.in_err-spot.field-0.0 in
-    let told = subst (λ (k : Option Contents). OnError (IsMissing k) (AsksFront k (NextIs text earlier ts) now next) (λ e. Answers k (NextIs text earlier ts) now next (fails e)) error) c.loop-alloc.invariant.unchanged c.in_err-spot.ensures.told in
+    let told = subst (λ (k : Option Contents). ErrorTells (AsksFront k (NextIs text earlier ts) now next) k (NextIs text earlier ts) fails now next error) c.loop-alloc.invariant.unchanged c.in_err-spot.ensures.told in
     let laws : Laws = record {
       cut = c.runs_are_one_list.ensures.cut WhiteSpace 0;
       one_cut = λ rs bytes. c.runs_are_one_list.ensures.one WhiteSpace rs 0 bytes;
@@ -76,3 +90,12 @@ returns-in_err-spot-clause-fault g c =
     } in
     let entry_laws : EntryLaws = record { some = c.exactly_one_entry.ensures.some; one = c.exactly_one_entry.ensures.one } in
     rw (p.1, p.2) (leads_error (g.F.Files.contents c.args.files.now) text (g.F.Files.asked c.args.files.now) (tokens_from Dictionary text 0) now earlier (map entry_meaning c.loop-alloc.earlier.entries.items) ts some c.loop-alloc.invariant.leads laws entry_laws next error told)
+
+pub returns-in_err-spot-clause-cause : goal.returns-in_err-spot-clause-cause
+returns-in_err-spot-clause-cause g c =
+    let p = err_from_is_err_and c.from_residual.result c.from_residual.ensures.1 in
+    let cause = c.in_err-spot.ensures.cause in
+    rw (p.1, p.2) (record {
+      later = omega (arith, cause.later, c.loop-alloc.invariant.later);
+      error = cause_since (g.F.Files.faults c.args.files.now) (g.F.Files.faults c.loop-alloc.files) (g.F.Files.faults c.read_next.new.files) (g.F.Files.asked c.read_next.new.files) c.in_err-spot.field-0.0 c.loop-alloc.invariant.later cause.error;
+    })

@@ -2,7 +2,7 @@ use Rattle.lg_lex.specs.declared.marks.Marks.TheVariants.{Dictionary}
 use Rattle.lg_lex.specs.declared.run.Separators.TheVariants.{WhiteSpace}
 use Rattle.lg_dictread.proofs.ItemAnswers.{Laws}
 use Rattle.lg_dictread.proofs.TextAnswers.{EntryLaws}
-use Rattle.lg_dictread.proofs.Dictionaries.{TokenLaws, some_dictionary, one_dictionary}
+use Rattle.lg_dictread.proofs.Dictionaries.{TokenLaws, some_dictionary, one_dictionary, one_found}
 use Rattle.lg_dictread.proofs.law.exactly_one_dictionary.Goals as goal
 
 -- the laws of runs, of UTF-8, of entries and of tokens
@@ -25,7 +25,10 @@ token_laws c = record {
 }
 
 pub returns-clause-some : goal.returns-clause-some
-returns-clause-some c = λ contents bytes. some_dictionary (laws c) (entry_laws c) (token_laws c) contents bytes
+returns-clause-some c = λ contents bytes. some_dictionary (laws c) (entry_laws c) (token_laws c) bytes contents
 
 pub returns-clause-one : goal.returns-clause-one
-returns-clause-one c = λ contents bytes asked other x y h k. one_dictionary (laws c) (entry_laws c) (token_laws c) contents bytes asked other x y h k
+returns-clause-one c = λ contents bytes asked other x y h k. one_dictionary (laws c) (entry_laws c) (token_laws c) bytes contents asked other x y h k
+
+pub returns-clause-found : goal.returns-clause-found
+returns-clause-found c = λ bytes asked x y h k. one_found (laws c) (entry_laws c) (token_laws c) bytes asked x y h k

@@ -1,20 +1,18 @@
-use Rattle.std.proofs.Common.{◌∷◌, [], ◌++◌, ℕ, List, refl, sym, subst, ap, ◌∙◌}
+use Rattle.std.proofs.Common.{◌∷◌, [], ◌++◌, ℕ, List, refl, subst, ap, ◌∙◌}
 use Rattle.std.specs.Str.{IsValidUpTo}
-use Rattle.lg_base.specs.Contents.{file}
 use Rattle.lg_dictread.specs.declared.dict_error.WordFileError.TheVariants.{Failed, TooLong, NotUtf8}
-use Rattle.lg_dictread.specs.Definitions.{FileGives, fails, missing, at_fault}
-use Rattle.lg_dictread.proofs.ErrorMaps.{if_some, if_some_map}
-use Rattle.lg_dictread.proofs.Unread.{unread_told, unread_cause, too_long}
+use Rattle.lg_dictread.specs.Definitions.{missing, long, at_fault}
+use Rattle.lg_dictread.specs.Findings.{not_read, too_long, has_bytes}
+use Rattle.lg_dictread.proofs.Unread.{unread_told, unread_cause, long_known, bytes_known}
 use Rattle.lg_dictread.proofs.word_file.read_word_file.Goals as goal
 
 pub returns-in-Some-clause-told : goal.returns-in-Some-clause-told
 returns-in-Some-clause-told g c =
+    let known = g.F.Files.contents c.args.files.now in
     let bytes = c.in-Ok-read_all.bytes.items in
     let wrong : IsValidUpTo bytes c.in-Some.byte = subst (λ (l : List ℕ). IsValidUpTo l c.in-Some.byte) c.deref.ensures.value c.in-Some.ensures.fault in
-    if_some_map (g.F.Files.contents c.args.files.now) _ _
-    (λ known read. unread_told (file known c.args.name.now) c.args.line c.args.name.now (NotUtf8 c.in-Some.byte) c.unread.result
-    (λ q. at_fault bytes c.in-Some.byte (ap (file known) (sym c.in-Ok.ensures.cases.0) ∙ read.0) read.1 wrong) c.unread.ensures)
-    c.in-Ok-read_all.ensures.told
+    unread_told known c.args.line c.args.name.now (NotUtf8 c.in-Some.byte) (has_bytes bytes) c.unread.result (at_fault bytes c.in-Some.byte wrong)
+    (bytes_known known c.args.name.now c.in-Ok.path.now bytes c.in-Ok.ensures.cases.0 c.in-Ok-read_all.ensures.told) c.unread.ensures
 
 pub returns-in-Some-clause-cause : goal.returns-in-Some-clause-cause
 returns-in-Some-clause-cause g c = record {
@@ -25,12 +23,10 @@ returns-in-Some-clause-cause g c = record {
 
 pub returns-in-Err-TooLong-clause-told : goal.returns-in-Err-TooLong-clause-told
 returns-in-Err-TooLong-clause-told g c =
-    if_some_map (g.F.Files.contents c.args.files.now) _ _
-    (λ known read. unread_told (file known c.args.name.now) c.args.line c.args.name.now TooLong c.unread-in-Err-TooLong.result
-    (λ q. subst (λ (name : List ℕ). FileGives (file known name) (fails TooLong)) c.in-Ok.ensures.cases.0 (too_long (file known c.in-Ok.path.now) read)) c.unread-in-Err-TooLong.ensures)
-    (rw c.in-Err-TooLong.field-0-is at c.in-Err-TooLong.ensures.told)
+    let known = g.F.Files.contents c.args.files.now in
+    unread_told known c.args.line c.args.name.now TooLong too_long c.unread-in-Err-TooLong.result long
+    (long_known known c.args.name.now c.in-Ok.path.now c.in-Ok.ensures.cases.0 (rw c.in-Err-TooLong.field-0-is at c.in-Err-TooLong.ensures.told)) c.unread-in-Err-TooLong.ensures
 
 pub returns-in-Err-Failed-clause-told : goal.returns-in-Err-Failed-clause-told
 returns-in-Err-Failed-clause-told g c =
-    if_some (g.F.Files.contents c.args.files.now) _
-    (λ known. unread_told (file known c.args.name.now) c.args.line c.args.name.now Failed c.unread-in-Err-Failed.result (λ is. missing (is refl)) c.unread-in-Err-Failed.ensures)
+    unread_told (g.F.Files.contents c.args.files.now) c.args.line c.args.name.now Failed not_read c.unread-in-Err-Failed.result missing refl c.unread-in-Err-Failed.ensures

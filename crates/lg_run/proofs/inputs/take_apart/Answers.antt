@@ -4,7 +4,7 @@ use Rattle.lg_dict.specs.Dictionary.{Dictionary}
 use Rattle.lg_dictread.specs.Texts.{stands}
 use Rattle.lg_dictread.specs.DictTexts.{entry_meaning}
 use Rattle.lg_run.specs.Inputs.{accepted, DictionaryReads, reads}
-use Rattle.lg_run.proofs.Dictionaries.{same_dictionary, asks_text, told_error}
+use Rattle.lg_run.proofs.Dictionaries.{same_dictionary, asks_text, told_error, told_value}
 use Rattle.lg_run.proofs.inputs.take_apart.Goals as goal
 
 -- no more was asked than the format reads
@@ -26,7 +26,8 @@ returns-in-Ok-of-clause-told g c =
     let entries = c.in-Ok.entries.items in
     let bytes = c.args.bytes.now in
     let name = c.args.name.now in
-    IfSome_then (g.F.Files.contents c.args.files.now) c.in-Ok.ensures.value
+    IfSome_then (g.F.Files.contents c.args.files.now)
+    (told_value (g.F.Files.contents c.args.files.now) bytes (g.F.Files.asked c.args.files.now) (g.F.Files.asked c.read_dict.new.files) (stands (map entry_meaning entries)) c.in-Ok.ensures.value)
     (λ known is. record {
       names = is.0;
       read = subst (λ (d : Dictionary). DictionaryReads known name bytes is.0 (accepted d)) (same_dictionary entries ∙ sym c.in-Ok-of.ensures) (reads is.0 (stands (map entry_meaning entries)) is.2);
