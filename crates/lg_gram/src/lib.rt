@@ -16,8 +16,6 @@ pub mod measures;
 pub mod order;
 pub mod problem;
 pub mod reply;
-#[cfg(test)]
-mod tests;
 
 pub use connector::{Connector, Connectors, link_label, matches};
 pub use disjunct::{Chosen, Disjunct, Disjuncts, Positions};
