@@ -17,8 +17,6 @@ pub mod order;
 pub mod problem;
 pub mod reply;
 pub mod sizes;
-#[cfg(test)]
-mod tests;
 
 pub use connector::{Connector, Connectors, link_label, matches};
 pub use disjunct::{Chosen, Disjunct, Disjuncts, Positions};

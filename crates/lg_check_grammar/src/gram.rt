@@ -3,10 +3,10 @@ ghost use Rattle.std.specs.Prelude.{if◌then◌else◌, ◌==◌, Some, None};
 ghost use Rattle.std.specs.Cmp.Lexicographic.{pointwise};
 ghost use Rattle.lg_gram.specs.Trees.{tree_of};
 
-use crate::macros::{fill, filled_level, filled_sizes, first_unknown};
-use crate::problem::{DISJUNCT_COST, POSITIONS, SIDE};
-use crate::*;
 use lg_base::{Cost, Text};
+use lg_gram::macros::{fill, filled_level, filled_sizes, first_unknown};
+use lg_gram::problem::{DISJUNCT_COST, POSITIONS, SIDE};
+use lg_gram::*;
 use std::alloc::Global;
 use std::cmp::Ordering;
 use std::process::Abort;
