@@ -11,7 +11,10 @@ use Rattle.lg_knowread.specs.declared.fault.KnowError.{KnowError}
 use Rattle.lg_knowread.specs.declared.fault.KnowError.TheVariants as know_errors
 use Rattle.lg_script.specs.declared.script_error.ScriptError.{ScriptError}
 use Rattle.lg_script.specs.declared.script_error.ScriptError.TheVariants as script_errors
-use Rattle.lg_run.specs.Words.{Task, TaskIs}
+use Rattle.lg_answer.specs.declared.options.Options.{Options}
+use Rattle.lg_run.specs.Words.{Task, TaskIs, OptionsAre, AreInRange}
+use Rattle.lg_run.specs.Commands.{option_words, task, IsCommand}
+use Rattle.lg_run.specs.declared.command.Command.{Command}
 use Rattle.lg_run.specs.Inputs.{Found, Reading, accepted, refused, IsOne, Given, InputsAre}
 use Rattle.lg_run.specs.Lines.{memory_line, dict_line, know_line, script_line}
 use Rattle.lg_run.specs.Stops.{dict_status, know_status, script_status, stop_status, stop_line, EndsAs, EndsWithLine}
@@ -29,7 +32,7 @@ abbrev pub OneTask : Type 0
 OneTask = (words : List (List ℕ)) (t u : Task) → TaskIs words t → TaskIs words u → t ≡ u
 
 -- what holds of the inputs of the command's task
-pub told_of : OneTask → (contents : Option Contents) (task : Task) (words : List (List ℕ)) (Holds : Reading Given → Type 0) → TaskIs words task → IfSome contents (λ known. Holds (InputsAre known task)) → WhereTold contents words Holds
+told_of : OneTask → (contents : Option Contents) (task : Task) (words : List (List ℕ)) (Holds : Reading Given → Type 0) → TaskIs words task → IfSome contents (λ known. Holds (InputsAre known task)) → WhereTold contents words Holds
 told_of one None task words Holds is h = tt
 told_of one (Some known) task words Holds is h = λ other that. subst (λ (t : Task). Holds (InputsAre known t)) (one words task other is that) h
 
@@ -42,6 +45,19 @@ pub told_map : (contents : Option Contents) (words : List (List ℕ)) (Holds Mor
     ((known : Contents) (t : Task) → Holds (InputsAre known t) → More (InputsAre known t)) → WhereTold contents words Holds → WhereTold contents words More
 told_map None words Holds More leads h = tt
 told_map (Some known) words Holds More leads h = λ t is. leads known t (h t is)
+
+-- ---- the options that were read
+
+module _ (words texts : List (List ℕ)) (command : Command) (options : Options) (is : IsCommand words command) (same : texts ≡ option_words command) (read : (o : Options) → OptionsAre texts o → options ≡ o) where
+  are_read : options ≡ is.options
+  are_read = read is.options (subst (λ (w : List (List ℕ)). OptionsAre w is.options) (sym same) is.are_options)
+
+  pub range_read : AreInRange options
+  range_read = subst AreInRange (sym are_read) is.range
+
+  -- so that the task is the command's with them
+  pub told_read : OneTask → (contents : Option Contents) (Holds : Reading Given → Type 0) → IfSome contents (λ known. Holds (InputsAre known (task options command))) → WhereTold contents words Holds
+  told_read one contents Holds h = told_of one contents (task options command) words Holds (subst (λ (o : Options). TaskIs words (task o command)) (sym are_read) is.is_task) h
 
 -- ---- what is written
 

@@ -1,6 +1,7 @@
 pub mod Answered
 pub mod OptionWords
 pub mod OneTask
+pub mod ClapWords
 pub mod Readings
 pub mod Dictionaries
 pub mod Ends

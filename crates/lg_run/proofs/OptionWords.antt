@@ -1,17 +1,19 @@
 -- Words that begin with options.
-use Rattle.std.proofs.Common.{◌≡◌, ◌≢◌, ℕ, suc, ◌<◌, Bool, true, false, not, ◌&&◌, nat_eq, ◌==◌, List, [], map, ◌∷◌, ◌++◌, length, get_or, Option, None, Some, unwrap_or, MatchOption, Bor, ◌↔◌, refl, sym, ap, subst, ◌∙◌, arith}
+use Rattle.std.proofs.Common.{◌≡◌, ◌≢◌, ◌⊎◌, cond, ℕ, suc, ◌<◌, ◌≤◌, ◌-◌, Bool, true, false, not, ◌&&◌, nat_eq, bytes_eq, List, [], map, take, drop, ◌∷◌, ◌++◌, length, get_or, codes, Option, None, Some, MatchOption, inl, inr, Bor, ◌↔◌, refl, sym, ap, subst, ◌∙◌, arith}
 use Rattle.std.proofs.lemmas.Bool.{and_parts}
+use Rattle.std.proofs.lemmas.List.{length-append, length-map, map-append, take-append-drop}
+use Rattle.std.proofs.lemmas.Slice.Eq.{bytes_eq-Decides}
 use Rattle.std.proofs.lemmas.Bool.Decides.{nat_tests}
 use Rattle.std.proofs.lemmas.Str.Pattern.{IsSplitOnceResult, split_parts}
-use Rattle.lg_answer.specs.Pages.{default_options}
-use Rattle.lg_answer.specs.declared.options.Options.{Options}
-use Rattle.lg_script.specs.Commands.{IsNumber, written_number}
-use Rattle.lg_run.specs.Words.{IsOption, AreOptions, none, want, examine, ComesTo, unset, set, OptionsAre}
+use Rattle.lg_run.specs.Words.{IsKnown, want, examine, value_of, AreOptions, none, is_operand}
 use Rattle.lg_run.specs.Words as forms
-use Rattle.lg_run.specs.Settings.{option_name, IsPlain, Begins, apart, joined, BeginsWith, listed, IsFree, with_number, GoesOn}
+use Rattle.lg_run.specs.Settings.{name_of, option_word, IsPlain, Begins, apart, joined, BeginsWith, is_set, with_setting, Ends, nothing, operand, Cuts, IsCut}
 use Rattle.lg_run.specs.declared.options.Setting.{Setting}
 use Rattle.lg_run.specs.declared.options.Setting.TheVariants.{Want, Examine}
 use Rattle.lg_run.specs.declared.options.Given.{Given}
+
+abbrev pub Settings : Type 0
+Settings = List (List ℕ × List ℕ)
 
 -- ---- names and values
 
@@ -49,10 +51,6 @@ same_beginning n v m w b c words others (joined p) (joined q) e = let same = one
 pub of_none : {T : Type 0} (r : Option T) (P : Type 0) (Q : T → Type 0) → r ≡ None → P → MatchOption r P Q
 of_none {T = T} r P Q e h = subst (λ (o : Option T). MatchOption o P Q) (sym e) h
 
-pub not_empty : {X Y : Type 0} (f : X → Y) (xs : List X) → false ≡ (length xs == 0) → map f xs ≢ []
-not_empty f [] h = λ e. cc
-not_empty f (x ∷ xs) h = λ e. cc
-
 -- no name where the words end behind the first, and that has no equals sign
 pub ends_early : (word : List ℕ) → IsPlain word → (name value : List ℕ) (behind words : List (List ℕ)) → Begins name value behind words → words ≡ word ∷ [] → ⊥
 ends_early word plain name value behind words (apart p) e = cc
@@ -71,161 +69,261 @@ plain_tested (b ∷ name) h = let parts = and_parts (not (nat_eq b 61)) (plain_t
   differs : not (nat_eq b 61) ≡ true → b ≢ 61
   differs k = grind (arith, nat_tests)
 
-plain_name : (setting : Setting) → IsPlain (option_name setting)
+plain_word : (s : Setting) → IsPlain (option_word s)
 unfolding plain_test
-plain_name Want = plain_tested (option_name Want) refl
-plain_name Examine = plain_tested (option_name Examine) refl
+plain_word Want = plain_tested (option_word Want) refl
+plain_word Examine = plain_tested (option_word Examine) refl
 
-same_setting : (s t : Setting) → option_name s ≡ option_name t → s ≡ t
+same_setting : (s t : Setting) → option_word s ≡ option_word t → s ≡ t
 same_setting Want Want e = refl
 same_setting Want Examine e = cc
 same_setting Examine Want e = cc
 same_setting Examine Examine e = refl
 
-option_begins : (s : Setting) (n : ℕ) (option behind : List (List ℕ)) → IsOption (option_name s) n option
-    → (value : List ℕ) × IsNumber value n × Begins (option_name s) value behind (option ++ behind)
-option_begins s n option behind (forms.apart value is) = (value, is, apart (plain_name s))
-option_begins s n option behind (forms.joined value is) = (value, is, joined (plain_name s))
+-- a name that is known is that of an option
+setting_by : (name value : List ℕ) → IsKnown name value → (s : Setting) × (name ≡ name_of s)
+setting_by name value (want v n is) = (Want, refl)
+setting_by name value (examine v n is) = (Examine, refl)
 
--- words that begin with an option begin with its name and a value
-pub name_begins : (words : List (List ℕ)) (s : Setting) (n : ℕ) (behind : List (List ℕ)) → BeginsWith words s n behind
-    → (value : List ℕ) × IsNumber value n × Begins (option_name s) value behind words
-name_begins words s n behind h =
-    let b = option_begins s n h.option behind h.is in
-    (b.0, b.1, subst (Begins (option_name s) b.0 behind) (sym h.split) b.2)
+-- ---- what is set
 
--- and the other way round
-pub begins_option : (words : List (List ℕ)) (name value : List ℕ) (behind : List (List ℕ)) (s : Setting) (n : ℕ) → Begins name value behind words → name ≡ option_name s → IsNumber value n → BeginsWith words s n behind
-begins_option words name value behind s n (apart plain) same is = record {
-  option = name ∷ value ∷ [];
-  is = subst (λ (m : List ℕ). IsOption m n (name ∷ value ∷ [])) same (forms.apart value is);
-  split = refl;
-}
-begins_option words name value behind s n (joined plain) same is = record {
-  option = (name ++ 61 ∷ value) ∷ [];
-  is = subst (λ (m : List ℕ). IsOption m n ((name ++ 61 ∷ value) ∷ [])) same (forms.joined value is);
-  split = refl;
-}
+was_set : (s t : Setting) (given : Given) → is_set t (with_setting s given) ≡ true → (t ≡ s) ⊎ (is_set t given ≡ true)
+was_set Want Want given e = inl refl
+was_set Examine Examine given e = inl refl
+was_set Want Examine given e = inr e
+was_set Examine Want given e = inr e
 
--- words begin with one option
-pub same_name : (words : List (List ℕ)) (name value : List ℕ) (behind others : List (List ℕ)) (s : Setting) (n : ℕ) → Begins name value behind words → BeginsWith words s n others
-    → (name ≡ option_name s) × IsNumber value n
-same_name words name value behind others s n h k =
-    let b = name_begins words s n others k in
-    let same = same_beginning name value (option_name s) b.0 behind others words words h b.2 refl in
-    (same.0, subst (λ (v : List ℕ). IsNumber v n) (sym same.1) b.1)
+is_set_now : (s : Setting) (given : Given) → is_set s (with_setting s given) ≡ true
+is_set_now Want given = refl
+is_set_now Examine given = refl
 
-abbrev Opening : Type 0
-Opening = Setting × ℕ × List (List ℕ)
+stays_set : (s t : Setting) (given : Given) → is_set s given ≡ false → is_set t given ≡ true → (bytes_eq (name_of s) (name_of t) ≡ false) × (is_set t (with_setting s given) ≡ true)
+stays_set Want Want given e f = cc
+stays_set Examine Examine given e f = cc
+stays_set Want Examine given e f = (refl, f)
+stays_set Examine Want given e f = (refl, f)
 
-same_opening : (words : List (List ℕ)) (x y : Opening) → BeginsWith words x.0 x.1 x.2 → BeginsWith words y.0 y.1 y.2 → x ≡ y
-same_opening words (s, n, b) (t, m, c) h k =
-    let p = name_begins words s n b h in
-    let q = name_begins words t m c k in
-    let same = same_beginning (option_name s) p.0 (option_name t) q.0 b c words words p.2 q.2 refl in
-    let setting : s ≡ t = same_setting s t same.0 in
-    let value : p.0 ≡ q.0 = same.1 in
-    let left : n ≡ written_number 0 p.0 = p.1.value in
-    let right : m ≡ written_number 0 q.0 = q.1.value in
-    let number : n ≡ m = cc in
-    let rest : b ≡ c = same.2 in
-    cc
+not_set_first : (s : Setting) → is_set s (record { want = false; examine = false }) ≡ true → ⊥
+not_set_first Want e = cc
+not_set_first Examine e = cc
+
+same_name : (name : List ℕ) → bytes_eq name name ≡ true
+same_name name = (bytes_eq-Decides name name).1 refl
+
+value_behind : (name other value : List ℕ) (more : Settings) → value_of name ((other, value) ∷ more) ≡ None → value_of name more ≡ None
+value_behind name other value more = by (bytes_eq other name) where
+  by : (b : Bool) → ◌≡◌ {A = Option (List ℕ)} (cond b (Some value) (value_of name more)) None → value_of name more ≡ None
+  by true e = cc
+  by false e = e
+
+value_there : (name value : List ℕ) (more : Settings) → value_of name ((name, value) ∷ more) ≡ None → ⊥
+value_there name value more e = let same = same_name name in cc
 
 -- ---- options one after another
 
--- what is left of the numbers behind an option
-abbrev Behind : Opening → List ℕ → List ℕ → Type 0
-Behind (Want, n, behind) wants examines = (more : List ℕ) × (wants ≡ n ∷ more) × AreOptions behind more examines
-Behind (Examine, n, behind) wants examines = (more : List ℕ) × (examines ≡ n ∷ more) × AreOptions behind wants more
+-- words with an option in front
+record Opens (words front : List (List ℕ)) (settings : Settings) (behind : List (List ℕ)) : Type 0 where
+  pub setting : Setting
+  pub value : List ℕ
+  pub more : List (List ℕ)
+  pub others : Settings
+  pub known : IsKnown (name_of setting) value
+  pub begins : Begins (option_word setting) value (more ++ behind) words
+  pub is : settings ≡ (name_of setting, value) ∷ others
+  pub new : value_of (name_of setting) others ≡ None
+  pub read : AreOptions more others
 
-some_words : (name : List ℕ) (n : ℕ) (option behind : List (List ℕ)) → IsOption name n option → option ++ behind ≡ [] → ⊥
-some_words name n option behind (forms.apart value is) e = cc
-some_words name n option behind (forms.joined value is) e = cc
+opens : (front : List (List ℕ)) (settings : Settings) (behind : List (List ℕ)) → AreOptions front settings → (Ends (front ++ behind) → ⊥) → Ends behind → Opens (front ++ behind) front settings behind
+opens front settings behind none never ends = absurd (never ends)
+opens front settings behind (forms.apart name value words more known new read) never ends =
+    let s = setting_by name value known in
+    subst (λ (n : List ℕ). IsKnown n value → value_of n more ≡ None → Opens ((codes "--" ++ n) ∷ value ∷ (words ++ behind)) ((codes "--" ++ n) ∷ value ∷ words) ((n, value) ∷ more) behind) (sym s.1)
+    (λ known new. record { setting = s.0; value = value; more = words; others = more; known = known; begins = apart (plain_word s.0); is = refl; new = new; read = read }) known new
+opens front settings behind (forms.joined name value words more known new read) never ends =
+    let s = setting_by name value known in
+    subst (λ (n : List ℕ). IsKnown n value → value_of n more ≡ None → Opens ((codes "--" ++ (n ++ (codes "=" ++ value))) ∷ (words ++ behind)) ((codes "--" ++ (n ++ (codes "=" ++ value))) ∷ words) ((n, value) ∷ more) behind) (sym s.1)
+    (λ known new. record { setting = s.0; value = value; more = words; others = more; known = known; begins = joined (plain_word s.0); is = refl; new = new; read = read }) known new
 
-opened : (words wants examines : _) → AreOptions words wants examines → (x : Opening) → BeginsWith words x.0 x.1 x.2 → Behind x wants examines
-opened words wants examines none x h = absurd (some_words (option_name x.0) x.1 h.option x.2 h.is (sym h.split))
-opened words wants examines (want n option more w e is rest) x h =
-    subst (λ (y : Opening). Behind y (n ∷ w) e) (same_opening words (Want, n, more) x (record { option = option; is = is; split = refl }) h) (w, refl, rest)
-opened words wants examines (examine n option more w e is rest) x h =
-    subst (λ (y : Opening). Behind y w (n ∷ e)) (same_opening words (Examine, n, more) x (record { option = option; is = is; split = refl }) h) (e, refl, rest)
+-- an option begins with a dash
+no_end : (s : Setting) (value : List ℕ) (behind words : List (List ℕ)) → Begins (option_word s) value behind words → Ends words → ⊥
+no_end s value behind words (apart plain) (operand w ws is) = cc
+no_end s value behind words (joined plain) (operand w ws is) = cc
 
--- nothing comes of two numbers
-not_two : (usual m k j : ℕ) (numbers more : List ℕ) → ComesTo usual numbers m → numbers ≡ k ∷ j ∷ more → ⊥
-not_two usual m k j numbers more unset e = cc
-not_two usual m k j numbers more (set i) e = cc
+no_end_with : (words : List (List ℕ)) (s : Setting) (value : List ℕ) (behind : List (List ℕ)) → BeginsWith words s value behind → Ends words → ⊥
+no_end_with words s value behind h = no_end s value behind words h.begins
 
-module _ (words : List (List ℕ)) (s : Setting) (n : ℕ) (behind : List (List ℕ)) (h : BeginsWith words s n behind) (given : Given) (options : Options) where
-  goes : (s : Setting) → (wants examines : List ℕ) → Behind (s, n, behind) wants examines → IsFree s given
-      → ComesTo default_options.want (listed given.want ++ wants) options.want → ComesTo default_options.examine (listed given.examine ++ examines) options.examine
-      → GoesOn (with_number s n given) behind options
-  goes Want wants examines b free p q = let unset_yet : given.want ≡ None = free in
-      record { wants = b.0; examines = examines; read = b.2; want = rw (unset_yet, b.1) at p; examine = q }
-  goes Examine wants examines b free p q = let unset_yet : given.examine ≡ None = free in
-      record { wants = wants; examines = b.0; read = b.2; want = p; examine = rw (unset_yet, b.1) at q }
+-- words that are cut so from here on
+pub record CutOn (given : Given) (words behind : List (List ℕ)) : Type 0 where
+  pub front : List (List ℕ)
+  pub settings : Settings
+  pub cuts : Cuts given words front settings behind
 
-  -- a number that is free is set by the option, and the words behind it go on
-  pub goes_behind : IsFree s given → GoesOn given words options → GoesOn (with_number s n given) behind options
-  goes_behind free g = goes s g.wants g.examines (opened words g.wants g.examines g.read (s, n, behind) h) free g.want g.examine
+open_of : (given : Given) (words behind : List (List ℕ)) → (c : CutOn given words behind) → (Ends words → ⊥) → Opens words c.front c.settings behind
+open_of given words behind c never =
+    subst (λ (w : List (List ℕ)). Opens w c.front c.settings behind) (sym c.cuts.split)
+    (opens c.front c.settings behind c.cuts.read (λ e. never (subst Ends (sym c.cuts.split) e)) c.cuts.ends)
 
-  comes : (s : Setting) → IsOption (option_name s) n h.option → IsFree s given → GoesOn (with_number s n given) behind options → GoesOn given (h.option ++ behind) options
-  comes Want is free g = let unset_yet : given.want ≡ None = free in
-      record { wants = n ∷ g.wants; examines = g.examines; read = want n h.option behind g.wants g.examines is g.read; want = rw unset_yet g.want; examine = g.examine }
-  comes Examine is free g = let unset_yet : given.examine ≡ None = free in
-      record { wants = g.wants; examines = n ∷ g.examines; read = examine n h.option behind g.wants g.examines is g.read; want = g.want; examine = rw unset_yet g.examine }
+-- words that begin with a dash and with no option are not cut
+pub no_options : (given : Given) (words behind : List (List ℕ)) → (Ends words → ⊥) → ((s : Setting) (value : List ℕ) (behind : List (List ℕ)) → BeginsWith words s value behind → ⊥) → CutOn given words behind → ⊥
+no_options given words behind never nowhere c =
+    let o = open_of given words behind c never in
+    nowhere o.setting o.value (o.more ++ behind) (record { known = o.known; begins = o.begins })
 
-  pub goes_before : IsFree s given → GoesOn (with_number s n given) behind options → GoesOn given words options
-  goes_before free g = subst (λ (w : List (List ℕ)). GoesOn given w options) (sym h.split) (comes s h.is free g)
+module _ (given : Given) (words : List (List ℕ)) (s : Setting) (value : List ℕ) (rest : List (List ℕ)) (h : BeginsWith words s value rest) (behind : List (List ℕ)) where
+  -- the option in front is this one
+  here : (c : CutOn given words behind) → (o : Opens words c.front c.settings behind) × (o.setting ≡ s) × (o.more ++ behind ≡ rest)
+  here c =
+      let o = open_of given words behind c (no_end_with words s value rest h) in
+      let same = same_beginning (option_word o.setting) o.value (option_word s) value (o.more ++ behind) rest words words o.begins h.begins refl in
+      (o, same_setting o.setting s same.0, same.2)
 
-  -- a number that is set is not set again
-  two : (o : Option ℕ) (more : List ℕ) (usual m : ℕ) → (o ≡ None → ⊥) → ComesTo usual (listed o ++ (n ∷ more)) m → ⊥
-  two None more usual m taken p = taken refl
-  two (Some k) more usual m taken p = not_two usual m k n _ more p refl
+  pub set_twice : is_set s given ≡ true → CutOn given words behind → ⊥
+  set_twice taken c =
+      let x = here c in
+      let gone = c.cuts.new s taken in
+      value_there (name_of s) x.0.value x.0.others (subst (λ (t : Setting). value_of (name_of s) ((name_of t, x.0.value) ∷ x.0.others) ≡ None) x.1 (rw x.0.is at gone))
 
-  no_more : (s : Setting) → (wants examines : List ℕ) → Behind (s, n, behind) wants examines → (IsFree s given → ⊥)
-      → ComesTo default_options.want (listed given.want ++ wants) options.want → ComesTo default_options.examine (listed given.examine ++ examines) options.examine → ⊥
-  no_more Want wants examines b taken p q = two given.want b.0 default_options.want options.want taken (rw b.1 at p)
-  no_more Examine wants examines b taken p q = two given.examine b.0 default_options.examine options.examine taken (rw b.1 at q)
+  pub goes_behind : CutOn given words behind → CutOn (with_setting s given) rest behind
+  goes_behind c =
+      let x = here c in
+      record {
+        front = x.0.more;
+        settings = x.0.others;
+        cuts = record {
+          split = sym x.2;
+          read = x.0.read;
+          ends = c.cuts.ends;
+          new = λ t set. new_behind x.0 x.1 t (was_set s t given set);
+        };
+      } where
+        new_behind : (o : Opens words c.front c.settings behind) → o.setting ≡ s → (t : Setting) → (t ≡ s) ⊎ (is_set t given ≡ true) → value_of (name_of t) o.others ≡ None
+        new_behind o same t (inl e) = subst (λ (r : Setting). value_of (name_of r) o.others ≡ None) (same ∙ sym e) o.new
+        new_behind o same t (inr e) = let gone = c.cuts.new t e in value_behind (name_of t) (name_of o.setting) o.value o.others (rw o.is at gone)
 
-  pub set_twice : (IsFree s given → ⊥) → GoesOn given words options → ⊥
-  set_twice taken g = no_more s g.wants g.examines (opened words g.wants g.examines g.read (s, n, behind) h) taken g.want g.examine
+  pub goes_before : is_set s given ≡ false → CutOn (with_setting s given) rest behind → CutOn given words behind
+  goes_before free c = by words h.begins where
+    new_before : (t : Setting) → is_set t given ≡ true → value_of (name_of t) ((name_of s, value) ∷ c.settings) ≡ None
+    new_before t set = let both = stays_set s t given free set in rw both.0 (c.cuts.new t both.1)
 
--- words that begin with no option are no options
-pub no_options : (words : List (List ℕ)) (given : Given) (options : Options) → words ≢ [] → ((s : Setting) (n : ℕ) (behind : List (List ℕ)) → BeginsWith words s n behind → ⊥)
-    → GoesOn given words options → ⊥
-no_options words given options some nowhere g = by words g.wants g.examines g.read some nowhere where
-  by : (words : List (List ℕ)) (wants examines : List ℕ) → AreOptions words wants examines → words ≢ [] → ((s : Setting) (n : ℕ) (behind : List (List ℕ)) → BeginsWith words s n behind → ⊥) → ⊥
-  by words wants examines none some nowhere = some refl
-  by words wants examines (want n option more w e is rest) some nowhere = nowhere Want n more (record { option = option; is = is; split = refl })
-  by words wants examines (examine n option more w e is rest) some nowhere = nowhere Examine n more (record { option = option; is = is; split = refl })
+    by : (words : List (List ℕ)) → Begins (option_word s) value rest words → CutOn given words behind
+    by words (apart plain) = record {
+      front = option_word s ∷ value ∷ c.front;
+      settings = (name_of s, value) ∷ c.settings;
+      cuts = record {
+        split = ap (λ (w : List (List ℕ)). option_word s ∷ value ∷ w) c.cuts.split;
+        read = forms.apart (name_of s) value c.front c.settings h.known (c.cuts.new s (is_set_now s given)) c.cuts.read;
+        ends = c.cuts.ends;
+        new = new_before;
+      };
+    }
+    by words (joined plain) = record {
+      front = (option_word s ++ 61 ∷ value) ∷ c.front;
+      settings = (name_of s, value) ∷ c.settings;
+      cuts = record {
+        split = ap (λ (w : List (List ℕ)). (option_word s ++ 61 ∷ value) ∷ w) c.cuts.split;
+        read = forms.joined (name_of s) value c.front c.settings h.known (c.cuts.new s (is_set_now s given)) c.cuts.read;
+        ends = c.cuts.ends;
+        new = new_before;
+      };
+    }
 
--- with no more words the numbers are those that are given, and the usual ones
-pub at_end : (given : Given) → GoesOn given [] (record { want = unwrap_or given.want default_options.want; examine = unwrap_or given.examine default_options.examine })
-at_end given = record { wants = []; examines = []; read = none; want = comes_to default_options.want given.want; examine = comes_to default_options.examine given.examine } where
-  comes_to : (usual : ℕ) (o : Option ℕ) → ComesTo usual (listed o ++ []) (unwrap_or o usual)
-  comes_to usual None = unset
-  comes_to usual (Some n) = set n
-
--- before the first word
-pub at_start : (words : List (List ℕ)) (options : Options) → OptionsAre words options ↔ GoesOn (record { want = None; examine = None }) words options
-at_start words options = (
-  λ h. record { wants = h.wants; examines = h.examines; read = h.read; want = h.want; examine = h.examine },
-  λ h. record { wants = h.wants; examines = h.examines; read = h.read; want = h.want; examine = h.examine },
+-- before the first word, and at the end
+pub at_start : (words behind : List (List ℕ)) → ((front : List (List ℕ)) × IsCut words front behind) ↔ CutOn (record { want = false; examine = false }) words behind
+at_start words behind = (
+  λ h. record { front = h.0; settings = h.1.settings; cuts = record { split = h.1.split; read = h.1.read; ends = h.1.ends; new = λ s e. absurd (not_set_first s e) } },
+  λ c. (c.front, record { settings = c.settings; split = c.cuts.split; read = c.cuts.read; ends = c.cuts.ends }),
 )
 
--- ---- words set one list of numbers
+pub at_end : (given : Given) (words : List (List ℕ)) → Ends words → CutOn given words words
+at_end given words ends = record { front = []; settings = []; cuts = record { split = refl; read = none; ends = ends; new = λ s e. refl } }
 
-nothing_set : (words wants examines : _) → AreOptions words wants examines → words ≡ [] → (wants ≡ []) × (examines ≡ [])
-nothing_set words wants examines none e = (refl, refl)
-nothing_set words wants examines (want n option more w x is rest) e = absurd (some_words _ n option more is e)
-nothing_set words wants examines (examine n option more w x is rest) e = absurd (some_words _ n option more is e)
+-- ---- one word and a value
 
-pub same_numbers : (words wants examines : _) → AreOptions words wants examines → (others more : List ℕ) → AreOptions words others more → (wants ≡ others) × (examines ≡ more)
-same_numbers words wants examines none others more h = let nothing = nothing_set [] others more h refl in (sym nothing.0, sym nothing.1)
-same_numbers words wants examines (want n option behind w e is rest) others more h =
-    let b = opened (option ++ behind) others more h (Want, n, behind) (record { option = option; is = is; split = refl }) in
-    let same = same_numbers behind w e rest b.0 more b.2 in
-    (ap (λ (ns : List ℕ). n ∷ ns) same.0 ∙ sym b.1, same.1)
-same_numbers words wants examines (examine n option behind w e is rest) others more h =
-    let b = opened (option ++ behind) others more h (Examine, n, behind) (record { option = option; is = is; split = refl }) in
-    let same = same_numbers behind w e rest others b.0 b.2 in
-    (same.0, ap (λ (ns : List ℕ). n ∷ ns) same.1 ∙ sym b.1)
+pub begins_with : (words : List (List ℕ)) (word value : List ℕ) (behind : List (List ℕ)) (s : Setting) → Begins word value behind words → word ≡ option_word s → IsKnown (name_of s) value → BeginsWith words s value behind
+begins_with words word value behind s h same known = record { known = known; begins = subst (λ (w : List ℕ). Begins w value behind words) same h }
+
+-- words begin with one option
+pub same_option : (words : List (List ℕ)) (word value : List ℕ) (behind : List (List ℕ)) (s : Setting) (v : List ℕ) (others : List (List ℕ)) → Begins word value behind words → BeginsWith words s v others
+    → (word ≡ option_word s) × IsKnown (name_of s) value
+same_option words word value behind s v others h k =
+    let same = same_beginning word value (option_word s) v behind others words words h k.begins refl in
+    (same.0, subst (IsKnown (name_of s)) (sym same.1) k.known)
+
+-- ---- a first word that is no option
+
+pub operand_by : (b o : Bool) → b ≡ o → not b ≡ false → o ≡ true
+operand_by true o e n = sym e
+operand_by false o e n = cc
+
+pub ends_empty : {X : Type 0} (f : X → List ℕ) (xs : List X) → length xs < 1 → Ends (map f xs)
+ends_empty f [] few = nothing
+ends_empty f (x ∷ xs) few = absurd (omega (arith, few))
+
+pub ends_first : {X : Type 0} (f : X → List ℕ) (xs : List X) (x : X) → 1 ≤ length xs → x ≡ get_or xs 0 x → is_operand (f x) ≡ true → Ends (map f xs)
+ends_first f [] x some is h = absurd (omega (arith, some))
+ends_first {X = X} f (y ∷ xs) x some is h = operand (f y) (map f xs) (subst (λ (z : X). is_operand (f z) ≡ true) is h)
+
+-- ---- words cut in two
+
+pub shorter : (word value : List ℕ) (behind words : List (List ℕ)) → Begins word value behind words → length behind < length words
+shorter word value behind words (apart plain) = omega arith
+shorter word value behind words (joined plain) = omega arith
+
+-- lists that end in as much are cut at one place
+same_tails : {X : Type 0} (a b c d : List X) → a ++ b ≡ c ++ d → length b ≡ length d → (a ≡ c) × (b ≡ d)
+same_tails [] b [] d e n = (refl, e)
+same_tails [] b (x ∷ c) d e n = let more = length-append c d in let whole = ap length e in absurd (omega arith)
+same_tails (x ∷ a) b [] d e n = let more = length-append a b in let whole = ap length e in absurd (omega arith)
+same_tails (x ∷ a) b (y ∷ c) d e n = let same = same_tails a b c d (cc) n in let first : x ≡ y = cc in (cc (same.0), same.1)
+
+pub cut_there : {X : Type 0} (f : X → List ℕ) (xs ys fronts backs : List X) (n : ℕ) → fronts ≡ take n xs → backs ≡ drop n xs → length backs ≡ length ys → (front : List (List ℕ)) → IsCut (map f xs) front (map f ys) → IsCut (map f xs) (map f fronts) (map f backs)
+cut_there f xs ys fronts backs n before after long front is =
+    let whole : fronts ++ backs ≡ xs = rw (before, after) (take-append-drop n xs) in
+    let mapped : map f xs ≡ map f fronts ++ map f backs = ap (map f) (sym whole) ∙ map-append f fronts backs in
+    let same = same_tails (map f fronts) (map f backs) front (map f ys) (sym mapped ∙ is.split) (length-map backs f ∙ long ∙ sym (length-map ys f)) in
+    record { settings = is.settings; split = mapped; read = rw same.0 is.read; ends = rw same.1 is.ends }
+
+-- ---- words are cut at one place
+
+dash_ends : (word : List ℕ) (words w : List (List ℕ)) → Ends w → w ≡ (45 ∷ word) ∷ words → ⊥
+dash_ends word words w nothing e = cc
+dash_ends word words w (operand v vs is) e = let same : v ≡ 45 ∷ word = cc in let dash : is_operand (45 ∷ word) ≡ true = subst (λ (x : List ℕ). is_operand x ≡ true) same is in cc
+
+no_front : (front : List (List ℕ)) (settings : Settings) (behind : List (List ℕ)) → AreOptions front settings → Ends (front ++ behind) → (settings ≡ []) × (front ≡ [])
+no_front front settings behind none ends = (refl, refl)
+no_front front settings behind (forms.apart name value words more known new read) ends = absurd (dash_ends _ _ _ ends refl)
+no_front front settings behind (forms.joined name value words more known new read) ends = absurd (dash_ends _ _ _ ends refl)
+
+module _ (other : List (List ℕ)) (others : Settings) (rest : List (List ℕ)) (also : AreOptions other others) (last : Ends rest) where
+  -- the other options begin with this one
+  opens_so : (s : Setting) (value : List ℕ) (words w : List (List ℕ)) → Begins (option_word s) value words w → w ≡ other ++ rest
+      → (o : Opens (other ++ rest) other others rest) × (o.setting ≡ s) × (o.value ≡ value) × (o.more ++ rest ≡ words)
+  opens_so s value words w h e =
+      let o = opens other others rest also (λ ends. no_end s value words w h (subst Ends (sym e) ends)) last in
+      let same = same_beginning (option_word o.setting) o.value (option_word s) value (o.more ++ rest) words (other ++ rest) w o.begins h (sym e) in
+      (o, same_setting o.setting s same.0, same.1, same.2)
+
+begins_apart : (name value : List ℕ) (words : List (List ℕ)) (s : Setting) → name ≡ name_of s → Begins (option_word s) value words ((codes "--" ++ name) ∷ value ∷ words)
+begins_apart name value words s e = rw e (apart (plain_word s))
+
+begins_joined : (name value : List ℕ) (words : List (List ℕ)) (s : Setting) → name ≡ name_of s → Begins (option_word s) value words ((codes "--" ++ (name ++ (codes "=" ++ value))) ∷ words)
+begins_joined name value words s e = rw e (joined (plain_word s))
+
+same_settings : (name value : List ℕ) (more : Settings) (s : Setting) (t : Setting) (v : List ℕ) (others all : Settings) → name ≡ name_of s → t ≡ s → v ≡ value → more ≡ others → all ≡ (name_of t, v) ∷ others → (name, value) ∷ more ≡ all
+same_settings name value more s t v others all e f g h is = rw (is, e, f, g, h) refl
+
+pub same_cut : (front : List (List ℕ)) (settings : Settings) → AreOptions front settings → (behind : List (List ℕ)) → Ends behind → (other : List (List ℕ)) (others : Settings) → AreOptions other others → (rest : List (List ℕ)) → Ends rest
+    → front ++ behind ≡ other ++ rest → (settings ≡ others) × (behind ≡ rest)
+same_cut front settings none behind ends other others also rest last e =
+    let gone = no_front other others rest also (subst Ends e ends) in
+    (sym gone.0, e ∙ ap (λ (w : List (List ℕ)). w ++ rest) gone.1)
+same_cut front settings (forms.apart name value words more known new read) behind ends other others also rest last e =
+    let s = setting_by name value known in
+    let x = opens_so other others rest also last s.0 value (words ++ behind) _ (begins_apart name value (words ++ behind) s.0 s.1) e in
+    let same = same_cut words more read behind ends x.0.more x.0.others x.0.read rest last (sym x.3) in
+    (same_settings name value more s.0 x.0.setting x.0.value x.0.others others s.1 x.1 x.2 same.0 x.0.is, same.1)
+same_cut front settings (forms.joined name value words more known new read) behind ends other others also rest last e =
+    let s = setting_by name value known in
+    let x = opens_so other others rest also last s.0 value (words ++ behind) _ (begins_joined name value (words ++ behind) s.0 s.1) e in
+    let same = same_cut words more read behind ends x.0.more x.0.others x.0.read rest last (sym x.3) in
+    (same_settings name value more s.0 x.0.setting x.0.value x.0.others others s.1 x.1 x.2 same.0 x.0.is, same.1)

@@ -1,6 +1,7 @@
 pub mod Statuses
 pub mod Words
 pub mod Settings
+pub mod Matched
 pub mod Commands
 pub mod Lines
 pub mod Inputs

@@ -1,51 +1,58 @@
--- What calls that read options promise.
-use Rattle.std.specs.Prelude.{◌≡◌, ◌≢◌, ℕ, List, [], ◌∷◌, ◌++◌, codes, Option, None, Some}
+-- What calls that read the form of options promise.
+use Rattle.std.specs.Prelude.{◌≡◌, ◌≢◌, ℕ, Bool, true, false, List, [], ◌∷◌, ◌++◌, codes, None}
 use Rattle.std.specs.List.{AllByRecursion}
-use Rattle.lg_answer.specs.Pages.{default_options}
-use Rattle.lg_answer.specs.declared.options.Options.{Options}
-use Rattle.lg_run.specs.Words.{IsOption, AreOptions, ComesTo}
+use Rattle.lg_run.specs.Words.{IsKnown, AreOptions, value_of, is_operand}
 use Rattle.lg_run.specs.declared.options.Setting.{Setting}
 use Rattle.lg_run.specs.declared.options.Setting.TheVariants.{Want, Examine}
 use Rattle.lg_run.specs.declared.options.Given.{Given}
 
--- the name of the option that sets it
-abbrev pub option_name : Setting → List ℕ
-option_name Want = codes "--want"
-option_name Examine = codes "--examine"
+-- the name of an option
+abbrev pub name_of : Setting → List ℕ
+name_of Want = codes "want"
+name_of Examine = codes "examine"
 
--- no equals sign stands in a name
+-- the word that begins an option
+abbrev pub option_word : Setting → List ℕ
+option_word setting = codes "--" ++ name_of setting
+
+-- no equals sign stands in a word
 abbrev pub IsPlain : List ℕ → Type 0
-IsPlain name = AllByRecursion (λ (b : ℕ). b ≢ 61) name
+IsPlain word = AllByRecursion (λ (b : ℕ). b ≢ 61) word
 
--- words that begin with a name and a value, in two words or in one
-pub data Begins (name value : List ℕ) (behind : List (List ℕ)) : List (List ℕ) → Type 0 where
-  apart : IsPlain name → Begins name value behind (name ∷ value ∷ behind)
-  joined : IsPlain name → Begins name value behind ((name ++ 61 ∷ value) ∷ behind)
+-- words that begin with a word and a value, in two words or in one
+pub data Begins (word value : List ℕ) (behind : List (List ℕ)) : List (List ℕ) → Type 0 where
+  apart : IsPlain word → Begins word value behind (word ∷ value ∷ behind)
+  joined : IsPlain word → Begins word value behind ((word ++ 61 ∷ value) ∷ behind)
 
 -- words that begin with an option
-pub record BeginsWith (words : List (List ℕ)) (setting : Setting) (n : ℕ) (behind : List (List ℕ)) : Type 0 where
-  pub option : List (List ℕ)
-  pub is : IsOption (option_name setting) n option
-  pub split : words ≡ option ++ behind
+pub record BeginsWith (words : List (List ℕ)) (setting : Setting) (value : List ℕ) (behind : List (List ℕ)) : Type 0 where
+  pub known : IsKnown (name_of setting) value
+  pub begins : Begins (option_word setting) value behind words
 
--- the numbers that are set so far
-abbrev pub listed : Option ℕ → List ℕ
-listed None = []
-listed (Some n) = n ∷ []
+-- it is set already
+abbrev pub is_set : Setting → Given → Bool
+is_set Want given = given.want
+is_set Examine given = given.examine
 
--- no number is set for it yet
-abbrev pub IsFree : Setting → Given → Type 0
-IsFree Want given = given.want ≡ None
-IsFree Examine given = given.examine ≡ None
+abbrev pub with_setting : Setting → Given → Given
+with_setting Want given = record given { want = true }
+with_setting Examine given = record given { examine = true }
 
-abbrev pub with_number : Setting → ℕ → Given → Given
-with_number Want n given = record given { want = Some n }
-with_number Examine n given = record given { examine = Some n }
+-- no option begins here, nor any other word with a dash
+pub data Ends : List (List ℕ) → Type 0 where
+  nothing : Ends []
+  operand : (word : List ℕ) (words : List (List ℕ)) → is_operand word ≡ true → Ends (word ∷ words)
 
--- the options that these numbers come to, with those that further words set
-pub record GoesOn (given : Given) (words : List (List ℕ)) (options : Options) : Type 0 where
-  pub wants : List ℕ
-  pub examines : List ℕ
-  pub read : AreOptions words wants examines
-  pub want : ComesTo default_options.want (listed given.want ++ wants) options.want
-  pub examine : ComesTo default_options.examine (listed given.examine ++ examines) options.examine
+-- words that are options, which give what is not set yet, and behind them no option
+pub record Cuts (given : Given) (words front : List (List ℕ)) (settings : List (List ℕ × List ℕ)) (behind : List (List ℕ)) : Type 0 where
+  pub split : words ≡ front ++ behind
+  pub read : AreOptions front settings
+  pub ends : Ends behind
+  pub new : (setting : Setting) → is_set setting given ≡ true → value_of (name_of setting) settings ≡ None
+
+-- words cut into options and what stands behind them
+pub record IsCut (words front behind : List (List ℕ)) : Type 0 where
+  pub settings : List (List ℕ × List ℕ)
+  pub split : words ≡ front ++ behind
+  pub read : AreOptions front settings
+  pub ends : Ends behind

@@ -1,5 +1,5 @@
 -- The form of the words of the command line: `one` or `run`, then options, then operands.
-use Rattle.std.specs.Prelude.{ℕ, ◌≤◌, Bool, false, not, IsTrue, List, [], ◌∷◌, ◌++◌, codes, nat_eq, length, ⊤}
+use Rattle.std.specs.Prelude.{◌≡◌, ℕ, ◌≤◌, Bool, false, not, IsTrue, List, [], ◌∷◌, ◌++◌, codes, nat_eq, bytes_eq, length, Option, None, Some, if◌then◌else◌, ⊤}
 use Rattle.lg_answer.specs.Pages.{default_options}
 use Rattle.lg_answer.specs.declared.options.Options.{Options}
 use Rattle.lg_script.specs.Bounds.{IsCount}
@@ -14,31 +14,40 @@ pub data Task : Type 0 where
 
 -- ---- options
 
--- an option that sets a number, in two words or in one: `NAME N` or `NAME=N`
-pub data IsOption (name : List ℕ) (n : ℕ) : List (List ℕ) → Type 0 where
-  apart : (value : List ℕ) → IsNumber value n → IsOption name n (name ∷ value ∷ [])
-  joined : (value : List ℕ) → IsNumber value n → IsOption name n ((name ++ (codes "=" ++ value)) ∷ [])
+-- the options that are known, each with the form of its value
+pub data IsKnown : (name value : List ℕ) → Type 0 where
+  want : (value : List ℕ) (n : ℕ) → IsNumber value n → IsKnown (codes "want") value
+  examine : (value : List ℕ) (n : ℕ) → IsNumber value n → IsKnown (codes "examine") value
 
--- options one after another, with the numbers that those of each name set
-pub data AreOptions : List (List ℕ) → (wants examines : List ℕ) → Type 0 where
-  none : AreOptions [] [] []
-  want : (n : ℕ) (option more : List (List ℕ)) (wants examines : List ℕ) → IsOption (codes "--want") n option → AreOptions more wants examines
-      → AreOptions (option ++ more) (n ∷ wants) examines
-  examine : (n : ℕ) (option more : List (List ℕ)) (wants examines : List ℕ) → IsOption (codes "--examine") n option → AreOptions more wants examines
-      → AreOptions (option ++ more) wants (n ∷ examines)
+-- the value that options give to a name
+abbrev pub value_of : List ℕ → List (List ℕ × List ℕ) → Option (List ℕ)
+value_of name [] = None
+value_of name (setting ∷ settings) = if bytes_eq setting.0 name then Some setting.1 else value_of name settings
 
--- what comes of the numbers that are set: there is one at most, and where there is none it is the usual one
-pub data ComesTo (usual : ℕ) : List ℕ → ℕ → Type 0 where
-  unset : ComesTo usual [] usual
-  set : (n : ℕ) → ComesTo usual (n ∷ []) n
+-- options one after another, each in two words or in one, `--NAME VALUE` or `--NAME=VALUE`, with their names and values; no
+-- name is given twice
+pub data AreOptions : List (List ℕ) → List (List ℕ × List ℕ) → Type 0 where
+  none : AreOptions [] []
+  apart : (name value : List ℕ) (words : List (List ℕ)) (settings : List (List ℕ × List ℕ)) → IsKnown name value → value_of name settings ≡ None
+      → AreOptions words settings → AreOptions ((codes "--" ++ name) ∷ value ∷ words) ((name, value) ∷ settings)
+  joined : (name value : List ℕ) (words : List (List ℕ)) (settings : List (List ℕ × List ℕ)) → IsKnown name value → value_of name settings ≡ None
+      → AreOptions words settings → AreOptions ((codes "--" ++ (name ++ (codes "=" ++ value))) ∷ words) ((name, value) ∷ settings)
+
+-- a number that an option gives, or the usual one
+abbrev pub GivesNumber : Option (List ℕ) → ℕ → ℕ → Type 0
+GivesNumber None usual n = n ≡ usual
+GivesNumber (Some value) usual n = IsNumber value n
+
+-- what options come to
+pub record Gives (settings : List (List ℕ × List ℕ)) (options : Options) : Type 0 where
+  pub want : GivesNumber (value_of (codes "want") settings) default_options.want options.want
+  pub examine : GivesNumber (value_of (codes "examine") settings) default_options.examine options.examine
 
 -- the options of a command
 pub record OptionsAre (words : List (List ℕ)) (options : Options) : Type 0 where
-  pub wants : List ℕ
-  pub examines : List ℕ
-  pub read : AreOptions words wants examines
-  pub want : ComesTo default_options.want wants options.want
-  pub examine : ComesTo default_options.examine examines options.examine
+  pub settings : List (List ℕ × List ℕ)
+  pub read : AreOptions words settings
+  pub given : Gives settings options
 
 -- ---- operands
 
@@ -74,7 +83,3 @@ IsShort (Run options dictionary knowledge script) = ⊤
 -- its numbers are those that an option may set
 abbrev pub AreInRange : Options → Type 0
 AreInRange options = IsCount options.want × IsCount options.examine
-
-abbrev pub options_in : Task → Options
-options_in (One options dictionary sentence) = options
-options_in (Run options dictionary knowledge script) = options

@@ -1,27 +1,37 @@
 //! The words of the command line. Their form is tested without taking memory.
-ghost use Rattle.std.specs.Prelude.{◌≡◌, ◌∷◌, IfSome, MatchOption, map, string_bytes, codes};
-ghost use Rattle.lg_run.specs.Words.{Task, TaskIs, is_operand, IsShort, AreInRange, options_in};
-ghost use Rattle.lg_run.specs.Commands.{task};
+ghost use Rattle.std.specs.Prelude.{◌≡◌, ℕ, List, [], ◌∷◌, MatchOption, map, string_bytes, codes};
+ghost use Rattle.lg_run.specs.Words.{Task, TaskIs};
+ghost use Rattle.lg_run.specs.Commands.{option_words, IsCommand};
 
-use crate::options::options_of;
-use lg_answer::Options;
+use crate::options::{cut_options, is_operand};
 
-/// What the words ask for.
+/// What the words ask for, with the words that are its options.
 #[derive(Clone, Copy, Debug, PartialEq, Eq)]
 pub enum Command<'a> {
     /// The linkages of one sentence.
     One {
-        options: Options,
+        options: &'a [String],
         dictionary: &'a str,
         sentence: &'a str,
     },
     /// The answers to a script.
     Run {
-        options: Options,
+        options: &'a [String],
         dictionary: &'a str,
         knowledge: &'a str,
         script: &'a str,
     },
+}
+
+impl<'a> Command<'a> {
+    /// The words that are its options.
+    pub fn options(&self) -> &'a [String]
+        ensures { map string_bytes result.now ≡ option_words self.now }
+    {
+        match self {
+            Command::One { options, .. } | Command::Run { options, .. } => options,
+        }
+    }
 }
 
 // The most bytes of a sentence.
@@ -34,11 +44,9 @@ const SENTENCE: usize = 67_108_864;
 /// is left out, want is 10 and examine is 1000. Operands are last, and none of them begins with `-`: `one` has two, DICT
 /// and SENTENCE, of which the second has at most 67,108,864 bytes, and `run` has three, DICT, KNOWLEDGE and SCRIPT.
 pub fn command_of(words: &[String]) -> Option<Command<'_>>
-    ensures value { MatchOption result
+    ensures { MatchOption result
         ((t : Task) → TaskIs (map string_bytes words.now) t → ⊥)
-        (λ command. TaskIs (map string_bytes words.now) (task command)) }
-    ensures short { IfSome result (λ command. IsShort (task command)) }
-    ensures range { IfSome result (λ command. AreInRange (options_in (task command))) }
+        (IsCommand (map string_bytes words.now)) }
 {
     let (word, rest) = words.split_first()?;
     match word.as_str() {
@@ -51,17 +59,15 @@ pub fn command_of(words: &[String]) -> Option<Command<'_>>
 fn one_of(words: &[String]) -> Option<Command<'_>>
     ensures { MatchOption result
         ((t : Task) → TaskIs (codes "one" ∷ map string_bytes words.now) t → ⊥)
-        (λ command. TaskIs (codes "one" ∷ map string_bytes words.now) (task command)) }
+        (IsCommand (codes "one" ∷ map string_bytes words.now)) }
 {
-    let [front @ .., dictionary, sentence] = words else {
-        return None;
-    };
+    let cut = cut_options(words)?;
+    let (dictionary, sentence) = two_of(cut.behind)?;
     if !is_operand(dictionary) || !is_operand(sentence) || sentence.len() > SENTENCE {
         return None;
     }
-    let options = options_of(front)?;
     Some(Command::One {
-        options,
+        options: cut.options,
         dictionary,
         sentence,
     })
@@ -70,28 +76,42 @@ fn one_of(words: &[String]) -> Option<Command<'_>>
 fn run_of(words: &[String]) -> Option<Command<'_>>
     ensures { MatchOption result
         ((t : Task) → TaskIs (codes "run" ∷ map string_bytes words.now) t → ⊥)
-        (λ command. TaskIs (codes "run" ∷ map string_bytes words.now) (task command)) }
+        (IsCommand (codes "run" ∷ map string_bytes words.now)) }
 {
-    let [front @ .., dictionary, knowledge, script] = words else {
-        return None;
-    };
+    let cut = cut_options(words)?;
+    let (dictionary, knowledge, script) = three_of(cut.behind)?;
     if !is_operand(dictionary) || !is_operand(knowledge) || !is_operand(script) {
         return None;
     }
-    let options = options_of(front)?;
     Some(Command::Run {
-        options,
+        options: cut.options,
         dictionary,
         knowledge,
         script,
     })
 }
 
-fn is_operand(word: &str) -> bool
-    ensures { result ≡ is_operand word.now }
+// The words, where there are two.
+fn two_of(words: &[String]) -> Option<(&str, &str)>
+    ensures { MatchOption result
+        ((a b : List ℕ) → map string_bytes words.now ≡ a ∷ b ∷ [] → ⊥)
+        (λ two. map string_bytes words.now ≡ two.0.now ∷ two.1.now ∷ []) }
 {
-    match word.as_bytes() {
-        [b'-', ..] => false,
-        _ => true,
+    let (first, rest) = words.split_first()?;
+    let (second, rest) = rest.split_first()?;
+    if !rest.is_empty() {
+        return None;
     }
+    Some((first.as_str(), second.as_str()))
+}
+
+// The words, where there are three.
+fn three_of(words: &[String]) -> Option<(&str, &str, &str)>
+    ensures { MatchOption result
+        ((a b c : List ℕ) → map string_bytes words.now ≡ a ∷ b ∷ c ∷ [] → ⊥)
+        (λ three. map string_bytes words.now ≡ three.0.now ∷ three.1.now ∷ three.2.now ∷ []) }
+{
+    let (first, rest) = words.split_first()?;
+    let (second, third) = two_of(rest)?;
+    Some((first.as_str(), second, third))
 }

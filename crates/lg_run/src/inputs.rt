@@ -4,7 +4,7 @@ ghost use Rattle.lg_dictread.specs.Limits.{FILE};
 ghost use Rattle.lg_script.specs.Bounds.{AreInBounds};
 ghost use Rattle.lg_script.specs.Commands.{command_view};
 ghost use Rattle.lg_run.specs.Commands.{task};
-ghost use Rattle.lg_run.specs.Words.{One, Run, IsShort, options_in, AreInRange, SENTENCE};
+ghost use Rattle.lg_run.specs.Words.{One, Run, IsShort, AreInRange, SENTENCE};
 ghost use Rattle.lg_run.specs.Inputs.{FileIs, DictionaryReads, DictionaryInput, KnowledgeGiven, ScriptGiven, RunGiven, InputsAre};
 ghost use Rattle.lg_run.specs.Reads.{AsksInOrder, Tells, HasCause, given_in};
 ghost use Rattle.lg_run.specs.Answers.{IsGivenInBounds};
@@ -37,30 +37,31 @@ pub enum Inputs<'a> {
     },
 }
 
-/// Reads the inputs of a command.
+/// Reads the inputs of a command that has these options.
 pub fn read_inputs<'a, F: Files>(
     alloc: Global,
     files: &mut F,
+    options: Options,
     command: Command<'a>,
 ) -> Result<Inputs<'a>, Stop<'a>>
-    requires short { IsShort (task command) }
-    requires range { AreInRange (options_in (task command)) }
-    ensures names { IfSome (F.contents files.old) (λ known. AsksInOrder (InputsAre known (task command.entry)) (F.asked files.old) (F.asked files.new)) }
-    ensures told { IfSome (F.contents files.old) (λ known. Tells given_in (InputsAre known (task command.entry)) (F.asked files.old) (F.asked files.new) result) }
+    requires short { IsShort (task options command) }
+    requires range { AreInRange options }
+    ensures names { IfSome (F.contents files.old) (λ known. AsksInOrder (InputsAre known (task options command.entry)) (F.asked files.old) (F.asked files.new)) }
+    ensures told { IfSome (F.contents files.old) (λ known. Tells given_in (InputsAre known (task options command.entry)) (F.asked files.old) (F.asked files.new) result) }
     ensures bounds { IfOk result (λ inputs. IsGivenInBounds (given_in inputs)) }
     ensures cause { HasCause (F.asked files.new) (F.faults files.old) (F.faults files.new) result }
 {
     match command {
         Command::One {
-            options,
             dictionary,
             sentence,
+            ..
         } => inputs_of_one(alloc, files, options, dictionary, sentence),
         Command::Run {
-            options,
             dictionary,
             knowledge,
             script,
+            ..
         } => inputs_of_run(alloc, files, options, dictionary, knowledge, script),
     }
 }

@@ -7,6 +7,7 @@ mod knowledge;
 pub mod law;
 mod line;
 mod lister;
+mod matched;
 mod options;
 mod outcome;
 mod script;

@@ -1,10 +1,9 @@
-//! The options of a command.
-ghost use Rattle.std.specs.Prelude.{◌≡◌, ℕ, List, [], MatchOption, map, string_bytes};
-ghost use Rattle.lg_answer.specs.declared.options.Options.{Options};
-ghost use Rattle.lg_run.specs.Words.{OptionsAre};
-ghost use Rattle.lg_run.specs.Settings.{option_name, Begins, BeginsWith, IsFree, with_number, GoesOn};
+//! The form of a command's options.
+ghost use Rattle.std.specs.Prelude.{◌≡◌, true, false, ℕ, List, MatchOption, map, string_bytes};
+ghost use Rattle.lg_script.specs.Commands.{IsNumber};
+ghost use Rattle.lg_run.specs.Words.{IsKnown, is_operand};
+ghost use Rattle.lg_run.specs.Settings.{name_of, option_word, Begins, BeginsWith, is_set, with_setting, Ends, IsCut};
 
-use lg_answer::Options;
 use lg_script::number_of;
 
 /// What an option sets.
@@ -18,63 +17,79 @@ pub(crate) enum Setting {
 #[derive(Clone, Copy)]
 struct First<'a> {
     setting: Setting,
-    number: u64,
     behind: &'a [String],
 }
 
-/// The numbers that options have set so far.
+/// What options have set so far.
 #[derive(Clone, Copy)]
 pub(crate) struct Given {
-    want: Option<u64>,
-    examine: Option<u64>,
+    want: bool,
+    examine: bool,
 }
 
-/// The options that the words give one after another, each at most once. None where they are in another form.
-pub(crate) fn options_of(words: &[String]) -> Option<Options>
+/// Words cut in two.
+#[derive(Clone, Copy)]
+pub(crate) struct Cut<'a> {
+    pub options: &'a [String],
+    pub behind: &'a [String],
+}
+
+/// The options that the words begin with, each at most once, and the words behind them, of which the first begins with no
+/// dash. None where the words begin in no such way. Takes no memory.
+pub(crate) fn cut_options(words: &[String]) -> Option<Cut<'_>>
     ensures { MatchOption result
-        ((options : Options) → OptionsAre (map string_bytes words.now) options → ⊥)
-        (λ options. OptionsAre (map string_bytes words.now) options) }
+        ((front behind : List (List ℕ)) → IsCut (map string_bytes words.now) front behind → ⊥)
+        (λ cut. IsCut (map string_bytes words.now) (map string_bytes cut.options.now) (map string_bytes cut.behind.now)) }
 {
     let mut given = Given {
-        want: None,
-        examine: None,
+        want: false,
+        examine: false,
     };
     let mut rest = words;
-    while !rest.is_empty() {
+    while begins_with_dash(rest) {
         let option = first_option(rest)?;
-        given = given.with(option.setting, option.number)?;
+        given = given.with(option.setting)?;
         rest = option.behind;
     }
-    Some(given.or_default())
+    let (options, behind) = words.split_at(words.len() - rest.len());
+    Some(Cut { options, behind })
+}
+
+// Whether there is a first word, and it begins with a dash.
+fn begins_with_dash(words: &[String]) -> bool
+    ensures no { result ≡ false → Ends (map string_bytes words.now) }
+    ensures yes { result ≡ true → Ends (map string_bytes words.now) → ⊥ }
+{
+    match words {
+        [word, ..] => !is_operand(word),
+        [] => false,
+    }
+}
+
+/// Whether the word does not begin with a dash.
+pub(crate) fn is_operand(word: &str) -> bool
+    ensures { result ≡ is_operand word.now }
+{
+    match word.as_bytes() {
+        [b'-', ..] => false,
+        _ => true,
+    }
 }
 
 impl Given {
-    /// With one number more. None where there is one already.
-    fn with(self, setting: Setting, number: u64) -> Option<Self>
+    /// With one more. None where it is set already.
+    fn with(self, setting: Setting) -> Option<Self>
         ensures { MatchOption result
-            (IsFree setting self → ⊥)
-            (λ more. IsFree setting self × (more ≡ with_number setting number self)) }
+            (is_set setting self ≡ true)
+            (λ more. (is_set setting self ≡ false) × (more ≡ with_setting setting self)) }
     {
         match setting {
-            Setting::Want if self.want.is_none() => Some(Given {
-                want: Some(number),
-                ..self
-            }),
-            Setting::Examine if self.examine.is_none() => Some(Given {
-                examine: Some(number),
+            Setting::Want if !self.want => Some(Given { want: true, ..self }),
+            Setting::Examine if !self.examine => Some(Given {
+                examine: true,
                 ..self
             }),
             _ => None,
-        }
-    }
-
-    fn or_default(self) -> Options
-        ensures { GoesOn self [] result }
-    {
-        let usual = Options::default();
-        Options {
-            want: self.want.unwrap_or(usual.want),
-            examine: self.examine.unwrap_or(usual.examine),
         }
     }
 }
@@ -82,23 +97,18 @@ impl Given {
 // The option that the words begin with.
 fn first_option(words: &[String]) -> Option<First<'_>>
     ensures { MatchOption result
-        ((setting : Setting) (n : ℕ) (behind : List (List ℕ)) → BeginsWith (map string_bytes words.now) setting n behind → ⊥)
-        (λ first. BeginsWith (map string_bytes words.now) first.setting first.number (map string_bytes first.behind.now)) }
+        ((setting : Setting) (value : List ℕ) (behind : List (List ℕ)) → BeginsWith (map string_bytes words.now) setting value behind → ⊥)
+        (λ first. (value : List ℕ) × BeginsWith (map string_bytes words.now) first.setting value (map string_bytes first.behind.now)) }
 {
-    let (name, value, behind) = name_and_value(words)?;
-    let setting = setting_of(name)?;
-    let number = number_of(value.as_bytes())?;
-    Some(First {
-        setting,
-        number,
-        behind,
-    })
+    let (word, value, behind) = word_and_value(words)?;
+    let setting = setting_of(word, value)?;
+    Some(First { setting, behind })
 }
 
-// The name and the value that the words begin with, in two words or in one, and the words behind them.
-fn name_and_value(words: &[String]) -> Option<(&str, &str, &[String])>
+// The word and the value that the words begin with, in two words or in one, and the words behind them.
+fn word_and_value(words: &[String]) -> Option<(&str, &str, &[String])>
     ensures { MatchOption result
-        ((name value : List ℕ) (behind : List (List ℕ)) → Begins name value behind (map string_bytes words.now) → ⊥)
+        ((word value : List ℕ) (behind : List (List ℕ)) → Begins word value behind (map string_bytes words.now) → ⊥)
         (λ cut. Begins cut.0.now cut.1.now (map string_bytes cut.2.now) (map string_bytes words.now)) }
 {
     let (word, rest) = words.split_first()?;
@@ -111,14 +121,23 @@ fn name_and_value(words: &[String]) -> Option<(&str, &str, &[String])>
     }
 }
 
-fn setting_of(name: &str) -> Option<Setting>
+// The known options: the word of each, and the form of its value.
+fn setting_of(word: &str, value: &str) -> Option<Setting>
     ensures { MatchOption result
-        ((setting : Setting) → name.now ≡ option_name setting → ⊥)
-        (λ setting. name.now ≡ option_name setting) }
+        ((setting : Setting) → word.now ≡ option_word setting → IsKnown (name_of setting) value.now → ⊥)
+        (λ setting. (word.now ≡ option_word setting) × IsKnown (name_of setting) value.now) }
 {
-    match name {
-        "--want" => Some(Setting::Want),
-        "--examine" => Some(Setting::Examine),
+    match word {
+        "--want" if is_number(value) => Some(Setting::Want),
+        "--examine" if is_number(value) => Some(Setting::Examine),
         _ => None,
     }
+}
+
+// Whether the text is one to seven digits that write a number from 1 to 1,000,000.
+fn is_number(text: &str) -> bool
+    ensures yes { result ≡ true → (n : ℕ) × IsNumber text.now n }
+    ensures no { result ≡ false → (n : ℕ) → IsNumber text.now n → ⊥ }
+{
+    number_of(text.as_bytes()).is_some()
 }

@@ -16,6 +16,7 @@ use crate::inputs::{Inputs, read_inputs};
 use crate::law::{inputs_have_one_verdict, words_have_one_task};
 use crate::line::{dict_line, edits_line, know_line, script_line};
 use crate::lister::Lister;
+use crate::matched::read_options;
 use crate::outcome::{Halt, put, write_outcome};
 use crate::sentence::document;
 use crate::status::Status;
@@ -71,7 +72,10 @@ pub fn run<R: Threads + Sync, F: Files, O: Sink, E: Sink>(
     let Some(command) = command_of(words) else {
         return fail(err, Status::Usage, USAGE);
     };
-    match read_inputs(alloc, files, command) {
+    let Ok(options) = read_options(alloc, command.options()) else {
+        return fail(err, Status::NoMemory, MEMORY);
+    };
+    match read_inputs(alloc, files, options, command) {
         Ok(inputs) => finish(rt, alloc, &inputs, out, err),
         Err(stop) => refuse(alloc, err, stop),
     }

@@ -1,58 +1,89 @@
 //! Words of the command line, and the command that they are.
 use super::*;
 use crate::command::{Command, command_of};
+use crate::matched::read_options;
 use lg_answer::Options;
 
-// Wants these words, with bars between them, to ask for this.
-fn asks<R: Abort>(rt: &R, alloc: Global, text: &str, command: Command<'_>) -> Result<(), Fail> {
+// Wants these words, with bars between them, to be a command with these options and operands.
+fn asks<R: Abort>(
+    rt: &R,
+    alloc: Global,
+    text: &str,
+    wanted: Options,
+    operands: &[&str],
+) -> Result<(), Fail> {
     let words = words_of(alloc, text)?;
-    assert_eq!(rt; command_of(&words), Some(command));
+    let found = command_of(&words);
+    assert!(rt; found.is_some());
+    if let Some(command) = found {
+        assert_eq!(rt; read_options(alloc, command.options())?, wanted);
+        assert!(rt; has_operands(&command, operands));
+    }
     Ok(())
 }
 
-// A sentence `x`, listed so with the dictionary `d`.
-fn one_with(want: u64, examine: u64) -> Command<'static> {
-    Command::One {
-        options: Options { want, examine },
-        dictionary: "d",
-        sentence: "x",
+fn has_operands(command: &Command<'_>, operands: &[&str]) -> bool {
+    match command {
+        Command::One {
+            dictionary,
+            sentence,
+            ..
+        } => operands == [*dictionary, *sentence].as_slice(),
+        Command::Run {
+            dictionary,
+            knowledge,
+            script,
+            ..
+        } => operands == [*dictionary, *knowledge, *script].as_slice(),
     }
+}
+
+// Wants these words to ask for a sentence `x`, listed so with the dictionary `d`.
+fn asks_one<R: Abort>(
+    rt: &R,
+    alloc: Global,
+    text: &str,
+    want: u64,
+    examine: u64,
+) -> Result<(), Fail> {
+    asks(rt, alloc, text, Options { want, examine }, &["d", "x"])
 }
 
 #[test]
 fn no_options(rt: HostRuntime) -> Result<(), Fail> {
-    asks(&rt, rt.alloc(), "one|d|x", one_with(10, 1000))
+    asks_one(&rt, rt.alloc(), "one|d|x", 10, 1000)
 }
 
 #[test]
 fn an_option_in_two_words(rt: HostRuntime) -> Result<(), Fail> {
-    asks(&rt, rt.alloc(), "one|--want|5|d|x", one_with(5, 1000))
+    asks_one(&rt, rt.alloc(), "one|--want|5|d|x", 5, 1000)
 }
 
 #[test]
 fn an_option_in_one_word(rt: HostRuntime) -> Result<(), Fail> {
-    asks(&rt, rt.alloc(), "one|--examine=5|d|x", one_with(10, 5))
+    asks_one(&rt, rt.alloc(), "one|--examine=5|d|x", 10, 5)
 }
 
 #[test]
 fn both_options_with_leading_zeros(rt: HostRuntime) -> Result<(), Fail> {
     let text = "one|--examine|0000001|--want=1000000|d|x";
-    asks(&rt, rt.alloc(), text, one_with(1_000_000, 1))
+    asks_one(&rt, rt.alloc(), text, 1_000_000, 1)
+}
+
+#[test]
+fn options_are_taken_by_name(rt: HostRuntime) -> Result<(), Fail> {
+    let text = "one|--examine=0070|--want|5|d|x";
+    asks_one(&rt, rt.alloc(), text, 5, 70)
 }
 
 #[test]
 fn a_run_with_options(rt: HostRuntime) -> Result<(), Fail> {
-    let options = Options {
+    let wanted = Options {
         want: 7,
         examine: 1000,
     };
-    let command = Command::Run {
-        options,
-        dictionary: "d",
-        knowledge: "k",
-        script: "s=1",
-    };
-    asks(&rt, rt.alloc(), "run|--want=07|d|k|s=1", command)
+    let text = "run|--want=07|d|k|s=1";
+    asks(&rt, rt.alloc(), text, wanted, &["d", "k", "s=1"])
 }
 
 // Wants these words, with bars between them, to be no command.

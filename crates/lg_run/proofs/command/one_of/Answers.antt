@@ -1,34 +1,33 @@
-use Rattle.std.proofs.Common.{◌≤◌, length, sym, arith, string_bytes, IsTrue}
-use Rattle.lg_run.specs.Words.{is_operand, SENTENCE, one}
+use Rattle.std.proofs.Common.{◌≤◌, ◌∙◌, length, refl, sym, arith, IsTrue}
+use Rattle.lg_run.specs.Words.{is_operand, SENTENCE}
 use Rattle.lg_run.proofs.OptionWords.{of_none}
-use Rattle.lg_run.proofs.OneTask.{last_two, not_both, no_one}
+use Rattle.lg_run.proofs.OneTask.{no_cut_one, no_one, first_two, not_both, is_one_command}
 use Rattle.lg_run.proofs.command.one_of.Goals as goal
-use Rattle.lg_run.proofs.command.one_of.Goals.{then-not-is_operand-via-then-not-is_operand, then-not-is_operand-via-else-not-is_operand+then-not-is_operand-2, then-not-is_operand-via-else-not-is_operand+else-not-is_operand-2+then-len-gt-SENTENCE}
+use Rattle.lg_run.proofs.command.one_of.Goals.{then-not-is_operand-via-then-not-is_operand, then-not-is_operand-via-else-not-is_operand+then-not-is_operand-2, then-not-is_operand-via-else-not-is_operand+else-not-is_operand-2+then-sentence-gt-SENTENCE}
 
--- a word that is no operand, or a long sentence
+-- words that are not cut, or with other operands than two
+pub returns-in_err-cut : goal.returns-in_err-cut
+returns-in_err-cut c = of_none _ _ _ c.from_residual.ensures (no_cut_one _ c.in_err-cut.ensures)
+
+pub returns-in_err-dictionary : goal.returns-in_err-dictionary
+returns-in_err-dictionary c = of_none _ _ _ c.from_residual-in_err-dictionary.ensures (no_one _ _ _ c.in_ok-cut.ensures (λ d s e di si short. c.in_err-dictionary.ensures d s e))
+
+-- or with a word that is no operand, or a long sentence
 pub returns-then-not-is_operand : goal.returns-then-not-is_operand
 returns-then-not-is_operand c =
-    let ends = last_two string_bytes c.args.words.now c.dictionary-item.result c.sentence-item.result c.in-len2-up.len_at_least c.dictionary-item.is c.sentence-item.is in
-    no_one _ _ _ _ ends
-    (λ options are d s short. elim c.then-not-is_operand.branch [
-      | then-not-is_operand-via-then-not-is_operand w ↦ not_both _ (rw c.deref.ensures at w.if-not-is_operand.ensures) d
-      | then-not-is_operand-via-else-not-is_operand+then-not-is_operand-2 w ↦ not_both _ (rw w.deref-else-not-is_operand.ensures at w.if-not-is_operand-2.ensures) s
-      | then-not-is_operand-via-else-not-is_operand+else-not-is_operand-2+then-len-gt-SENTENCE w ↦ let long = w.if-len-gt-SENTENCE.true in let counted = w.len.ensures in absurd (omega arith)
+    no_one _ _ _ c.in_ok-cut.ensures
+    (λ d s e di si short. let same = first_two _ _ _ _ (sym c.in_ok-dictionary.ensures ∙ e) in elim c.then-not-is_operand.branch [
+      | then-not-is_operand-via-then-not-is_operand w ↦ not_both _ w.if-not-is_operand.ensures (rw same.0 di)
+      | then-not-is_operand-via-else-not-is_operand+then-not-is_operand-2 w ↦ not_both _ w.if-not-is_operand-2.ensures (rw same.1 si)
+      | then-not-is_operand-via-else-not-is_operand+else-not-is_operand-2+then-sentence-gt-SENTENCE w ↦ let long = w.if-sentence-gt-SENTENCE.true in let fits : length c.in_ok-dictionary.sentence.now ≤ SENTENCE = rw same.1 short in absurd (omega arith)
     ])
-
--- words that are no options
-pub returns-in_err-options : goal.returns-in_err-options
-returns-in_err-options c =
-    let ends = last_two string_bytes c.args.words.now c.dictionary-item.result c.sentence-item.result c.in-len2-up.len_at_least c.dictionary-item.is c.sentence-item.is in
-    of_none _ _ _ c.from_residual.ensures (no_one _ _ _ _ ends (λ options are d s short. c.in_err-options.ensures options are))
 
 -- options and two operands
 pub returns : goal.returns
 returns c =
-    let dictionary = string_bytes c.dictionary-item.result in
-    let sentence = string_bytes c.sentence-item.result in
-    let d : IsTrue (is_operand dictionary) = rw c.deref.ensures at (sym c.if-not-is_operand.ensures) in
-    let s : IsTrue (is_operand sentence) = rw c.deref-else-not-is_operand.ensures at (sym c.if-not-is_operand-2.ensures) in
-    let short : length sentence ≤ SENTENCE = let k = c.if-len-gt-SENTENCE.false in let l = c.len.ensures in omega arith in
-    rw (last_two string_bytes c.args.words.now c.dictionary-item.result c.sentence-item.result c.in-len2-up.len_at_least c.dictionary-item.is c.sentence-item.is, c.deref-2.ensures, c.deref-3.ensures)
-    (one _ c.in_ok-options.options dictionary sentence c.in_ok-options.ensures d s short)
+    let dictionary = c.in_ok-dictionary.dictionary.now in
+    let sentence = c.in_ok-dictionary.sentence.now in
+    let d : IsTrue (is_operand dictionary) = sym c.if-not-is_operand.ensures in
+    let s : IsTrue (is_operand sentence) = sym c.if-not-is_operand-2.ensures in
+    let short : length sentence ≤ SENTENCE = let k = c.if-sentence-gt-SENTENCE.false in omega arith in
+    is_one_command _ _ dictionary sentence (λ options. refl) (rw c.in_ok-dictionary.ensures at c.in_ok-cut.ensures) d s short

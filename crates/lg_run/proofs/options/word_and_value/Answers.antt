@@ -2,7 +2,7 @@ use Rattle.std.proofs.Common.{◌≡◌, [], ◌∷◌, map, string_bytes, None,
 use Rattle.std.proofs.lemmas.List.{nil_from_length}
 use Rattle.lg_run.specs.Settings.{IsPlain, apart, joined}
 use Rattle.lg_run.proofs.OptionWords.{cut_of, of_none, ends_early}
-use Rattle.lg_run.proofs.options.name_and_value.Goals as goal
+use Rattle.lg_run.proofs.options.word_and_value.Goals as goal
 
 -- there is no second word
 pub returns-in_err-value-in-None : goal.returns-in_err-value-in-None
