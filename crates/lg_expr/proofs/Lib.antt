@@ -5,7 +5,6 @@ pub mod Laxer
 pub mod Refusals
 pub mod First
 pub mod Tokens
-pub mod Costs
 pub mod Words
 pub mod Lexemes
 pub mod AllOf

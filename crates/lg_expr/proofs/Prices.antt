@@ -1,9 +1,10 @@
 -- The costs of an expression are within their bounds, and its formula keeps to its level.
-use Rattle.std.proofs.Common.{◌≡◌, ℕ, suc, ◌≤◌, List, [], ◌∷◌, ◌++◌, map, true, ◌&&◌, Option, Some, None, IfSome, ℤ, pos, negsuc, ◌⊎◌, inl, inr, refl, subst, arith}
+use Rattle.std.proofs.Common.{◌≡◌, ℕ, suc, ◌≤◌, List, [], ◌∷◌, ◌++◌, map, true, ◌&&◌, Option, Some, None, IfSome, ℤ, pos, neg_ℤ, zero, ◌^◌, ◌⊎◌, inl, inr, refl, sym, subst, arith}
 use Rattle.std.proofs.lemmas.Int.{ints}
 use Rattle.std.proofs.lemmas.Bool.Decides.{nat_tests}
 use Rattle.std.specs.List.{AllByRecursion}
 use Rattle.lg_base.specs.Costs.{IsCostNumber}
+use Rattle.lg_base.specs.Costs.IsCostNumber.{Plain, Negated}
 use Rattle.lg_gram.specs.Filled.{Formulas, put_in, filled, filled_in, filled_level}
 use Rattle.lg_gram.specs.Formulas.{is_small_price, prices_are_small, prices_in_are_small}
 use Rattle.lg_gram.specs.Limits.{LEVEL}
@@ -34,9 +35,16 @@ HasSmallCost no_number = Unit {0}
 HasSmallCost ends = Unit {0}
 HasSmallCost wrong = Unit {0}
 
+plain_small : (size : ℕ) → size ≤ 10 ^ 7 → is_small_price (pos size) ≡ true
+plain_small size low = grind (arith, ints, nat_tests)
+
+negated_small : (size : ℕ) → size ≤ 10 ^ 7 → is_small_price (neg_ℤ (pos size)) ≡ true
+negated_small zero low = refl
+negated_small (suc n) low = grind (arith, ints, nat_tests)
+
 cost_number_small : (w : List ℕ) (cost : ℤ) → IsCostNumber w cost → is_small_price cost ≡ true
-cost_number_small w (pos value) h = let low = h.1 in grind (arith, ints, nat_tests)
-cost_number_small w (negsuc n) h = absurd h
+cost_number_small w cost (Plain size is e) = let low = is.1 in subst (λ z. is_small_price z ≡ true) (sym e) (plain_small size low)
+cost_number_small w cost (Negated rest size split is e) = let low = is.1 in subst (λ z. is_small_price z ≡ true) (sym e) (negated_small size low)
 
 written_small : (x : Lexeme) (p : Part) → (p ≡ wrong) ⊎ Writes x p → HasSmallCost p
 written_small x (connects c) h = tt

@@ -1,9 +1,7 @@
 -- What each token is in an expression, as a function.
-use Rattle.std.specs.Prelude.{ℕ, zero, suc, ◌+◌, ◌-◌, ◌*◌, ◌^◌, List, [], ◌∷◌, Bool, true, false, ℤ, pos, Option, Some, None, length, take, drop, position, slice_index, nat_le, nat_lt, ◌==◌, ◌&&◌, codes, if◌then◌else◌}
-use Rattle.std.specs.List.{list_all, prefix_len}
-use Rattle.std.specs.Char.{digit_value}
-use Rattle.std.specs.Str.Parse.{digits_value}
-use Rattle.lg_base.specs.Costs.{part_value}
+use Rattle.std.specs.Prelude.{ℕ, ◌-◌, List, [], ◌∷◌, Bool, true, false, ℤ, Option, Some, None, length, take, drop, slice_index, nat_lt, ◌==◌, ◌&&◌, codes, if◌then◌else◌}
+use Rattle.std.specs.List.{prefix_len}
+use Rattle.lg_base.specs.Costs.{read_cost}
 use Rattle.lg_gram.specs.Names.{is_capital, is_written, trimmed}
 use Rattle.lg_gram.specs.Connectors.{Connector}
 use Rattle.lg_lex.specs.Tokens.{is_text, Lexeme, sign, quoted, plain, broken}
@@ -39,25 +37,6 @@ connector_of w =
 abbrev pub is_macro_name : List ℕ → Bool
 is_macro_name w = nat_lt 2 (length w) && slice_index w 0 == 60 && last_byte w == 62
 
-abbrev pub are_digits : ℕ → List ℕ → Bool
-are_digits most w = nat_lt 0 (length w) && nat_le (length w) most && list_all (λ c. nat_lt (digit_value c) 10) w
-
--- the thousandths of a number whose point stands there
-abbrev pub thousandths_at : List ℕ → Option ℕ → Option ℕ
-thousandths_at w None = if are_digits 5 w then Some (1000 * digits_value 10 w) else None
-thousandths_at w (Some zero) = if are_digits 3 (drop 1 w) then Some (part_value (drop 1 w)) else None
-thousandths_at w (Some (suc k)) =
-    if are_digits 5 (take (suc k) w) && are_digits 3 (drop (suc k + 1) w)
-    then Some (1000 * digits_value 10 (take (suc k) w) + part_value (drop (suc k + 1) w)) else None
-
-abbrev pub cost_within : Option ℕ → Option ℤ
-cost_within None = None
-cost_within (Some value) = if nat_le value (10 ^ 7) then Some (pos value) else None
-
--- the cost that a word writes
-abbrev pub cost_of : List ℕ → Option ℤ
-cost_of w = cost_within (thousandths_at w (position (λ b. b == 46) w))
-
 abbrev pub part_of_number : Option ℤ → Part
 part_of_number None = no_number
 part_of_number (Some cost) = number cost
@@ -71,7 +50,7 @@ part_of_word w =
     if is_text (codes "or") w then operates Or
     else (if is_text (codes "and") w then operates And
     else (if is_macro_name w then names w
-    else (if begins_number w then part_of_number (cost_of w)
+    else (if begins_number w then part_of_number (read_cost w)
     else part_of_connector (connector_of w))))
 
 abbrev pub part_of_sign : ℕ → Part

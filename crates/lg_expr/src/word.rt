@@ -3,11 +3,12 @@
 ghost use Rattle.std.specs.Prelude.{◌≡◌, true, false};
 ghost use Rattle.lg_lex.specs.Found.{lexeme_of};
 ghost use Rattle.lg_expr.specs.Words.{begins_number};
-ghost use Rattle.lg_expr.specs.Classes.{cost_of, connector_of, connector_from, connector_without_sign, is_macro_name, part_of_word, part_of_sign, part_of_number, part_of_lexeme};
+ghost use Rattle.lg_base.specs.Costs.{read_cost};
+ghost use Rattle.lg_expr.specs.Classes.{connector_of, connector_from, connector_without_sign, is_macro_name, part_of_word, part_of_sign, part_of_number, part_of_lexeme};
 ghost use Rattle.lg_expr.specs.View.{part_of};
 
 use crate::part::{Bracket, Operator, Part};
-use lg_base::{cost_number_laws, parse_cost};
+use lg_base::parse_cost;
 use lg_gram::{Connector, capitals};
 use lg_lex::Token;
 
@@ -80,9 +81,8 @@ fn begins_number(word: &[u8]) -> bool
 }
 
 fn part_of_number(word: &[u8]) -> Part<'static>
-    ensures { part_of result ≡ part_of_number (cost_of word.now) }
+    ensures { part_of result ≡ part_of_number (read_cost word.now) }
 {
-    cost_number_laws();
     match parse_cost(word) {
         Some(cost) => Part::Number(cost),
         None => Part::NoNumber,
