@@ -5,7 +5,7 @@ ghost use Rattle.lg_token.specs.Bounds.{CHOICES_COUNTED, word_choices, token_cho
 
 use lg_base::Text;
 use lg_dict::View;
-use lg_gram::{Bound, Token, choices};
+use lg_gram::{Bound, Token};
 
 // The most tokens of a sentence that is listed.
 const LISTED_POSITIONS: usize = 8;
@@ -58,5 +58,5 @@ fn word_choices(view: &View, word: &Text) -> u64
     ensures few { result ≤ FORMULA_CHOICES }
 {
     view.get(word.bytes())
-        .map_or(0, |formula| choices(formula.expr()))
+        .map_or(0, |formula| formula.choices())
 }
