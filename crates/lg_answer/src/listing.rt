@@ -79,7 +79,7 @@ impl Listing {
     /// Before each candidate it stops where `want` have passed, else where `examine` were looked at, else where none is
     /// left; only the last is the end. All that were looked at stand in the page, each with its number and the first rule
     /// of post-processing that it breaks, if it breaks one; each may be printed beside the listing's tokens. The only error
-    /// is want of memory, and then the listing is gone.
+    /// is running out of memory, and then the listing is gone.
     pub fn page(
         self,
         alloc: Global,

@@ -11,7 +11,7 @@ use lg_pp::judge;
 use std::alloc::Global;
 
 /// The page of the candidates after the first `from`. Before each candidate it stops where `want` have passed, else where
-/// `examine` were looked at, else where none is left, and only then it is the end. The only error is want of memory.
+/// `examine` were looked at, else where none is left, and only then it is the end. The only error is running out of memory.
 pub(crate) fn page_of(
     alloc: Global,
     know: &Knowledge,

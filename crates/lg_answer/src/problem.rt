@@ -11,7 +11,7 @@ use lg_gram::{Disjunct, Disjuncts, Positions, Problem, Token};
 use std::alloc::Global;
 
 /// The problem of these tokens: a position for each, with the disjuncts of all its words, in order and each once. A
-/// token with no word has none. The only error is want of memory.
+/// token with no word has none. The only error is running out of memory.
 pub(crate) fn problem_of(alloc: Global, view: &View, tokens: &[Token]) -> Result<Problem, NoMemory>
     requires order { HaveOrder tokens.now }
     requires unbound { bound_of view.now tokens.now ≡ None }

@@ -3,7 +3,7 @@ use lg_base::NoMemory;
 use lg_gram::Bound;
 use thiserror::Error;
 
-/// A sentence is not listed for want of memory, or since it is beyond a bound.
+/// A sentence is not listed since memory ran out, or since it is beyond a bound.
 #[derive(Clone, Copy, Debug, PartialEq, Eq, Error)]
 pub enum AnswerRefusal {
     #[error("out of memory")]

@@ -26,7 +26,7 @@ use std::alloc::Global;
 /// strictly increasing by left list and right list.
 ///
 /// There are at most 1,000,000, since a formula has no more choices. A disjunct has at most 255 connectors on a side, and
-/// its cost is at most 10^13 thousandths from zero. The call fails only for want of memory. Its time and memory grow in
+/// its cost is at most 10^13 thousandths from zero. The call fails only where memory runs out. Its time and memory grow in
 /// proportion to the choices and their lengths, but for the sort.
 pub fn expand(alloc: Global, word: &Text, formula: &Formula) -> Result<Disjuncts, NoMemory>
     ensures disjuncts { IfOk result (λ ds. AreDisjuncts word.now (tree_of formula.now) ds) }

@@ -107,7 +107,7 @@ module _ (inputs : Reading Given) (old new : List (List ℕ)) (before after : Op
 
 -- ---- the line
 
--- the line of an error for want of memory
+-- the line of an error where memory ran out
 memory_said : (name : List ℕ) (error : DictError) → dict_status error ≡ NoMemory → dict_line name error ≡ memory_line
 memory_said name errors.NoMemory h = refl
 memory_said name (errors.WordFile line file causes.Failed) h = cc

@@ -16,7 +16,7 @@ use Rattle.lg_run.specs.declared.status.Status.TheVariants.{BadInput, ReadFault,
 use Rattle.lg_run.specs.declared.stop.Stop.{Stop}
 use Rattle.lg_run.specs.declared.stop.Stop.TheVariants.{Memory, Unreadable, TooLong, Dictionary, Knowledge, Script, TooManyEdits}
 
--- a word file that cannot be read is a read fault, and every other error but want of memory is one of the input
+-- a word file that cannot be read is a read fault, and every other error but running out of memory is one of the input
 abbrev pub dict_status : DictError → Status
 dict_status errors.NoMemory = NoMemory
 dict_status (errors.WordFile line file causes.Failed) = ReadFault

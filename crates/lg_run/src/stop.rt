@@ -1,10 +1,10 @@
-//! Why the inputs of a command are not had.
+//! Why reading the inputs failed.
 
 use lg_dictread::DictError;
 use lg_knowread::KnowError;
 use lg_script::ScriptError;
 
-/// Why the inputs of a command are not had: want of memory, or a file by its name.
+/// Why reading the inputs failed: memory ran out, or a file by its name.
 #[derive(Debug, Drop)]
 pub enum Stop<'a> {
     Memory,

@@ -1,4 +1,4 @@
-//! What no clause says: that runs come to an end that is not want of memory, and pages and lines that are known from
+//! What no clause says: that runs come to an end other than running out of memory, and pages and lines that are known from
 //! elsewhere.
 mod post_processing;
 mod refusals;

@@ -57,7 +57,7 @@ pub fn run<R: Threads + Sync, F: Files, O: Sink, E: Sink>(
     ensures caused { Caused result (F.faults files.old) (F.faults files.new) (O.faults out.old) (O.faults out.new) }
     ensures unwritten { Unwritten result (O.written out.old) (O.written out.new) }
 
-    // Without a fault, a text that is refused is told and inputs that are accepted are answered, but for want of memory.
+    // Without a fault, a text that is refused is told and inputs that are accepted are answered, but where memory ran out.
     ensures refused { WhereTold (F.contents files.old) (map string_bytes words.now) (λ inputs.
         AnswersRefused inputs (¬ Rose (F.faults files.old) (F.faults files.new)) result) }
     ensures complete { WhereTold (F.contents files.old) (map string_bytes words.now) (λ inputs.
@@ -183,8 +183,8 @@ fn fail<E: Sink>(err: &mut E, status: Status, line: &[u8]) -> Status
     status
 }
 
-// The status of inputs that are not had, after its line as far as the sink takes it. Where there is no memory for the line
-// that is want of memory.
+// The status where reading the inputs failed, after its line as far as the sink takes it. Where there is no memory for the line
+// memory ran out.
 fn refuse<E: Sink>(alloc: Global, err: &mut E, stop: Stop<'_>) -> Status
     ensures stopped { IsStopped result }
     ensures line { EndsAs stop.entry result (¬ Rose (E.faults err.old) (E.faults err.new)) (E.written err.old) (E.written err.new) }
@@ -218,7 +218,7 @@ fn refuse<E: Sink>(alloc: Global, err: &mut E, stop: Stop<'_>) -> Status
     }
 }
 
-// The status, after its line as far as the sink takes it. Where there is no memory for the line that is want of memory.
+// The status, after its line as far as the sink takes it. Where there is no memory for the line, memory ran out.
 fn fail_with<E: Sink>(err: &mut E, status: Status, line: Result<Vec<u8>, NoMemory>) -> Status
     ensures { EndsWithLine result status line (¬ Rose (E.faults err.old) (E.faults err.new)) (E.written err.old) (E.written err.new) }
 {

@@ -12,7 +12,7 @@ use lg_edit::{Edit, apply, check};
 use lg_gram::{EditRefusal, Place, RawEntry, Reply};
 use std::alloc::Global;
 
-/// Publishes an edit that the dictionary accepts, or tells why it is refused. The only error is want of memory, and then the
+/// Publishes an edit that the dictionary accepts, or tells why it is refused. The only error is running out of memory, and then the
 /// dictionary may have an edit that the journal lacks.
 pub(crate) fn make(
     alloc: Global,

@@ -37,7 +37,7 @@ pub trait Engine: Sync {
 
     /// Opens the listing of a sentence after `first - 1` candidates, or after all where they are fewer, with a page that shows
     /// `want` candidates, or as many as the engine gives. The sentence is UTF-8 with fewer than 2^32 bytes, and both numbers
-    /// lie from 1 to 1,000,000. The only error is want of memory.
+    /// lie from 1 to 1,000,000. The only error is running out of memory.
     fn begin<R: Threads + Sync>(
         &self,
         rt: &R,
@@ -53,7 +53,7 @@ pub trait Engine: Sync {
         ensures { IfOk result (λ opening. Opens (meaning self.now) (stands self.now) view.now text.now first want opening) };
 
     /// The next page of a listing, which shows as many candidates as its first. What is held has come no farther than 2^60. The
-    /// only error is want of memory, and then the listing is gone.
+    /// only error is running out of memory, and then the listing is gone.
     fn more(&self, alloc: Global, held: Self::Held) -> Result<(Self::Held, Tokens, Page), NoMemory>
         requires { (dict : Dictionary) × (progress : Progress) × stands self.now held dict progress × (progress.position ≤ 2 ^ 60) }
         ensures { (dict : Dictionary) (progress : Progress) → stands self.now held dict progress → IfOk result (λ r. GoesOn (meaning self.now) (stands self.now) dict progress r.0 r.1 r.2) };

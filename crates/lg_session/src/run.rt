@@ -18,7 +18,7 @@ use std::thread::Threads;
 /// dictionary accepts.
 ///
 /// There is exactly one script; it has fewer than 2^32 commands within their bounds, as `lg_script::read_script` gives them for
-/// texts of at most 67,108,864 bytes. The only error is want of memory, and then nothing is answered.
+/// texts of at most 67,108,864 bytes. The only error is running out of memory, and then nothing is answered.
 pub fn run_sessions<R: Threads + Sync, E: Engine>(
     rt: &R,
     alloc: Global,

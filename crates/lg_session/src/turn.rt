@@ -16,7 +16,7 @@ use lg_script::Command;
 use std::alloc::Global;
 use std::thread::Threads;
 
-/// Answers the command at a place of the scripts. The only error is want of memory, and then the session is gone.
+/// Answers the command at a place of the scripts. The only error is running out of memory, and then the session is gone.
 pub(crate) fn turn<'a, R: Threads + Sync, E: Engine>(
     rt: &R,
     alloc: Global,

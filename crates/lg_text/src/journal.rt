@@ -10,7 +10,7 @@ use std::alloc::Global;
 /// The text of the journal of edits: the line `journal N`, a line `edit V S.C` for each edit that was published, in
 /// order, and the line `done`. N is how many they are, V the version that the edit made, counted from 1, and S.C the
 /// session and the number of its command. There is one space between the parts of a line, and a line feed at its end. The
-/// only error is want of memory.
+/// only error is running out of memory.
 pub fn journal_text(alloc: Global, journal: &[Place]) -> Result<Vec<u8>, NoMemory>
     ensures { IfOk result (λ bytes. bytes.items ≡ journal_text journal.now) }
 {

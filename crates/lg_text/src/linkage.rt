@@ -20,7 +20,7 @@ use std::alloc::Global;
 /// - A link is `link A B LABEL P Q`: the positions at its ends, its label, and the places of its connectors on the right
 ///   side of A and on the left side of B. A label is link-parser's.
 ///
-/// Costs are printed by `write_cost`, in whole units with three digits behind a point. The only error is want of memory.
+/// Costs are printed by `write_cost`, in whole units with three digits behind a point. The only error is running out of memory.
 pub fn linkage_text(
     alloc: Global,
     tokens: &Tokens,

@@ -19,7 +19,7 @@ use std::alloc::Global;
 /// - The last line is `page shown S examined E next N end`, or `more` in place of `end` where the listing goes on: how
 ///   many candidates break no rule, how many were looked at, and the number of the next one.
 ///
-/// The only error is want of memory.
+/// The only error is running out of memory.
 pub fn page_text(alloc: Global, tokens: &Tokens, page: &Page) -> Result<Vec<u8>, NoMemory>
     requires { All (λ item. IsPrintable tokens.now item.linkage) page.now.items }
     ensures { IfOk result (λ bytes. bytes.items ≡ page_text tokens.now page.now) }
@@ -103,7 +103,7 @@ fn count_shown(items: &[PageItem]) -> u64
 }
 
 /// The line that names a bound, and how much there is of what it bounds: `too many words N` or `too many choices N`, with
-/// a line feed at its end. The only error is want of memory.
+/// a line feed at its end. The only error is running out of memory.
 pub fn bound_text(alloc: Global, bound: Bound) -> Result<Vec<u8>, NoMemory>
     ensures { IfOk result (λ bytes. bytes.items ≡ bound_line bound) }
 {

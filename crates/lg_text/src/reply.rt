@@ -22,7 +22,7 @@ use std::alloc::Global;
 /// - The version that the session has come to: `S.C version V`.
 /// - No listing that could go on: `S.C more nothing held`.
 ///
-/// The only error is want of memory.
+/// The only error is running out of memory.
 pub fn reply_text(
     alloc: Global,
     place: Place,
