@@ -21,8 +21,8 @@ use lg_base::Files;
 use lg_expr::expressions_fit;
 use lg_gram::Entry;
 use lg_lex::{
-    Marks, Spot, bytes_are_utf8_or_at_fault, next_spotted, runs_are_one_list, tokens_are_one_list,
-    tokens_are_utf8, utf8_fault, without_mark,
+    Marks, Spot, bytes_are_utf8_or_at_fault, next_spotted, parts_are_utf8, runs_are_one_list,
+    tokens_are_one_list, tokens_are_utf8, utf8_fault, without_mark,
 };
 use std::alloc::Global;
 
@@ -115,6 +115,7 @@ pub fn read_dict<F: Files>(
 {
     tokens_are_one_list();
     bytes_are_utf8_or_at_fault();
+    parts_are_utf8();
     exactly_one_dictionary();
     match utf8_fault(bytes) {
         Some(byte) => Err(DictError::NotUtf8(byte)),

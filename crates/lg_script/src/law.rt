@@ -5,7 +5,7 @@ ghost use Rattle.lg_script.specs.Commands.{CommandView};
 ghost use Rattle.lg_script.specs.Scripts.{Outcome, ScriptIs};
 
 use lg_dictread::{entry_texts_keep_bounds, exactly_one_entry_text};
-use lg_lex::bytes_are_utf8_or_at_fault;
+use lg_lex::{bytes_are_utf8_or_at_fault, parts_are_utf8};
 
 /// A script stands for one outcome: its commands, or its first fault.
 ///
@@ -26,4 +26,5 @@ pub fn scripts_keep_bounds()
     ensures { (bytes : List ℕ) (commands : List CommandView) → length bytes ≤ FILE → ScriptIs bytes (Ok commands) → AreInBounds commands }
 {
     entry_texts_keep_bounds();
+    parts_are_utf8();
 }

@@ -4,7 +4,6 @@ use Rattle.std.specs.Str.{IsUtf8}
 use Rattle.lg_lex.specs.declared.marks.Marks.TheVariants.{Dictionary}
 use Rattle.lg_lex.specs.Lexing.{tokens_from}
 use Rattle.lg_lex.specs.Marked.{without_mark}
-use Rattle.lg_lex.proofs.AfterMark.{after_mark}
 use Rattle.lg_lex.specs.Tokens.{IsText}
 use Rattle.lg_dictread.specs.Telling.{Answers, AsksFront, ErrorTells, first_fault}
 use Rattle.lg_dictread.specs.declared.dict_error.DictError.TheVariants.{NotUtf8}
@@ -16,7 +15,7 @@ use Rattle.lg_dictread.proofs.dict_text.read_dict.Goals as goal
 
 -- what follows the mark is UTF-8
 pub read_text-requires : goal.read_text-requires
-read_text-requires g c = subst IsUtf8 (sym c.without_mark.ensures) (after_mark c.args.bytes.now (c.in-None.ensures.none.0 refl))
+read_text-requires g c = subst IsUtf8 (sym c.without_mark.ensures) (c.parts_are_utf8.ensures.after_mark c.args.bytes.now (c.in-None.ensures.none.0 refl))
 
 pub returns-in-Some-clause-fault : goal.returns-in-Some-clause-fault
 returns-in-Some-clause-fault g c = first_fault (NotUtf8 c.in-Some.byte) (fault_told (g.F.Files.contents c.args.files.now) c.args.bytes.now (g.F.Files.asked c.args.files.now) c.in-Some.byte c.in-Some.ensures.fault)
