@@ -103,7 +103,8 @@ fn read(rt: HostRuntime) {
         ("-0", 0),
         ("-.25", -250),
     ] {
-        assert_eq!(rt; parse_cost(text.as_bytes()), Some(Cost::of(want)), "{text}");
+        let cost = parse_cost(text.as_bytes()).map(|cost| cost.thousandths());
+        assert_eq!(rt; cost, Some(want), "{text}");
     }
     for text in [
         "",
