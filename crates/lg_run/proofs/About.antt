@@ -1,18 +1,12 @@
 -- The text that a stop is about.
-use Rattle.std.proofs.Common.{◌≡◌, ℕ, zero, suc, List, [], ◌∷◌, codes, decimal, Contains, Result, Ok, Err, IfErr, refl, sym, subst, arith}
+use Rattle.std.proofs.Common.{◌≡◌, ℕ, zero, suc, List, [], ◌∷◌, Contains, Result, Ok, Err, IfErr, refl, sym, subst, arith}
 use Rattle.lg_dictread.specs.declared.dict_error.DictError.{DictError}
 use Rattle.lg_dictread.specs.declared.dict_error.DictError.TheVariants as errors
-use Rattle.lg_dictread.specs.declared.dict_error.WordFileError.TheVariants as causes
 use Rattle.lg_dictread.specs.Telling.{IsCause}
-use Rattle.lg_knowread.specs.declared.fault.KnowError.{KnowError}
-use Rattle.lg_knowread.specs.declared.fault.KnowError.TheVariants as know_errors
-use Rattle.lg_script.specs.declared.script_error.ScriptError.{ScriptError}
-use Rattle.lg_script.specs.declared.script_error.ScriptError.TheVariants as script_errors
 use Rattle.lg_run.specs.Inputs.{Given}
-use Rattle.lg_run.specs.Lines.{dict_line, know_line, script_line, not_utf8, syntax_at, on_line}
 use Rattle.lg_run.specs.Reads.{IsOfLast, IsAbout}
-use Rattle.lg_run.specs.Stops.{dict_status, know_status, script_status, stop_status, stop_line}
-use Rattle.lg_run.specs.Answers.{IsRefusal, too_long, refuses, long_word_file, other_word_file}
+use Rattle.lg_run.specs.Stops.{stop_status, stop_line}
+use Rattle.lg_run.specs.Answers.{IsRefusal, too_long, dictionary, knowledge, script, too_many_edits}
 use Rattle.lg_run.specs.declared.inputs.Inputs.{Inputs}
 use Rattle.lg_run.specs.declared.status.Status.TheVariants.{BadInput}
 use Rattle.lg_run.specs.declared.stop.Stop.{Stop}
@@ -77,41 +71,11 @@ given_about names asked g (Err stop) is = subst (IsAbout names asked) (sym is) t
 
 -- ---- its line
 
-dict_refuses : (names asked : Names) (name : List ℕ) (error : DictError) → Contains names name → IsOfLast asked error → dict_status error ≡ BadInput → IsRefusal names asked (dict_line name error)
-dict_refuses names asked name errors.NoMemory one last h = cc
-dict_refuses names asked name (errors.WordFile line file causes.Failed) one last h = cc
-dict_refuses names asked name (errors.WordFile line file causes.TooLong) one last h = long_word_file file last
-dict_refuses names asked name (errors.WordFile line file (causes.NotUtf8 n)) one last h = other_word_file file n last
-dict_refuses names asked name (errors.NotUtf8 n) one last h = refuses name (not_utf8 n) one
-dict_refuses names asked name (errors.Syntax line column) one last h = refuses name (syntax_at line column) one
-dict_refuses names asked name (errors.UnknownMacro line macro) one last h = refuses name (on_line line (codes "unknown macro " ∷ macro ∷ [])) one
-dict_refuses names asked name (errors.CostForm line) one last h = refuses name (on_line line (codes "cost form" ∷ [])) one
-dict_refuses names asked name (errors.TooDeep line) one last h = refuses name (on_line line (codes "too deep" ∷ [])) one
-dict_refuses names asked name (errors.TooManyNodes line n) one last h = refuses name (on_line line (codes "too many nodes " ∷ decimal n ∷ [])) one
-dict_refuses names asked name (errors.TooManyChoices line n) one last h = refuses name (on_line line (codes "too many choices " ∷ decimal n ∷ [])) one
-dict_refuses names asked name (errors.SideTooLong line n) one last h = refuses name (on_line line (codes "too many connectors on a side " ∷ decimal n ∷ [])) one
-dict_refuses names asked name (errors.DuplicateWord word n m) one last h = refuses name (word ∷ codes " is defined on lines " ∷ decimal n ∷ codes " and " ∷ decimal m ∷ []) one
-
-know_refuses : (names asked : Names) (name : List ℕ) (error : KnowError) → Contains names name → know_status error ≡ BadInput → IsRefusal names asked (know_line name error)
-know_refuses names asked name know_errors.NoMemory one h = cc
-know_refuses names asked name (know_errors.NotUtf8 n) one h = refuses name (not_utf8 n) one
-know_refuses names asked name (know_errors.Syntax line column) one h = refuses name (syntax_at line column) one
-know_refuses names asked name (know_errors.UnknownSection line) one h = refuses name (on_line line (codes "unknown section" ∷ [])) one
-know_refuses names asked name (know_errors.BadPattern line) one h = refuses name (on_line line (codes "pattern" ∷ [])) one
-know_refuses names asked name (know_errors.BadType line) one h = refuses name (on_line line (codes "domain type" ∷ [])) one
-
-script_refuses : (names asked : Names) (name : List ℕ) (error : ScriptError) → Contains names name → script_status error ≡ BadInput → IsRefusal names asked (script_line name error)
-script_refuses names asked name script_errors.NoMemory one h = cc
-script_refuses names asked name (script_errors.NotUtf8 n) one h = refuses name (not_utf8 n) one
-script_refuses names asked name (script_errors.UnknownCommand line) one h = refuses name (on_line line (codes "unknown command" ∷ [])) one
-script_refuses names asked name (script_errors.BadNumber line) one h = refuses name (on_line line (codes "number" ∷ [])) one
-script_refuses names asked name (script_errors.BadEdit line) one h = refuses name (on_line line (codes "edit" ∷ [])) one
-
 pub stop_refuses : (names asked : Names) (stop : Stop) → IsAbout names asked stop → stop_status stop ≡ BadInput → IsRefusal names asked (stop_line stop)
 stop_refuses names asked Memory about h = cc
 stop_refuses names asked (Unreadable name) about h = cc
 stop_refuses names asked (TooLong name) about h = too_long name.now about
-stop_refuses names asked (Dictionary name error) about h = dict_refuses names asked name.now error about.0 about.1 h
-stop_refuses names asked (Knowledge name error) about h = know_refuses names asked name.now error about h
-stop_refuses names asked (Script name error) about h = script_refuses names asked name.now error about h
-stop_refuses names asked (TooManyEdits name) about h = refuses name.now (codes "more than 100000 edits" ∷ []) about
+stop_refuses names asked (Dictionary name error) about h = dictionary name.now error about.0 about.1 h
+stop_refuses names asked (Knowledge name error) about h = knowledge name.now error about h
+stop_refuses names asked (Script name error) about h = script name.now error about h
+stop_refuses names asked (TooManyEdits name) about h = too_many_edits name.now about

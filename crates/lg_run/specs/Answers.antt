@@ -6,12 +6,16 @@ use Rattle.lg_base.specs.Contents.{Contents}
 use Rattle.lg_base.specs.Faults.{Rose}
 use Rattle.lg_base.specs.Files.{EndsWith}
 use Rattle.lg_base.specs.Sinks.{AppendsFront}
+use Rattle.lg_dictread.specs.declared.dict_error.DictError.{DictError}
+use Rattle.lg_knowread.specs.declared.fault.KnowError.{KnowError}
 use Rattle.lg_script.specs.Bounds.{AreInBounds}
+use Rattle.lg_script.specs.declared.script_error.ScriptError.{ScriptError}
 use Rattle.lg_run.specs.Words.{Task, One, Run, TaskIs, SENTENCE, AreInRange}
 use Rattle.lg_run.specs.Inputs.{Reading, accepted, refused, Given, OneGiven, RunGiven, InputsAre}
-use Rattle.lg_run.specs.Reads.{Comes}
+use Rattle.lg_run.specs.Reads.{Comes, IsOfLast}
 use Rattle.lg_run.specs.Documents.{DocumentIs, IsOutcome}
-use Rattle.lg_run.specs.Lines.{usage_line, memory_line, output_line, unreadable_line, too_long_line, refusal_line, not_utf8}
+use Rattle.lg_run.specs.Lines.{usage_line, memory_line, output_line, unreadable_line, too_long_line, dict_line, know_line, script_line, edits_line}
+use Rattle.lg_run.specs.Stops.{dict_status, know_status, script_status}
 use Rattle.lg_run.specs.declared.outcome.Halt.{Halt}
 use Rattle.lg_run.specs.declared.outcome.Halt.TheVariants.{Memory, Output}
 use Rattle.lg_run.specs.declared.status.Status.{Status}
@@ -90,9 +94,10 @@ names_of (Run options dictionary knowledge script) = dictionary ∷ knowledge �
 -- what is said of a text that is refused: of a file with one of these names, or of the word file that was asked last
 pub data IsRefusal (names asked : List (List ℕ)) : List ℕ → Type 0 where
   too_long : (name : List ℕ) → Contains names name → IsRefusal names asked (too_long_line name)
-  refuses : (name : List ℕ) (why : List (List ℕ)) → Contains names name → IsRefusal names asked (refusal_line name why)
-  long_word_file : (file : List ℕ) → EndsWith asked file → IsRefusal names asked (too_long_line file)
-  other_word_file : (file : List ℕ) (byte : ℕ) → EndsWith asked file → IsRefusal names asked (refusal_line file (not_utf8 byte))
+  dictionary : (name : List ℕ) (error : DictError) → Contains names name → IsOfLast asked error → dict_status error ≡ BadInput → IsRefusal names asked (dict_line name error)
+  knowledge : (name : List ℕ) (error : KnowError) → Contains names name → know_status error ≡ BadInput → IsRefusal names asked (know_line name error)
+  script : (name : List ℕ) (error : ScriptError) → Contains names name → script_status error ≡ BadInput → IsRefusal names asked (script_line name error)
+  too_many_edits : (name : List ℕ) → Contains names name → IsRefusal names asked (edits_line name)
 
 -- The line of a status, by the names asked. BadInput has the line of a text that is refused, and where the files tell what they
 -- hold it is the first.
