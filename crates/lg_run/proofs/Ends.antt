@@ -18,12 +18,13 @@ use Rattle.lg_run.specs.declared.command.Command.{Command}
 use Rattle.lg_run.specs.Inputs.{Found, Reading, accepted, refused, IsOne, Given, InputsAre}
 use Rattle.lg_run.specs.Lines.{memory_line, dict_line, know_line, script_line}
 use Rattle.lg_run.specs.Stops.{dict_status, know_status, script_status, stop_status, stop_line, EndsAs, EndsWithLine}
-use Rattle.lg_run.specs.Reads.{Comes, TellsStop, IsFaultOf}
-use Rattle.lg_run.specs.Answers.{WhereTold, IsNoTask, Caused, Told, AnswersRefused, AnswersAccepted, IsRefusal, too_long, dictionary, knowledge, script, too_many_edits, HasLine, WritesLine, Finishes, last_line, IsStopped}
+use Rattle.lg_run.specs.Reads.{Comes, TellsStop, IsFaultOf, IsAbout}
+use Rattle.lg_run.specs.Answers.{WhereTold, IsNoTask, Caused, Told, AnswersRefused, AnswersAccepted, names_of, IsRefusal, HasLine, WritesLine, Finishes, last_line, IsStopped}
 use Rattle.lg_run.specs.declared.stop.Stop.{Stop}
 use Rattle.lg_run.specs.declared.stop.Stop.TheVariants.{Memory, Unreadable, TooLong, Dictionary, Knowledge, Script, TooManyEdits}
 use Rattle.lg_run.specs.declared.status.Status.{Status}
 use Rattle.lg_run.specs.declared.status.Status.TheVariants.{Done, BadInput, Usage, ReadFault, WriteFault, NoMemory}
+use Rattle.lg_run.proofs.About.{stop_refuses}
 
 -- ---- where something is told or not
 
@@ -56,8 +57,14 @@ module _ (words texts : List (List ℕ)) (command : Command) (options : Options)
   range_read = subst AreInRange (sym are_read) is.range
 
   -- so that the task is the command's with them
+  is_task_read : TaskIs words (task options command)
+  is_task_read = subst (λ (o : Options). TaskIs words (task o command)) (sym are_read) is.is_task
+
+  pub about_read : OneTask → (asked : List (List ℕ)) (stop : Stop) → IsAbout (names_of (task options command)) asked stop → (t : Task) → TaskIs words t → IsAbout (names_of t) asked stop
+  about_read one asked stop h t that = subst (λ (t : Task). IsAbout (names_of t) asked stop) (one words (task options command) t is_task_read that) h
+
   pub told_read : OneTask → (contents : Option Contents) (Holds : Reading Given → Type 0) → IfSome contents (λ known. Holds (InputsAre known (task options command))) → WhereTold contents words Holds
-  told_read one contents Holds h = told_of one contents (task options command) words Holds (subst (λ (o : Options). TaskIs words (task o command)) (sym are_read) is.is_task) h
+  told_read one contents Holds h = told_of one contents (task options command) words Holds is_task_read h
 
 -- ---- what is written
 
@@ -147,18 +154,9 @@ stop_said (Knowledge name error) h = know_said name.now error h
 stop_said (Script name error) h = script_said name.now error h
 stop_said (TooManyEdits name) h = cc
 
-stop_refuses : (stop : Stop) → stop_status stop ≡ BadInput → IsRefusal (stop_line stop)
-stop_refuses Memory h = cc
-stop_refuses (Unreadable name) h = cc
-stop_refuses (TooLong name) h = too_long name.now
-stop_refuses (Dictionary name error) h = dictionary name.now error
-stop_refuses (Knowledge name error) h = knowledge name.now error
-stop_refuses (Script name error) h = script name.now error
-stop_refuses (TooManyEdits name) h = too_many_edits name.now
-
 module _ (contents : Option Contents) (words : List (List ℕ)) (old new : List (List ℕ)) (before now : ℕ) where
   -- the line of a stop, by its status
-  stop_fits : (status : Status) (line : List ℕ) → IsStopped status → (status ≡ NoMemory → line ≡ memory_line) → (status ≡ BadInput → IsRefusal line) →
+  stop_fits : (status : Status) (line : List ℕ) → IsStopped status → (status ≡ NoMemory → line ≡ memory_line) → (status ≡ BadInput → (task : Task) → TaskIs words task → IsRefusal (names_of task) new line) →
       IsFaultOf new before now status line → WhereTold contents words (λ inputs. TellsStop inputs old new status line) → HasLine contents words old new status line
   stop_fits BadInput line is memory refuses fault told = (refuses refl, told)
   stop_fits ReadFault line is memory refuses fault told = fault.1
@@ -168,15 +166,15 @@ module _ (contents : Option Contents) (words : List (List ℕ)) (old new : List 
   stop_fits WriteFault line is memory refuses fault told = absurd is
 
   pub stop_written : (stop : Stop) (status : Status) (so : Type 0) (err_old err_new : Option (List ℕ)) → IsStopped status → EndsAs stop status so err_old err_new →
-      IsFaultOf new before now (stop_status stop) (stop_line stop) → WhereTold contents words (λ inputs. TellsStop inputs old new (stop_status stop) (stop_line stop)) →
-      so → WritesLine contents words old new status err_old err_new
-  stop_written stop status so err_old err_new is (inl says) fault told holds = record {
+      IsFaultOf new before now (stop_status stop) (stop_line stop) → ((task : Task) → TaskIs words task → IsAbout (names_of task) new stop) →
+      WhereTold contents words (λ inputs. TellsStop inputs old new (stop_status stop) (stop_line stop)) → so → WritesLine contents words old new status err_old err_new
+  stop_written stop status so err_old err_new is (inl says) fault about told holds = record {
     line = stop_line stop;
     fits = subst (λ (s : Status). HasLine contents words old new s (stop_line stop)) (sym says.same)
-        (stop_fits (stop_status stop) (stop_line stop) (subst IsStopped says.same is) (stop_said stop) (stop_refuses stop) fault told);
+        (stop_fits (stop_status stop) (stop_line stop) (subst IsStopped says.same is) (stop_said stop) (λ bad task is. stop_refuses (names_of task) new stop (about task is) bad) fault told);
     grown = says.written holds;
   }
-  stop_written stop status so err_old err_new is (inr says) fault told holds = record {
+  stop_written stop status so err_old err_new is (inr says) fault about told holds = record {
     line = memory_line;
     fits = subst (λ (s : Status). HasLine contents words old new s memory_line) (sym says.same) refl;
     grown = says.written holds;

@@ -5,6 +5,7 @@ pub mod ClapWords
 pub mod Readings
 pub mod Dictionaries
 pub mod Ends
+pub mod About
 pub mod Verdicts
 pub mod Told
 pub mod Givens

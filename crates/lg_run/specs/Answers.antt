@@ -1,5 +1,5 @@
 -- What each status says of a run.
-use Rattle.std.specs.Prelude.{◌≡◌, ℕ, ◌≤◌, ◌<◌, ◌^◌, List, [], length, All, ⊤, ◌⊎◌, IfSome, Result, Ok, Err}
+use Rattle.std.specs.Prelude.{◌≡◌, ℕ, ◌≤◌, ◌<◌, ◌^◌, List, [], ◌∷◌, length, All, Contains, ⊤, ◌⊎◌, IfSome, Result, Ok, Err}
 use Rattle.std.specs.declared.option.Option.{Option}
 use Rattle.std.specs.Io.KnownBytes.{Appends, Keeps}
 use Rattle.lg_base.specs.Contents.{Contents}
@@ -10,11 +10,12 @@ use Rattle.lg_dictread.specs.declared.dict_error.DictError.{DictError}
 use Rattle.lg_knowread.specs.declared.fault.KnowError.{KnowError}
 use Rattle.lg_script.specs.Bounds.{AreInBounds}
 use Rattle.lg_script.specs.declared.script_error.ScriptError.{ScriptError}
-use Rattle.lg_run.specs.Words.{Task, TaskIs, SENTENCE, AreInRange}
+use Rattle.lg_run.specs.Words.{Task, One, Run, TaskIs, SENTENCE, AreInRange}
 use Rattle.lg_run.specs.Inputs.{Reading, accepted, refused, Given, OneGiven, RunGiven, InputsAre}
-use Rattle.lg_run.specs.Reads.{Comes}
+use Rattle.lg_run.specs.Reads.{Comes, IsOfLast}
 use Rattle.lg_run.specs.Documents.{DocumentIs, IsOutcome}
 use Rattle.lg_run.specs.Lines.{usage_line, memory_line, output_line, unreadable_line, too_long_line, dict_line, know_line, script_line, edits_line}
+use Rattle.lg_run.specs.Stops.{dict_status, know_status, script_status}
 use Rattle.lg_run.specs.declared.outcome.Halt.{Halt}
 use Rattle.lg_run.specs.declared.outcome.Halt.TheVariants.{Memory, Output}
 use Rattle.lg_run.specs.declared.status.Status.{Status}
@@ -85,19 +86,24 @@ abbrev pub AnswersAccepted : Reading Given → Type 0 → Type 0 → Status → 
 AnswersAccepted inputs all_read all_written status =
     (names : List (List ℕ)) (given : Given) → inputs names (accepted given) → all_read → all_written → (status ≡ Done) ⊎ (status ≡ NoMemory)
 
--- what is said of a text that is refused
-pub data IsRefusal : List ℕ → Type 0 where
-  too_long : (name : List ℕ) → IsRefusal (too_long_line name)
-  dictionary : (name : List ℕ) (error : DictError) → IsRefusal (dict_line name error)
-  knowledge : (name : List ℕ) (error : KnowError) → IsRefusal (know_line name error)
-  script : (name : List ℕ) (error : ScriptError) → IsRefusal (script_line name error)
-  too_many_edits : (name : List ℕ) → IsRefusal (edits_line name)
+-- the files that the words of a task name
+abbrev pub names_of : Task → List (List ℕ)
+names_of (One options dictionary sentence) = dictionary ∷ []
+names_of (Run options dictionary knowledge script) = dictionary ∷ knowledge ∷ script ∷ []
 
--- The line of a status, by the names asked. Where the files tell what they hold, the line of BadInput is that of the first
--- text that is refused.
+-- what is said of a text that is refused: of a file with one of these names, or of the word file that was asked last
+pub data IsRefusal (names asked : List (List ℕ)) : List ℕ → Type 0 where
+  too_long : (name : List ℕ) → Contains names name → IsRefusal names asked (too_long_line name)
+  dictionary : (name : List ℕ) (error : DictError) → Contains names name → IsOfLast asked error → dict_status error ≡ BadInput → IsRefusal names asked (dict_line name error)
+  knowledge : (name : List ℕ) (error : KnowError) → Contains names name → know_status error ≡ BadInput → IsRefusal names asked (know_line name error)
+  script : (name : List ℕ) (error : ScriptError) → Contains names name → script_status error ≡ BadInput → IsRefusal names asked (script_line name error)
+  too_many_edits : (name : List ℕ) → Contains names name → IsRefusal names asked (edits_line name)
+
+-- The line of a status, by the names asked. BadInput has the line of a text that is refused, and where the files tell what they
+-- hold it is the first.
 abbrev pub HasLine : Option Contents → List (List ℕ) → List (List ℕ) → List (List ℕ) → Status → List ℕ → Type 0
 HasLine contents words old new Done line = line ≡ []
-HasLine contents words old new BadInput line = IsRefusal line × WhereTold contents words (λ inputs. Comes inputs old new (refused line))
+HasLine contents words old new BadInput line = ((task : Task) → TaskIs words task → IsRefusal (names_of task) new line) × WhereTold contents words (λ inputs. Comes inputs old new (refused line))
 HasLine contents words old new Usage line = line ≡ usage_line
 HasLine contents words old new ReadFault line = (name : List ℕ) × EndsWith new name × (line ≡ unreadable_line name)
 HasLine contents words old new WriteFault line = line ≡ output_line

@@ -1,9 +1,11 @@
 -- What calls that read the inputs promise.
-use Rattle.std.specs.Prelude.{◌≡◌, ℕ, ◌≤◌, List, ◌++◌, ⊤}
+use Rattle.std.specs.Prelude.{◌≡◌, ℕ, ◌≤◌, List, ◌++◌, Contains, ⊤}
 use Rattle.std.specs.declared.result.Result.{Result}
 use Rattle.std.specs.declared.result.Result.TheVariants.{Ok, Err}
 use Rattle.lg_base.specs.Faults.{Rose}
 use Rattle.lg_base.specs.Files.{AsksWithin, EndsWith}
+use Rattle.lg_dictread.specs.declared.dict_error.DictError.{DictError}
+use Rattle.lg_dictread.specs.declared.dict_error.DictError.TheVariants as errors
 use Rattle.lg_session.specs.Legal.{script_views}
 use Rattle.lg_run.specs.Inputs.{Found, Reading, accepted, refused, Given, OneGiven, RunGiven}
 use Rattle.lg_run.specs.Lines.{unreadable_line}
@@ -13,6 +15,7 @@ use Rattle.lg_run.specs.declared.inputs.Inputs.TheVariants as inputs
 use Rattle.lg_run.specs.declared.status.Status.{Status}
 use Rattle.lg_run.specs.declared.status.Status.TheVariants.{BadInput, ReadFault}
 use Rattle.lg_run.specs.declared.stop.Stop.{Stop}
+use Rattle.lg_run.specs.declared.stop.Stop.TheVariants.{Memory, Unreadable, TooLong, Dictionary, Knowledge, Script, TooManyEdits}
 
 -- whatever comes of the reading, no more was asked than is read for it, and in that order
 abbrev pub AsksInOrder : {A : Type 0} → Reading A → List (List ℕ) → List (List ℕ) → Type 0
@@ -42,6 +45,21 @@ IsFaultOf asked before now _ line = ⊤
 abbrev pub FaultsOnlyBy : {T : Type 0} → List (List ℕ) → ℕ → ℕ → Result T Stop → Type 0
 FaultsOnlyBy asked before now (Ok value) = ⊤
 FaultsOnlyBy asked before now (Err stop) = IsFaultOf asked before now (stop_status stop) (stop_line stop)
+
+-- an error of a word file is one of the file that was asked last
+abbrev pub IsOfLast : List (List ℕ) → DictError → Type 0
+IsOfLast asked (errors.WordFile line file cause) = EndsWith asked file
+IsOfLast asked _ = ⊤
+
+-- the text that is refused is a file with one of these names, or a word file of it
+abbrev pub IsAbout : List (List ℕ) → List (List ℕ) → Stop → Type 0
+IsAbout names asked Memory = ⊤
+IsAbout names asked (Unreadable name) = ⊤
+IsAbout names asked (TooLong name) = Contains names name.now
+IsAbout names asked (Dictionary name error) = Contains names name.now × IsOfLast asked error
+IsAbout names asked (Knowledge name error) = Contains names name.now
+IsAbout names asked (Script name error) = Contains names name.now
+IsAbout names asked (TooManyEdits name) = Contains names name.now
 
 -- an answer that is no read fault
 abbrev pub IsNoFaultOf : Status → Type 0

@@ -1,13 +1,13 @@
 //! The inputs of a command, read and taken apart in order.
-ghost use Rattle.std.specs.Prelude.{◌≡◌, ◌≤◌, ◌<◌, ◌^◌, [], ◌∷◌, length, map, IfSome, IfOk, MatchResult};
+ghost use Rattle.std.specs.Prelude.{◌≡◌, ◌≤◌, ◌<◌, ◌^◌, [], ◌∷◌, length, map, IfSome, IfOk, IfErr, MatchResult};
 ghost use Rattle.lg_dictread.specs.Limits.{FILE};
 ghost use Rattle.lg_script.specs.Bounds.{AreInBounds};
 ghost use Rattle.lg_script.specs.Commands.{command_view};
 ghost use Rattle.lg_run.specs.Commands.{task};
 ghost use Rattle.lg_run.specs.Words.{One, Run, IsShort, AreInRange, SENTENCE};
 ghost use Rattle.lg_run.specs.Inputs.{FileIs, DictionaryReads, DictionaryInput, KnowledgeGiven, ScriptGiven, RunGiven, InputsAre};
-ghost use Rattle.lg_run.specs.Reads.{AsksInOrder, Tells, HasCause, given_in};
-ghost use Rattle.lg_run.specs.Answers.{IsGivenInBounds};
+ghost use Rattle.lg_run.specs.Reads.{AsksInOrder, Tells, HasCause, IsAbout, given_in};
+ghost use Rattle.lg_run.specs.Answers.{names_of, IsGivenInBounds};
 
 use crate::command::Command;
 use crate::knowledge::read_know;
@@ -50,6 +50,7 @@ pub fn read_inputs<'a, F: Files>(
     ensures told { IfSome (F.contents files.old) (λ known. Tells given_in (InputsAre known (task options command.entry)) (F.asked files.old) (F.asked files.new) result) }
     ensures bounds { IfOk result (λ inputs. IsGivenInBounds (given_in inputs)) }
     ensures cause { HasCause (F.asked files.new) (F.faults files.old) (F.faults files.new) result }
+    ensures about { IfErr result (IsAbout (names_of (task options command.entry)) (F.asked files.new)) }
 {
     match command {
         Command::One {
@@ -80,6 +81,7 @@ fn inputs_of_one<'a, F: Files>(
     ensures told { IfSome (F.contents files.old) (λ known. Tells given_in (InputsAre known (One options dictionary.now sentence.now)) (F.asked files.old) (F.asked files.new) result) }
     ensures bounds { IfOk result (λ inputs. IsGivenInBounds (given_in inputs)) }
     ensures cause { HasCause (F.asked files.new) (F.faults files.old) (F.faults files.new) result }
+    ensures about { IfErr result (IsAbout (dictionary.now ∷ []) (F.asked files.new)) }
 {
     exactly_one_dictionary();
     match read_dictionary(alloc, files, dictionary) {
@@ -106,6 +108,7 @@ fn inputs_of_run<'a, F: Files>(
     ensures told { IfSome (F.contents files.old) (λ known. Tells given_in (InputsAre known (Run options dictionary.now knowledge.now script.now)) (F.asked files.old) (F.asked files.new) result) }
     ensures bounds { IfOk result (λ inputs. IsGivenInBounds (given_in inputs)) }
     ensures cause { HasCause (F.asked files.new) (F.faults files.old) (F.faults files.new) result }
+    ensures about { IfErr result (IsAbout (dictionary.now ∷ knowledge.now ∷ script.now ∷ []) (F.asked files.new)) }
 {
     exactly_one_dictionary();
     match read_dictionary(alloc, files, dictionary) {
@@ -128,6 +131,7 @@ fn after_dictionary<'a, F: Files>(
     ensures told { IfSome (F.contents files.old) (λ known. Tells given_in (KnowledgeGiven known options dict knowledge.now script.now) (F.asked files.old) (F.asked files.new) result) }
     ensures bounds { IfOk result (λ inputs. IsGivenInBounds (given_in inputs)) }
     ensures cause { HasCause (F.asked files.new) (F.faults files.old) (F.faults files.new) result }
+    ensures about { IfErr result (IsAbout (knowledge.now ∷ script.now ∷ []) (F.asked files.new)) }
 {
     exactly_one_knowledge();
     match read_know(alloc, files, knowledge) {
@@ -151,6 +155,7 @@ fn after_knowledge<'a, F: Files>(
     ensures told { IfSome (F.contents files.old) (λ known. Tells given_in (ScriptGiven known options dict know script.now) (F.asked files.old) (F.asked files.new) result) }
     ensures bounds { IfOk result (λ inputs. IsGivenInBounds (given_in inputs)) }
     ensures cause { HasCause (F.asked files.new) (F.faults files.old) (F.faults files.new) result }
+    ensures about { IfErr result (IsAbout (script.now ∷ []) (F.asked files.new)) }
 {
     exactly_one_script();
     match read_commands(alloc, files, script) {
@@ -191,6 +196,7 @@ fn read_dictionary<'a, F: Files>(
     ensures names { IfSome (F.contents files.old) (λ known. AsksInOrder (DictionaryInput known name.now) (F.asked files.old) (F.asked files.new)) }
     ensures told { IfSome (F.contents files.old) (λ known. Tells (λ d. d) (DictionaryInput known name.now) (F.asked files.old) (F.asked files.new) result) }
     ensures cause { HasCause (F.asked files.new) (F.faults files.old) (F.faults files.new) result }
+    ensures about { IfErr result (IsAbout (name.now ∷ []) (F.asked files.new)) }
 {
     match read_file(alloc, files, name) {
         Ok(bytes) => take_apart(alloc, files, name, &bytes),
@@ -209,6 +215,7 @@ pub(crate) fn read_file<'a, F: Files>(
     ensures told { IfSome (F.contents files.old) (λ known. Tells (λ bytes. bytes.items) (FileIs known name.now) (F.asked files.old) (F.asked files.new) result) }
     ensures limited { IfOk result (λ bytes. length bytes.items ≤ FILE) }
     ensures cause { HasCause (F.asked files.new) (F.faults files.old) (F.faults files.new) result }
+    ensures about { IfErr result (IsAbout (name.now ∷ []) (F.asked files.new)) }
 {
     match files.read_all(alloc, name, FILE) {
         Ok(bytes) => Ok(bytes),
@@ -229,6 +236,7 @@ fn take_apart<'a, F: Files>(
     ensures names { IfSome (F.contents files.old) (λ known. AsksInOrder (DictionaryReads known name.now bytes.now) (F.asked files.old) (F.asked files.new)) }
     ensures told { IfSome (F.contents files.old) (λ known. Tells (λ d. d) (DictionaryReads known name.now bytes.now) (F.asked files.old) (F.asked files.new) result) }
     ensures cause { HasCause (F.asked files.new) (F.faults files.old) (F.faults files.new) result }
+    ensures about { IfErr result (IsAbout (name.now ∷ []) (F.asked files.new)) }
 {
     match read_dict(alloc, bytes, files) {
         Ok(entries) => match Dict::of(alloc, entries) {

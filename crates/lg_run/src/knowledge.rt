@@ -1,8 +1,8 @@
 //! The knowledge of a command.
-ghost use Rattle.std.specs.Prelude.{◌≡◌, ◌≤◌, ◌<◌, ◌^◌, ℕ, List, length, IfSome, IfOk};
+ghost use Rattle.std.specs.Prelude.{◌≡◌, ◌≤◌, ◌<◌, ◌^◌, ℕ, List, length, IfSome, IfOk, IfErr, [], ◌∷◌};
 ghost use Rattle.lg_dictread.specs.Limits.{FILE};
 ghost use Rattle.lg_run.specs.Inputs.{KnowledgeReads, KnowledgeInput};
-ghost use Rattle.lg_run.specs.Reads.{AsksInOrder, Tells, HasCause, IsNoFault};
+ghost use Rattle.lg_run.specs.Reads.{AsksInOrder, Tells, HasCause, IsAbout, IsNoFault};
 
 use crate::inputs::read_file;
 use crate::stop::Stop;
@@ -21,6 +21,7 @@ pub(crate) fn read_know<'a, F: Files>(
     ensures told { IfSome (F.contents files.old) (λ known. Tells (λ know. know) (KnowledgeInput known name.now) (F.asked files.old) (F.asked files.new) result) }
     ensures few { IfOk result (λ know. length know.rules < 2 ^ 32) }
     ensures cause { HasCause (F.asked files.new) (F.faults files.old) (F.faults files.new) result }
+    ensures about { IfErr result (IsAbout (name.now ∷ []) (F.asked files.new)) }
 {
     match read_file(alloc, files, name) {
         Ok(bytes) => knowledge_of(alloc, name, &bytes),
@@ -34,6 +35,7 @@ fn knowledge_of<'a>(alloc: Global, name: &'a str, bytes: &[u8]) -> Result<Knowle
     ensures told { (asked : List (List ℕ)) → Tells (λ know. know) (KnowledgeReads name.entry.now bytes.now) asked asked result }
     ensures few { IfOk result (λ know. length know.rules < 2 ^ 32) }
     ensures calm { IsNoFault result }
+    ensures about { (asked : List (List ℕ)) → IfErr result (IsAbout (name.entry.now ∷ []) asked) }
 {
     match read_knowledge(alloc, bytes) {
         Ok(know) => Ok(know),

@@ -1,10 +1,10 @@
 //! The script of a command.
-ghost use Rattle.std.specs.Prelude.{◌≡◌, ◌≤◌, ℕ, List, length, map, count_by, IfSome, IfOk};
+ghost use Rattle.std.specs.Prelude.{◌≡◌, ◌≤◌, ℕ, List, length, map, count_by, IfSome, IfOk, IfErr, [], ◌∷◌};
 ghost use Rattle.lg_dictread.specs.Limits.{FILE};
 ghost use Rattle.lg_script.specs.Bounds.{AreInBounds};
 ghost use Rattle.lg_script.specs.Commands.{command_view};
 ghost use Rattle.lg_run.specs.Inputs.{ScriptReads, ScriptInput, is_edit};
-ghost use Rattle.lg_run.specs.Reads.{AsksInOrder, Tells, HasCause, IsNoFault};
+ghost use Rattle.lg_run.specs.Reads.{AsksInOrder, Tells, HasCause, IsAbout, IsNoFault};
 
 use crate::inputs::read_file;
 use crate::stop::Stop;
@@ -26,6 +26,7 @@ pub(crate) fn read_commands<'a, F: Files>(
     ensures told { IfSome (F.contents files.old) (λ known. Tells (λ commands. map command_view commands.items) (ScriptInput known name.now) (F.asked files.old) (F.asked files.new) result) }
     ensures bounds { IfOk result (λ commands. AreInBounds (map command_view commands.items)) }
     ensures cause { HasCause (F.asked files.new) (F.faults files.old) (F.faults files.new) result }
+    ensures about { IfErr result (IsAbout (name.now ∷ []) (F.asked files.new)) }
 {
     match read_file(alloc, files, name) {
         Ok(bytes) => commands_of(alloc, name, &bytes),
@@ -39,6 +40,7 @@ fn commands_of<'a>(alloc: Global, name: &'a str, bytes: &[u8]) -> Result<Vec<Com
     ensures told { (asked : List (List ℕ)) → Tells (λ commands. map command_view commands.items) (ScriptReads name.entry.now bytes.now) asked asked result }
     ensures bounds { IfOk result (λ commands. AreInBounds (map command_view commands.items)) }
     ensures calm { IsNoFault result }
+    ensures about { (asked : List (List ℕ)) → IfErr result (IsAbout (name.entry.now ∷ []) asked) }
 {
     scripts_keep_bounds();
     match read_script(alloc, bytes) {

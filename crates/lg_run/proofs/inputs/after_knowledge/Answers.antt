@@ -6,6 +6,7 @@ use Rattle.lg_run.specs.Stops.{stop_status, stop_line}
 use Rattle.lg_run.proofs.Readings.{asks_none, asks_first, asks_next, stops_first}
 use Rattle.lg_run.proofs.Verdicts.{one_script}
 use Rattle.lg_run.proofs.Givens.{given_told}
+use Rattle.lg_run.proofs.About.{given_about}
 use Rattle.lg_run.proofs.inputs.after_knowledge.Goals as goal
 
 -- the script, and then nothing
@@ -36,3 +37,6 @@ returns-in-Err-clause-told g c =
     IfSome_then (g.F.Files.contents c.args.files.now) c.in-Err.ensures.told
     (λ k h. stops_first (ScriptInput k c.args.script.now) (λ commands. given (RunGiven c.args.options c.args.dict c.args.know (commands ∷ []))) (g.F.Files.asked c.args.files.now) (g.F.Files.asked c.read_commands.new.files)
     (stop_status c.in-Err.stop) (stop_line c.in-Err.stop) h)
+
+pub returns-in-Ok-clause-about : goal.returns-in-Ok-clause-about
+returns-in-Ok-clause-about g c = given_about (c.args.script.now ∷ []) (g.F.Files.asked c.read_commands.new.files) (RunGiven c.args.options c.args.dict c.args.know (map command_view c.in-Ok.commands.items ∷ [])) c.given.result c.given.ensures

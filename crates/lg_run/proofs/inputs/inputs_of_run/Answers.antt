@@ -1,4 +1,4 @@
-use Rattle.std.proofs.Common.{Option, IfSome, subst}
+use Rattle.std.proofs.Common.{Option, IfSome, subst, [], ◌∷◌}
 use Rattle.std.proofs.lemmas.Option.{IfSome_then}
 use Rattle.lg_base.specs.Contents.{Contents}
 use Rattle.lg_run.specs.Inputs.{DictionaryInput, KnowledgeGiven}
@@ -6,6 +6,7 @@ use Rattle.lg_run.specs.Reads.{AsksInOrder, Tells, given_in}
 use Rattle.lg_run.specs.Stops.{stop_status, stop_line}
 use Rattle.lg_run.proofs.Readings.{known_both, asks_first, asks_next, stops_first, tells_next}
 use Rattle.lg_run.proofs.Dictionaries.{one_dictionary}
+use Rattle.lg_run.proofs.About.{about_first, about_later}
 use Rattle.lg_run.proofs.inputs.inputs_of_run.Goals as goal
 
 -- the first file, and then the others
@@ -39,3 +40,10 @@ pub returns-in-Err-clause-told : goal.returns-in-Err-clause-told
 returns-in-Err-clause-told g c =
     IfSome_then (g.F.Files.contents c.args.files.now) c.in-Err.ensures.told
     (λ k h. stops_first (DictionaryInput k c.args.dictionary.now) (λ dict. KnowledgeGiven k c.args.options dict c.args.knowledge.now c.args.script.now) (g.F.Files.asked c.args.files.now) (g.F.Files.asked c.read_dictionary.new.files) (stop_status c.in-Err.stop) (stop_line c.in-Err.stop) h)
+
+-- the name of the first file, or of a later one
+pub returns-in-Ok-clause-about : goal.returns-in-Ok-clause-about
+returns-in-Ok-clause-about g c = about_later c.args.dictionary.now (c.args.knowledge.now ∷ c.args.script.now ∷ []) (g.F.Files.asked c.after_dictionary.new.files) c.after_dictionary.result c.after_dictionary.ensures.about
+
+pub returns-in-Err-clause-about : goal.returns-in-Err-clause-about
+returns-in-Err-clause-about g c = about_first c.args.dictionary.now (c.args.knowledge.now ∷ c.args.script.now ∷ []) (g.F.Files.asked c.read_dictionary.new.files) c.in-Err.stop c.in-Err.ensures.about

@@ -3,6 +3,7 @@ use Rattle.std.proofs.lemmas.Option.{IfSome_then}
 use Rattle.lg_run.specs.Inputs.{whole}
 use Rattle.lg_run.proofs.Readings.{known_all}
 use Rattle.lg_run.proofs.Dictionaries.{asks_file, long_file}
+use Rattle.lg_run.proofs.About.{first_name}
 use Rattle.lg_run.proofs.inputs.read_file.Goals as goal
 
 -- the file was asked for
@@ -25,3 +26,6 @@ pub returns-in-Err-TooLong-clause-told : goal.returns-in-Err-TooLong-clause-told
 returns-in-Err-TooLong-clause-told g c =
     IfSome_then (g.F.Files.contents c.args.files.now) (rw c.in-Err-TooLong.field-0-is at c.in-Err-TooLong.ensures.told)
     (λ known is. long_file known c.args.name.now (g.F.Files.asked c.args.files.now) (g.F.Files.asked c.read_all.new.self) (rw c.in-Err-TooLong.field-0-is at c.in-Err-TooLong.ensures.asked) is)
+
+pub returns-in-Err-TooLong-clause-about : goal.returns-in-Err-TooLong-clause-about
+returns-in-Err-TooLong-clause-about g c = first_name c.args.name.now []

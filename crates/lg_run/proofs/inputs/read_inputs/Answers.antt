@@ -1,8 +1,9 @@
-use Rattle.std.proofs.Common.{IfSome, sym, subst}
+use Rattle.std.proofs.Common.{IfSome, IfErr, sym, subst}
 use Rattle.lg_run.specs.Commands.{task}
 use Rattle.lg_run.specs.Inputs.{InputsAre}
-use Rattle.lg_run.specs.Reads.{AsksInOrder}
+use Rattle.lg_run.specs.Reads.{AsksInOrder, IsAbout}
 use Rattle.lg_run.specs.declared.command.Command.{Command}
+use Rattle.lg_run.specs.Answers.{names_of}
 use Rattle.lg_run.proofs.inputs.read_inputs.Goals as goal
 
 -- the names of the command's own files
@@ -15,3 +16,13 @@ pub returns-in-Run-clause-names : goal.returns-in-Run-clause-names
 returns-in-Run-clause-names g c =
     subst (λ (t : Command). IfSome (g.F.Files.contents c.args.files.now) (λ known. AsksInOrder (InputsAre known (task c.args.options t)) (g.F.Files.asked c.args.files.now) (g.F.Files.asked c.inputs_of_run.new.files)))
     (sym c.in-Run.is) c.inputs_of_run.ensures.names
+
+pub returns-in-One-clause-about : goal.returns-in-One-clause-about
+returns-in-One-clause-about g c =
+    subst (λ (t : Command). IfErr c.inputs_of_one.result (IsAbout (names_of (task c.args.options t)) (g.F.Files.asked c.inputs_of_one.new.files)))
+    (sym c.in-One.is) c.inputs_of_one.ensures.about
+
+pub returns-in-Run-clause-about : goal.returns-in-Run-clause-about
+returns-in-Run-clause-about g c =
+    subst (λ (t : Command). IfErr c.inputs_of_run.result (IsAbout (names_of (task c.args.options t)) (g.F.Files.asked c.inputs_of_run.new.files)))
+    (sym c.in-Run.is) c.inputs_of_run.ensures.about

@@ -1,10 +1,11 @@
-use Rattle.std.proofs.Common.{map, sym, ◌∙◌, subst}
+use Rattle.std.proofs.Common.{map, sym, ◌∙◌, subst, []}
 use Rattle.std.proofs.lemmas.Option.{IfSome_then}
 use Rattle.lg_dict.specs.Dictionary.{Dictionary}
 use Rattle.lg_dictread.specs.Texts.{stands}
 use Rattle.lg_dictread.specs.DictTexts.{entry_meaning}
 use Rattle.lg_run.specs.Inputs.{accepted, DictionaryReads, reads}
 use Rattle.lg_run.proofs.Dictionaries.{same_dictionary, asks_text, told_error, told_value}
+use Rattle.lg_run.proofs.About.{first_name, of_last}
 use Rattle.lg_run.proofs.inputs.take_apart.Goals as goal
 
 -- no more was asked than the format reads
@@ -38,3 +39,6 @@ returns-in-Ok-of-clause-told g c =
 pub returns-in-Err-clause-told : goal.returns-in-Err-clause-told
 returns-in-Err-clause-told g c =
     told_error (g.F.Files.contents c.args.files.now) c.args.name.now c.args.bytes.now (g.F.Files.asked c.args.files.now) (g.F.Files.asked c.read_dict.new.files) c.in-Err.error c.in-Err.ensures.fault
+
+pub returns-in-Err-clause-about : goal.returns-in-Err-clause-about
+returns-in-Err-clause-about g c = (first_name c.args.name.now [], of_last _ _ _ c.in-Err.error c.in-Err.ensures.cause.error)

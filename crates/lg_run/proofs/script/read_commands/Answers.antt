@@ -37,3 +37,7 @@ pub returns-in-Err-clause-told : goal.returns-in-Err-clause-told
 returns-in-Err-clause-told g c =
     IfSome_then (g.F.Files.contents c.args.files.now) c.in-Err.ensures.told
     (λ k h. stops_first (FileIs k c.args.name.now) (ScriptReads c.args.name.now) (g.F.Files.asked c.args.files.now) (g.F.Files.asked c.read_file.new.files) (stop_status c.in-Err.stop) (stop_line c.in-Err.stop) h)
+
+-- the text has the name of the file
+pub returns-in-Ok-clause-about : goal.returns-in-Ok-clause-about
+returns-in-Ok-clause-about g c = c.commands_of.ensures.about (g.F.Files.asked c.read_file.new.files)

@@ -6,7 +6,7 @@ use Rattle.lg_run.specs.Inputs.{InputsAre}
 use Rattle.lg_run.specs.Reads.{AsksInOrder, given_in, TellsStop}
 use Rattle.lg_run.specs.Stops.{stop_status, stop_line}
 use Rattle.lg_run.specs.Answers.{Told, AnswersRefused, AnswersAccepted}
-use Rattle.lg_run.proofs.Ends.{told_read, range_read, finished, stop_written, last_written}
+use Rattle.lg_run.proofs.Ends.{told_read, about_read, range_read, finished, stop_written, last_written}
 use Rattle.lg_run.proofs.top.run.Goals as goal
 
 -- the options are those of the command
@@ -64,4 +64,5 @@ returns-in-Err-clause-line g c =
     let stop = c.in-Err.stop in
     stop_written (g.F.Files.contents c.args.files.now) _ old new (g.F.Files.faults c.args.files.now) (g.F.Files.faults c.read_inputs.new.files) stop c.refuse.result _ (g.E.Sink.written c.args.err.now) (g.E.Sink.written c.refuse.new.err)
     c.refuse.ensures.stopped c.refuse.ensures.line c.in-Err.ensures.cause.fault
+    (about_read _ _ _ _ c.in-Some.ensures c.options.ensures c.in-Ok.ensures c.words_have_one_task.ensures new stop c.in-Err.ensures.about)
     (told_read _ _ _ _ c.in-Some.ensures c.options.ensures c.in-Ok.ensures c.words_have_one_task.ensures (g.F.Files.contents c.args.files.now) (λ inputs. TellsStop inputs old new (stop_status stop) (stop_line stop)) c.in-Err.ensures.told)

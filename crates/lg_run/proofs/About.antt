@@ -1,0 +1,81 @@
+-- The text that a stop is about.
+use Rattle.std.proofs.Common.{◌≡◌, ℕ, zero, suc, List, [], ◌∷◌, Contains, Result, Ok, Err, IfErr, refl, sym, subst, arith}
+use Rattle.lg_dictread.specs.declared.dict_error.DictError.{DictError}
+use Rattle.lg_dictread.specs.declared.dict_error.DictError.TheVariants as errors
+use Rattle.lg_dictread.specs.Telling.{IsCause}
+use Rattle.lg_run.specs.Inputs.{Given}
+use Rattle.lg_run.specs.Reads.{IsOfLast, IsAbout}
+use Rattle.lg_run.specs.Stops.{stop_status, stop_line}
+use Rattle.lg_run.specs.Answers.{IsRefusal, too_long, dictionary, knowledge, script, too_many_edits}
+use Rattle.lg_run.specs.declared.inputs.Inputs.{Inputs}
+use Rattle.lg_run.specs.declared.status.Status.TheVariants.{BadInput}
+use Rattle.lg_run.specs.declared.stop.Stop.{Stop}
+use Rattle.lg_run.specs.declared.stop.Stop.TheVariants.{Memory, Unreadable, TooLong, Dictionary, Knowledge, Script, TooManyEdits}
+use Rattle.lg_run.proofs.Givens.{Gives}
+
+-- ---- names
+
+abbrev Names : Type 0
+Names = List (List ℕ)
+
+pub first_name : (name : List ℕ) (names : Names) → Contains (name ∷ names) name
+first_name name names = (0, omega arith, refl)
+
+only_name : (name : List ℕ) (names : Names) (x : List ℕ) → Contains (name ∷ []) x → Contains (name ∷ names) x
+only_name name names x (zero, small, is) = (0, omega arith, is)
+only_name name names x (suc k, small, is) = absurd (omega (arith, small))
+
+later_name : (name : List ℕ) (names : Names) (x : List ℕ) → Contains names x → Contains (name ∷ names) x
+later_name name names x (k, small, is) = (suc k, omega (arith, small), is)
+
+module _ (names more asked : Names) (wider : (x : List ℕ) → Contains names x → Contains more x) where
+  about_more : (stop : Stop) → IsAbout names asked stop → IsAbout more asked stop
+  about_more Memory h = tt
+  about_more (Unreadable name) h = tt
+  about_more (TooLong name) h = wider name.now h
+  about_more (Dictionary name error) h = (wider name.now h.0, h.1)
+  about_more (Knowledge name error) h = wider name.now h
+  about_more (Script name error) h = wider name.now h
+  about_more (TooManyEdits name) h = wider name.now h
+
+  result_more : {T : Type 0} (r : Result T Stop) → IfErr r (IsAbout names asked) → IfErr r (IsAbout more asked)
+  result_more (Ok x) h = tt
+  result_more (Err stop) h = about_more stop h
+
+-- a stop that is about the first name, or about a later one
+pub about_first : (name : List ℕ) (names asked : Names) (stop : Stop) → IsAbout (name ∷ []) asked stop → IsAbout (name ∷ names) asked stop
+about_first name names asked = about_more (name ∷ []) (name ∷ names) asked (only_name name names)
+
+pub about_later : {T : Type 0} (name : List ℕ) (names asked : Names) (r : Result T Stop) → IfErr r (IsAbout names asked) → IfErr r (IsAbout (name ∷ names) asked)
+about_later name names asked = result_more names (name ∷ names) asked (later_name name names)
+
+-- ---- where it comes from
+
+pub of_last : (before now : ℕ) (asked : Names) (error : DictError) → IsCause before now asked error → IsOfLast asked error
+of_last before now asked errors.NoMemory h = tt
+of_last before now asked (errors.WordFile line file cause) h = h.0
+of_last before now asked (errors.NotUtf8 n) h = tt
+of_last before now asked (errors.Syntax line column) h = tt
+of_last before now asked (errors.UnknownMacro line macro) h = tt
+of_last before now asked (errors.CostForm line) h = tt
+of_last before now asked (errors.TooDeep line) h = tt
+of_last before now asked (errors.TooManyNodes line n) h = tt
+of_last before now asked (errors.TooManyChoices line n) h = tt
+of_last before now asked (errors.SideTooLong line n) h = tt
+of_last before now asked (errors.DuplicateWord word n m) h = tt
+
+-- memory is about no name
+pub given_about : (names asked : Names) (g : Given) (result : Result Inputs Stop) → Gives g result → IfErr result (IsAbout names asked)
+given_about names asked g (Ok inputs) is = tt
+given_about names asked g (Err stop) is = subst (IsAbout names asked) (sym is) tt
+
+-- ---- its line
+
+pub stop_refuses : (names asked : Names) (stop : Stop) → IsAbout names asked stop → stop_status stop ≡ BadInput → IsRefusal names asked (stop_line stop)
+stop_refuses names asked Memory about h = cc
+stop_refuses names asked (Unreadable name) about h = cc
+stop_refuses names asked (TooLong name) about h = too_long name.now about
+stop_refuses names asked (Dictionary name error) about h = dictionary name.now error about.0 about.1 h
+stop_refuses names asked (Knowledge name error) about h = knowledge name.now error about h
+stop_refuses names asked (Script name error) about h = script name.now error about h
+stop_refuses names asked (TooManyEdits name) about h = too_many_edits name.now about
