@@ -9,9 +9,10 @@ trap 'rm -f -- "$dictionary"' EXIT
 for factors in 1 2 3 4 5 6; do
   awk -v factors="$factors" 'BEGIN {
     printf "w: ()"
-    for (f = 0; f < factors; f++)
+    for (f = 0; f < factors; f++) {
       for (a = 0; a < 10; a++) printf "%s%c%c-", a ? " or " : " & (", 65 + f, 65 + a
-    for (f = 0; f < factors; f++) printf ")"
+      printf ")"
+    }
     print ";"
   }' >"$dictionary"
   printf '10^%s disjuncts: ' "$factors"
