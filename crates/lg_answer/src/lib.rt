@@ -6,8 +6,6 @@ mod options;
 mod page;
 mod problem;
 mod refusal;
-#[cfg(test)]
-mod tests;
 
 pub use listing::Listing;
 pub use options::Options;

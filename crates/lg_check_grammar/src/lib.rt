@@ -2,4 +2,20 @@
 #![tactic(auto)]
 
 #[cfg(test)]
+mod answer;
+#[cfg(test)]
+mod dict;
+#[cfg(test)]
+mod disj;
+#[cfg(test)]
+mod edit;
+#[cfg(test)]
 mod gram;
+#[cfg(test)]
+mod linkages;
+#[cfg(test)]
+mod pp;
+#[cfg(test)]
+mod rules;
+#[cfg(test)]
+mod token;

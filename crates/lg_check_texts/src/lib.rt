@@ -4,10 +4,14 @@
 #[cfg(test)]
 mod base;
 #[cfg(test)]
+mod dictread;
+#[cfg(test)]
 mod expr;
 #[cfg(test)]
 mod knowread;
 #[cfg(test)]
 mod lex;
+#[cfg(test)]
+mod script;
 #[cfg(test)]
 mod text;

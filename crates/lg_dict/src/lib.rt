@@ -5,8 +5,6 @@ pub mod changes;
 pub mod dict;
 pub mod subscript;
 pub mod tables;
-#[cfg(test)]
-mod tests;
 pub mod view;
 
 pub use dict::Dict;

@@ -17,8 +17,6 @@ mod limits;
 mod measure;
 mod stop;
 mod table;
-#[cfg(test)]
-mod tests;
 mod word_file;
 
 pub use dict_error::{DictError, WordFileError};

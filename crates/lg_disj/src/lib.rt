@@ -39,6 +39,3 @@ pub fn expand(alloc: Global, word: &Text, formula: &Formula) -> Result<Disjuncts
     let kept = cheapest(all)?;
     disjuncts_of(alloc, word, kept)
 }
-
-#[cfg(test)]
-mod tests;

@@ -4,8 +4,6 @@
 pub mod accepting;
 pub mod applying;
 pub mod edit;
-#[cfg(test)]
-mod tests;
 
 pub use accepting::check;
 pub use applying::apply;

@@ -50,7 +50,7 @@ DISJUNCT_COST = 10 ^ 13
 
 -- the positions of a problem, and its disjuncts
 abbrev pub POSITIONS : ℕ
-POSITIONS = 122
+POSITIONS = 252
 
 abbrev pub DISJUNCTS : ℕ
 DISJUNCTS = 8000000

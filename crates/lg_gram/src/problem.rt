@@ -9,7 +9,7 @@ use crate::order::is_rising;
 use std::marker::Model;
 
 /// The most positions of a problem.
-pub const POSITIONS: usize = 122;
+pub const POSITIONS: usize = 252;
 
 /// The most disjuncts of a problem.
 pub const DISJUNCTS: usize = 8_000_000;
@@ -21,7 +21,7 @@ pub const SIDE: usize = 255;
 pub const DISJUNCT_COST: i64 = 10_000_000_000_000;
 
 /// The disjuncts of each position of a sentence, each list strictly increasing by word, left list and right list. There
-/// are at most 122 positions and 8,000,000 disjuncts, at most 255 connectors on a side, and no cost is more than 10^13
+/// are at most 252 positions and 8,000,000 disjuncts, at most 255 connectors on a side, and no cost is more than 10^13
 /// thousandths from zero.
 ///
 /// Contracts see the list of positions.

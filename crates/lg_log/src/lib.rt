@@ -10,8 +10,6 @@ pub mod log;
 pub mod pass;
 pub mod rule;
 pub mod steps;
-#[cfg(test)]
-mod tests;
 pub mod view;
 
 pub use codes::{code, code_laws, index_of, session_of};

@@ -11,6 +11,3 @@ mod rules;
 pub use domain::{Domain, domains};
 pub use group::groups;
 pub use rules::judge;
-
-#[cfg(test)]
-mod tests;

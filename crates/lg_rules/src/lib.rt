@@ -11,6 +11,3 @@ pub use checker::check;
 pub use list::{PLAIN_POSITIONS, plain_list};
 pub use membership::belongs;
 pub use verdict::Verdict;
-
-#[cfg(test)]
-mod tests;

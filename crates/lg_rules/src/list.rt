@@ -9,8 +9,6 @@ mod choosing;
 mod completing;
 mod order;
 mod pruning;
-#[cfg(test)]
-mod tests;
 
 use choosing::choose;
 use lg_base::NoMemory;

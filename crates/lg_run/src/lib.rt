@@ -19,6 +19,3 @@ mod top;
 pub use law::{documents_show, inputs_have_one_verdict, words_have_one_task};
 pub use status::Status;
 pub use top::run;
-
-#[cfg(test)]
-mod tests;

@@ -10,8 +10,6 @@ pub mod number;
 mod parts;
 mod read;
 mod script_error;
-#[cfg(test)]
-mod tests;
 
 pub use command::Command;
 pub use commands::{Commands, Scripts};

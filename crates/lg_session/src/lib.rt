@@ -6,8 +6,6 @@ pub mod engine;
 pub mod outcome;
 pub mod run;
 mod session;
-#[cfg(test)]
-mod tests;
 mod turn;
 
 pub use engine::{Engine, Opening};

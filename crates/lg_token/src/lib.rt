@@ -5,8 +5,6 @@ mod bound;
 mod cuts;
 mod law;
 mod special;
-#[cfg(test)]
-mod tests;
 mod tokenizing;
 mod words;
 

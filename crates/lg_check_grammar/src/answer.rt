@@ -1,0 +1,187 @@
+//! That calls succeed: the pages of a sentence with three linkages.
+ghost use Rattle.std.specs.Prelude.{◌≡◌, ◌≤◌, ◌<◌, ◌^◌, [], ◌∷◌, length, IfOk};
+ghost use Rattle.lg_gram.specs.Trees.{tree_of};
+ghost use Rattle.lg_gram.specs.Formulas.{LevelFits};
+ghost use Rattle.lg_dict.specs.Dictionary.{AreEntries};
+
+use lg_answer::{Listing, Options};
+use lg_base::{Text, Texts};
+use lg_dict::{Dict, View};
+use lg_gram::{Connector, Entry, Expr, Exprs, Formula, Page, PageItem, Violation};
+use lg_knowread::{Knowledge, Pattern, Patterns, Rule, Rules, Starts};
+use std::alloc::Global;
+use std::process::Abort;
+use std::test::Fail;
+
+fn entry(alloc: Global, word: &[u8], expr: Expr) -> Result<Entry, Fail>
+    ensures words { IfOk result (λ entry. entry.words ≡ word.now ∷ []) }
+    ensures macros { IfOk result (λ entry. entry.macros ≡ []) }
+    ensures level { IfOk result (λ entry. LevelFits entry.level (tree_of entry.formula)) }
+{
+    let formula = Formula::of(expr).ok_or("a formula")?;
+    let mut words = Vec::new(alloc);
+    words.push(Text::of(alloc, word)?)?;
+    Ok(Entry {
+        words: Texts::of(words),
+        macros: Texts::of(Vec::new(alloc)),
+        formula,
+        level: 200,
+        line: 1,
+    })
+}
+
+// A connector of one of these letters.
+fn any_of(alloc: Global, letters: &[u8], right: bool) -> Result<Expr, Fail> {
+    let mut members = Vec::new(alloc);
+    for letter in letters {
+        let connector = Connector::of(&[*letter], b"", false, right).ok_or("a name")?;
+        members.push(Expr::Conn(connector))?;
+    }
+    Ok(Expr::Or(Exprs::of(members)))
+}
+
+// A linkage of `x run` has a link A or C with the noun, or a link B with the verb.
+fn entries(alloc: Global) -> Result<Vec<Entry>, Fail>
+    ensures { IfOk result (λ entries. AreEntries entries.items) }
+{
+    let mut entries = Vec::new(alloc);
+    entries.push(entry(alloc, b"x", any_of(alloc, b"ABC", true)?)?)?;
+    entries.push(entry(alloc, b"run.v", any_of(alloc, b"B", false)?)?)?;
+    entries.push(entry(alloc, b"run.n", any_of(alloc, b"AC", false)?)?)?;
+    Ok(entries)
+}
+
+// No rule, or the one that each link A is part of a cycle.
+fn knowledge(alloc: Global, strict: bool) -> Result<Knowledge, Fail>
+    ensures { IfOk result (λ know. length know.rules ≤ 1) }
+{
+    let mut rules = Vec::new(alloc);
+    if strict {
+        let pattern = Pattern {
+            caps: Text::of(alloc, b"A")?,
+            subs: Text::of(alloc, b"")?,
+        };
+        rules.push(Rule::Cycle { pattern })?;
+    }
+    Ok(Knowledge {
+        starts: Starts::of(Vec::new(alloc)),
+        ignored: Patterns::of(Vec::new(alloc)),
+        rules: Rules::of(rules),
+    })
+}
+
+// The word that the second position of a candidate uses.
+fn second_word(item: &PageItem) -> Option<&[u8]> {
+    match item.linkage.chosen() {
+        [_, Some(disjunct)] => Some(disjunct.word.bytes()),
+        _ => None,
+    }
+}
+
+// Wants a page of one candidate, with this number and this second word.
+fn expect_one<R: Abort>(rt: &R, page: &Page, number: u32, word: &[u8]) {
+    let number = u64::from(number);
+    assert!(rt; page.next == number + 1 && !page.end);
+    match page.items.items() {
+        [item] => {
+            assert!(rt; item.number == number && item.broken.is_none());
+            assert!(rt; second_word(item) == Some(word));
+        }
+        _ => assert!(rt; false),
+    }
+}
+
+// Wants a page of two candidates, of which only the first breaks a rule.
+fn expect_first_broken<R: Abort>(rt: &R, page: &Page, broken: Violation) {
+    match page.items.items() {
+        [first, second] => {
+            assert!(rt; first.broken == Some(broken) && second.broken.is_none());
+        }
+        _ => assert!(rt; false),
+    }
+}
+
+// Wants a page of this many candidates.
+fn expect_count<R: Abort>(rt: &R, page: &Page, count: usize, next: u64, end: bool) {
+    assert!(rt; page.items.items().len() == count && page.next == next && page.end == end);
+}
+
+// The listing of a sentence at its start.
+fn started(alloc: Global, entries: Vec<Entry>, text: &str) -> Result<Listing, Fail>
+    requires entries { AreEntries entries.items }
+    requires short { length text.now < 2 ^ 32 }
+{
+    let dict = Dict::of(alloc, entries)?;
+    Ok(Listing::start(alloc, &View::of(alloc, &dict), text)?)
+}
+
+// The next page, where no rule or the strict one is asked of candidates.
+fn turned(
+    alloc: Global,
+    listing: Listing,
+    strict: bool,
+    options: Options,
+) -> Result<(Listing, Page), Fail> {
+    let know = knowledge(alloc, strict)?;
+    Ok(listing.page(alloc, &know, options.want, options.examine)?)
+}
+
+// Wants that the next page of one is so, and gives the listing after it.
+fn expect_next<R: Abort>(
+    rt: &R,
+    alloc: Global,
+    listing: Listing,
+    number: u32,
+    word: &[u8],
+) -> Result<Listing, Fail> {
+    let options = Options {
+        want: 1,
+        examine: 10,
+    };
+    let (listing, page) = turned(alloc, listing, false, options)?;
+    expect_one(rt, &page, number, word);
+    Ok(listing)
+}
+
+#[test]
+fn pages_of_one(rt: HostRuntime) -> Result<(), Fail> {
+    let alloc = rt.alloc();
+    let listing = started(alloc, entries(alloc)?, "x run")?;
+    let listing = expect_next(&rt, alloc, listing, 1, b"run.n")?;
+    let listing = expect_next(&rt, alloc, listing, 2, b"run.v")?;
+    expect_next(&rt, alloc, listing, 3, b"run.n")?;
+    Ok(())
+}
+
+#[test]
+fn skips(rt: HostRuntime) -> Result<(), Fail> {
+    let alloc = rt.alloc();
+    let listing = started(alloc, entries(alloc)?, "x run")?;
+    assert!(rt; listing.tokens().items().len() == 2 && listing.problem().positions().len() == 2);
+    assert!(rt; listing.stats().disjuncts == 6 && listing.stats().kept == 6);
+    let listing = expect_next(&rt, alloc, listing.skip(1), 2, b"run.v")?;
+    let (_, last) = turned(alloc, listing.skip(u64::MAX), false, Options::default())?;
+    expect_count(&rt, &last, 0, 4, true);
+    Ok(())
+}
+
+#[test]
+fn first_is_broken(rt: HostRuntime) -> Result<(), Fail> {
+    let alloc = rt.alloc();
+    let options = Options {
+        want: 1,
+        examine: 10,
+    };
+    let listing = started(alloc, entries(alloc)?, "x run")?;
+    let (listing, page) = turned(alloc, listing, true, options)?;
+    expect_count(&rt, &page, 2, 3, false);
+    let broken = Violation {
+        rule: 1,
+        left: 0,
+        right: 1,
+    };
+    expect_first_broken(&rt, &page, broken);
+    let (_, last) = turned(alloc, listing, true, Options::default())?;
+    expect_count(&rt, &last, 1, 4, true);
+    Ok(())
+}

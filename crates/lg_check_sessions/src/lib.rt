@@ -1,0 +1,9 @@
+//! Tests of the log, of sessions and of whole runs: outside values, and calls that succeed.
+#![tactic(auto)]
+
+#[cfg(test)]
+mod log;
+#[cfg(test)]
+mod run;
+#[cfg(test)]
+mod session;
