@@ -6,3 +6,4 @@ pub mod Telling
 pub mod Kinds
 pub mod Bounds
 pub mod Histories
+pub mod EditNumbers

@@ -1,3 +1,4 @@
+pub mod Codes
 pub mod Engines
 pub mod Legal
 pub mod Turns
