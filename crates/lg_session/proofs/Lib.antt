@@ -3,3 +3,5 @@ pub mod Carried
 pub mod Rest
 pub mod Reached
 pub mod OneScript
+pub mod Named
+pub mod Learned
