@@ -5,3 +5,5 @@ pub mod Reached
 pub mod OneScript
 pub mod Named
 pub mod Learned
+pub mod Elsewhere
+pub mod Answered
