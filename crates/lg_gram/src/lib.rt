@@ -20,7 +20,7 @@ pub mod reply;
 pub mod sizes;
 
 pub use connector::{Connector, Connectors, link_label, matches};
-pub use disjunct::{Chosen, Disjunct, Disjuncts, Positions};
+pub use disjunct::{Chosen, Disjunct, Disjuncts, Positions, side};
 pub use edit::EditRefusal;
 pub use entry::{Entry, Item, ItemKind, Items, RawEntry, RawExpr, RawExprs};
 pub use expr::{Expr, Exprs};
