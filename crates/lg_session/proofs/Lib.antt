@@ -7,3 +7,4 @@ pub mod Named
 pub mod Learned
 pub mod Elsewhere
 pub mod Answered
+pub mod Counted
