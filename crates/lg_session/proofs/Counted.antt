@@ -1,23 +1,23 @@
 -- From an answer to a turn: what was seen on the way to it.
-use Rattle.std.proofs.Common.{◌≡◌, ◌==◌, ◌⊎◌, ℕ, zero, suc, ◌+◌, ◌-◌, ◌<◌, ◌≤◌, ◌^◌, Bool, true, false, List, [], ◌∷◌, ◌++◌, length, map, filter, Contains, Option, Some, None, refl, ap, sym, subst, ◌∙◌, arith, append_assoc, append-nil, length-append, true≢false, ⊎_elim}
+use Rattle.std.proofs.Common.{◌≡◌, ◌==◌, ℕ, zero, suc, ◌+◌, ◌-◌, ◌≤◌, Bool, true, false, List, [], ◌∷◌, ◌++◌, length, Contains, Some, refl, ap, sym, subst, ◌∙◌, arith, append_assoc, append-nil, length-append, true≢false, ⊎_elim}
 use Rattle.std.specs.List.{list_any}
 use Rattle.std.proofs.lemmas.List.{length-map, map-append}
 use Rattle.std.proofs.lemmas.List.Elements.{filter-append, Contains-append_cases}
 use Rattle.std.proofs.lemmas.Option.{same_Some}
 use Rattle.lg_gram.specs.declared.reply.Place.{Place}
 use Rattle.lg_gram.specs.declared.reply.Reply.{Reply}
-use Rattle.lg_gram.specs.declared.reply.Reply.TheVariants.{Listed, Beyond, Published, Refused, At, NoListing}
+use Rattle.lg_gram.specs.declared.reply.Reply.TheVariants.{Published, Refused}
 use Rattle.lg_dict.specs.Dictionary.{Dictionary}
 use Rattle.lg_edit.specs.Edits.{EditView, accept, after_edit}
 use Rattle.lg_log.specs.Codes.{code_session, is_of}
 use Rattle.lg_log.specs.Passes.{LogId, Standing}
-use Rattle.lg_script.specs.Commands.{CommandView, parses, lists, goes_on, makes, asks}
+use Rattle.lg_script.specs.Commands.{CommandView, goes_on, makes}
 use Rattle.lg_script.specs.Histories.{command_at, after_command, dictionary_after, version_of, numbered}
 use Rattle.lg_session.specs.declared.session.Session.{Session}
-use Rattle.lg_session.specs.Answering.{later, IsUp, AnswersSo, IsAnswered, IsMade, Answers, counted}
+use Rattle.lg_session.specs.Answering.{IsUp, IsAnswered, IsMade, Answers, counted}
 use Rattle.lg_session.specs.Codes.{place_of, places_of}
 use Rattle.lg_session.specs.Engines.{Meaning, Progress}
-use Rattle.lg_session.specs.Learning.{Known, Learns, MeetsEnd, Publishes, IsEdited}
+use Rattle.lg_session.specs.Learning.{Learns, MeetsEnd, Publishes}
 use Rattle.lg_session.specs.Legal as legal
 use Rattle.lg_session.specs.Legal.{Holding, AnswerIs}
 use Rattle.lg_session.specs.Turns.{Story, run_in, journal_in, place_in, IsAt, HasCome, added, LooksFor, Grows, Turned}

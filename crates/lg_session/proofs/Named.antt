@@ -105,3 +105,10 @@ place_coded scripts session index place code session_is index_is is =
     let command : slice_index_or (edit_numbers (commands_of scripts (code_session code))) (code_index code) 0 ≡ place + 1 =
     (λ i. slice_index_or (edit_numbers (commands_of scripts (session_is i))) (index_is i) 0) ∙ get_or_from_slice_get (edit_numbers (commands_of scripts session)) index (place + 1) 0 is in
     λ i. record { session = session_is i + 1; command = command i }
+
+-- the numbers of commands are small
+pub place_fits : (scripts : List (List CommandView)) (session place : ℕ) → All AreInBounds scripts → IsSome (command_at scripts (record { session = session + 1; command = place + 1 })) → place + 1 < 2 ^ 32
+place_fits scripts session place all next =
+    let some = some_of (command_at scripts (record { session = session + 1; command = place + 1 })) next in
+    let found = at_place scripts session place some.0 some.1 in
+    omega (arith, slice_get_within (commands_of scripts session) place some.0 found.1, (all session [] found.0).few)

@@ -226,5 +226,8 @@ fn code_at(scripts: &Scripts, session: u32, place: u32) -> u64
     ensures session { code_session result ≡ session }
     ensures at { place_of (script_views scripts.now) result ≡ record { session = session + 1; command = place + 1 } }
 {
-    code(session, scripts.items()[session as usize].edits_before(place))
+    code(
+        session,
+        scripts.items()[session as usize].edits_before(place),
+    )
 }
