@@ -1,4 +1,5 @@
 pub mod Codes
 pub mod Engines
 pub mod Legal
+pub mod Rows
 pub mod Turns
