@@ -3,10 +3,13 @@ use Rattle.std.proofs.Common.{◌≡◌, ℕ, ◌+◌, ◌<◌, ◌^◌, List, [
 use Rattle.std.proofs.Math.Seq.{drop-cons}
 use Rattle.std.proofs.lemmas.List.{length-map, get_or-map, get_or_default}
 use Rattle.std.proofs.lemmas.Option.{slice_get_read}
+use Rattle.lg_gram.specs.declared.reply.Place.{Place}
 use Rattle.lg_script.specs.declared.command.Command.{Command}
 use Rattle.lg_script.specs.Commands.{CommandView, command_view, asks}
 use Rattle.lg_script.specs.Histories.{command_at, command_in, numbered}
-use Rattle.lg_session.specs.Codes.{AreScripts}
+use Rattle.lg_log.specs.Codes.{code_session, code_index}
+use Rattle.lg_script.specs.EditNumbers.{edit_numbers}
+use Rattle.lg_session.specs.Codes.{place_of, AreScripts}
 use Rattle.lg_session.specs.Legal.{script_views}
 use Rattle.lg_session.specs.Rows.{Ground, commands_of}
 
@@ -28,11 +31,22 @@ module _ (g : Ground) (number : ℕ) (in_ : number < length g.scripts) where
     pub split : drop n (commands_of g number) ≡ command_after ∷ drop (n + 1) (commands_of g number)
     split = rw add-one (drop-cons (commands_of g number) n asks inside)
 
--- there are as many commands in code
-pub as_many : (scripts seen : List (List Command)) (script items : List Command) (number : ℕ) → number < length (script_views scripts)
-    → seen ≡ scripts → script ≡ slice_index_or seen number script → items ≡ script → length items ≡ length (slice_index_or (script_views scripts) number [])
-as_many scripts seen script items number in_ same is items_are =
-    let here : number < length scripts = omega (arith, in_, length-map scripts (λ (l : List Command). map command_view l)) in
-    let read : slice_index_or (script_views scripts) number [] ≡ map command_view script =
-    get_or-map (λ (l : List Command). map command_view l) scripts number script [] here ∙ ap (λ (l : List Command). map command_view l) (ap (λ (l : List (List Command)). get_or l number script) (sym same) ∙ sym is) in
-    ap length items_are ∙ sym (length-map script command_view) ∙ ap length (sym read)
+-- ---- a script in code
+
+abbrev pub at_command : ℕ → ℕ → Place
+at_command session command = record { session = session; command = command }
+
+module _ (scripts seen : List (List Command)) (script : List Command) (number : ℕ) (in_ : number < length (script_views scripts)) (same : seen ≡ scripts) (found : script ≡ slice_index_or seen number script) where
+  pub script_is : slice_index_or (script_views scripts) number [] ≡ map command_view script
+  script_is = get_or-map (λ (l : List Command). map command_view l) scripts number script [] (omega (arith, in_, length-map scripts (λ (l : List Command). map command_view l)))
+      ∙ ap (λ (l : List Command). map command_view l) (ap (λ (l : List (List Command)). get_or l number script) (sym same) ∙ sym found)
+
+  pub as_many : (items : List Command) → items ≡ script → length items ≡ length (slice_index_or (script_views scripts) number [])
+  as_many items are = ap length are ∙ sym (length-map script command_view) ∙ ap length (sym script_is)
+
+  pub place_is : (code index command : ℕ) → number ≡ code_session code → index ≡ code_index code → command ≡ slice_index_or (edit_numbers (map command_view script)) index 0
+      → at_command (number + 1) command ≡ place_of (script_views scripts) code
+  place_is code index command session index_is is =
+      let same : command ≡ (place_of (script_views scripts) code).command = is ∙ (λ i. slice_index_or (edit_numbers (sym script_is i)) (index_is i) 0)
+      ∙ ap (λ (k : ℕ). slice_index_or (edit_numbers (slice_index_or (script_views scripts) k [])) (code_index code) 0) session in
+      (λ i. at_command (session i + 1) (same i))

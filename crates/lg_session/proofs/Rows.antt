@@ -35,12 +35,12 @@ module _ (compose : JoinsCompose) (g : Ground) (seen whole : List ℕ) where
       )
 
 -- two rows as one, once the one pass has taken over the other
-pub both_done : JoinsCompose → (g : Ground) (log : LogId) (a b : List ℕ) (p q r : Standing) (x y : List (List Reply)) → AreDone g log a p x → AreDone g log b q y
-    → r ≡ record p { sessions = p.sessions ++ q.sessions; seen = longer_of p.seen q.seen } → HasAllOf p.sessions p.seen r.seen → HasAllOf q.sessions q.seen r.seen → AreDone g log (a ++ b) r (x ++ y)
-both_done compose g log a b p q r x y h k joined mine others = record {
+pub both_done : JoinsCompose → (g : Ground) (log : LogId) (a b n : List ℕ) (p q r : Standing) (x y z : List (List Reply)) → n ≡ a ++ b → z ≡ x ++ y → AreDone g log a p x → AreDone g log b q y
+    → r ≡ record p { sessions = p.sessions ++ q.sessions; seen = longer_of p.seen q.seen } → HasAllOf p.sessions p.seen r.seen → HasAllOf q.sessions q.seen r.seen → AreDone g log n r z
+both_done compose g log a b n p q r x y z numbers lists h k joined mine others = record {
   same_log = ap (λ (s : Standing). s.log) joined ∙ h.same_log;
-  carried = ap (λ (s : Standing). s.sessions) joined ∙ (λ i. h.carried i ++ k.carried i);
-  ended = both_ended g r.seen a b x y
+  carried = ap (λ (s : Standing). s.sessions) joined ∙ (λ i. h.carried i ++ k.carried i) ∙ sym numbers;
+  ended = rw (numbers, lists) (both_ended g r.seen a b x y
       (ended_later compose g p.seen r.seen a (subst (λ (l : List ℕ). HasAllOf l p.seen r.seen) h.carried mine) a x (λ session has. has) h.ended)
-      (ended_later compose g q.seen r.seen b (subst (λ (l : List ℕ). HasAllOf l q.seen r.seen) k.carried others) b y (λ session has. has) k.ended);
+      (ended_later compose g q.seen r.seen b (subst (λ (l : List ℕ). HasAllOf l q.seen r.seen) k.carried others) b y (λ session has. has) k.ended));
 }

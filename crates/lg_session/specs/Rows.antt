@@ -1,5 +1,6 @@
 -- What rows of sessions have come to, each session with its answers.
-use Rattle.std.specs.Prelude.{◌≡◌, ℕ, ◌+◌, ◌<◌, ◌==◌, List, [], ◌∷◌, length, filter, slice_index_or}
+use Rattle.std.specs.Prelude.{◌≡◌, ℕ, ◌+◌, ◌<◌, ◌==◌, List, [], ◌∷◌, length, map, filter, slice_index_or}
+use Rattle.std.specs.List.{enumerate_from}
 use Rattle.lg_gram.specs.declared.reply.Reply.{Reply}
 use Rattle.lg_dict.specs.Dictionary.{Dictionary}
 use Rattle.lg_log.specs.Passes.{LogId, Standing, HasAllOf, at_start}
@@ -53,3 +54,7 @@ pub record AreDone (g : Ground) (log : LogId) (sessions : List ℕ) (pass : Stan
 -- a session that has not begun: its script is there, and its pass has seen nothing and carries it alone
 abbrev pub IsFresh : LogId → List (List CommandView) → Job → Type 0
 IsFresh log scripts job = (job.session < length scripts) × (job.pass ≡ at_start log (job.session ∷ []))
+
+-- sessions that have not begun, numbered from this number on, each with its pass
+abbrev pub jobs_from : ℕ → List Standing → List Job
+jobs_from first passes = map (λ p. record { session = p.0; pass = p.1 }) (enumerate_from first passes)

@@ -1,6 +1,5 @@
-use Rattle.std.proofs.Common.{◌≡◌, ℕ, List, map, ◌++◌, ◌/◌, sym, ap, ◌∙◌, subst, IfOk, take-append-drop}
+use Rattle.std.proofs.Common.{◌≡◌, ℕ, List, map, ◌++◌, ◌/◌, sym, ap, ◌∙◌, IfOk, take-append-drop}
 use mathlib.Core.List.{map-append}
-use Rattle.lg_gram.specs.declared.reply.Reply.{Reply}
 use Rattle.lg_session.specs.declared.job.Job.{Job}
 use Rattle.lg_session.specs.Rows.{Ground, ground_of, AreDone}
 use Rattle.lg_session.proofs.Rows.{both_done}
@@ -17,7 +16,6 @@ returns g t c =
     let first : IfOk c.join-first.result.0 (λ r. AreDone ground c.args.log.now (map number low) r.0 r.1.items) = c.join-first.ensures.first in
     let second : IfOk c.join-first.result.1 (λ r. AreDone ground c.args.log.now (map number high) r.0 r.1.items) = c.join-first.ensures.second in
     let joined = c.join.ensures in
-    let both = both_done c.joins_compose.ensures.compose ground c.args.log.now (map number low) (map number high) c.in_ok-pass-2.pass c.in_ok-other.other c.join.new.self c.in_ok-pass-2.lists.items c.in_ok-other.others.items
-    (rw c.in_ok-pass-2.was at first) (rw c.in_ok-other.was at second) joined.joined joined.mine joined.others in
-    subst (λ (z : List ℕ × List (List Reply)). AreDone ground c.args.log.now z.0 c.join.new.self z.1)
-    (λ i. ((sym (map-append number low high) ∙ ap (map number) whole) i, sym c.in_ok-append.ensures.items i)) both
+    both_done c.joins_compose.ensures.compose ground c.args.log.now (map number low) (map number high) (map number c.args.jobs.items) c.in_ok-pass-2.pass c.in_ok-other.other c.join.new.self
+    c.in_ok-pass-2.lists.items c.in_ok-other.others.items c.append.new.self.items (ap (map number) (sym whole) ∙ map-append number low high) c.in_ok-append.ensures.items
+    (rw c.in_ok-pass-2.was at first) (rw c.in_ok-other.was at second) joined.joined joined.mine joined.others
