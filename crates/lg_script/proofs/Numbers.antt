@@ -87,6 +87,9 @@ number_of_edit n (c ∷ cs) (suc j) e is =
     let same : count_by is_edit (c ∷ take j cs) ≡ count_by is_edit (take j cs) = omega (arith, count_cons c (take j cs)) in
     subst (λ (k : ℕ). slice_get (numbers_from n (c ∷ cs)) k ≡ Some (n + suc j)) (sym same) (number_of_edit (n + 1) cs j e is ∙ ap Some (omega arith))
 
+pub index_below : (cs : List CommandView) (j : ℕ) (e : EditView) → slice_get cs j ≡ Some (makes e) → count_by is_edit (take j cs) < count_by is_edit cs
+index_below cs j e is = omega (arith, slice_get_within (numbers_from 1 cs) (count_by is_edit (take j cs)) (1 + j) (number_of_edit 1 cs j e is), length-numbers 1 cs)
+
 at_least : (n : ℕ) (cs : List CommandView) (k d : ℕ) → k < length (numbers_from n cs) → n ≤ get_or (numbers_from n cs) k d
 at_least n [] k d h = absurd (omega (arith, h))
 at_least n (makes e ∷ cs) zero d h = omega arith

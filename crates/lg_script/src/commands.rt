@@ -1,8 +1,8 @@
 //! Lists of commands.
 
-ghost use Rattle.std.specs.Prelude.{◌≡◌, ◌<◌, ◌^◌, Some, length, map, take, count_by, slice_get, IfOk, IfSome};
+ghost use Rattle.std.specs.Prelude.{◌≡◌, ◌+◌, ◌<◌, ◌≤◌, ◌^◌, Some, length, map, take, count_by, slice_get, IfOk, IfNone, IfSome};
 ghost use Rattle.std.specs.Option.{option_map};
-ghost use Rattle.lg_edit.specs.Edits.{edit_view};
+ghost use Rattle.lg_edit.specs.Edits.{EditView, edit_view};
 ghost use Rattle.lg_script.specs.Commands.{command_view, is_edit, makes};
 ghost use Rattle.lg_script.specs.EditNumbers.{edit_numbers};
 ghost use Rattle.lg_script.specs.Histories.{numbered};
@@ -69,6 +69,7 @@ impl Commands {
     /// time does not depend on the commands.
     pub fn edit(&self, index: u32) -> Option<(u32, &Edit)>
         ensures number { option_map (λ r. r.0) result ≡ slice_get (edit_numbers (map command_view self.now)) index }
+        ensures past { IfNone result (count_by is_edit (map command_view self.now) ≤ index) }
         ensures edit { IfSome result (λ r. numbered (map command_view self.now) r.0 ≡ Some (makes (edit_view r.1.now))) }
     {
         let number = *self.edits.as_slice().get(index as usize)?;
@@ -85,9 +86,12 @@ impl Commands {
         self.edits.len() as u32
     }
 
-    /// How many of the first `place` commands are edits. The time grows with the logarithm of the number of edits.
+    /// How many of the first `place` commands are edits: where the command just after them is an edit, that is its index. The time
+    /// grows with the logarithm of the number of edits.
     pub fn edits_before(&self, place: u32) -> u32
-        ensures { result ≡ count_by is_edit (take place (map command_view self.now)) }
+        ensures count { result ≡ count_by is_edit (take place (map command_view self.now)) }
+        ensures index { (edit : EditView) → slice_get (map command_view self.now) place ≡ Some (makes edit)
+            → (result < count_by is_edit (map command_view self.now)) × (slice_get (edit_numbers (map command_view self.now)) result ≡ Some (place + 1)) }
     {
         self.edits.partition_point(|number| *number <= place) as u32
     }

@@ -1,7 +1,8 @@
-use Rattle.std.proofs.Common.{Some, ap, sym, ◌∙◌, arith}
+use Rattle.std.proofs.Common.{◌≤◌, length, map, arith, Some, ap, sym, ◌∙◌, arith}
+use Rattle.std.proofs.lemmas.Bool.{ltb-false}
 use Rattle.lg_script.specs.declared.command.Command.{Command}
 use Rattle.lg_script.specs.Commands.{command_view}
-use Rattle.lg_script.proofs.Numbers.{read_number, read_edit, no_other}
+use Rattle.lg_script.proofs.Numbers.{length-numbers, read_number, read_edit, no_other}
 use Rattle.lg_script.proofs.commands.Commands.edit.Goals as goal
 
 pub overflow_sub-number : goal.overflow_sub-number
@@ -29,3 +30,9 @@ returns-clause-edit c =
     let seen = c.in_ok-number.ensures.lookup in
     let found = (read_edit c.self.inside.items.items c.as_slice.result.now c.args.index c.in_ok-number.field-0.now (c.as_slice.ensures.value ∙ c.self.invariant.1) seen.0 seen.1).2 c.index.result.now c.index.ensures in
     rw (sym c.self.view_is) (found.1 ∙ ap (λ (x : Command). Some (command_view x)) c.in-Edit.is)
+
+pub returns-in_err-number-clause-past : goal.returns-in_err-number-clause-past
+returns-in_err-number-clause-past c =
+    let past : length c.as_slice.result.now ≤ c.args.index = ltb-false _ _ (sym c.in_err-number.ensures.lookup.0) in
+    rw (c.from_residual.ensures, sym c.self.view_is)
+    (omega (arith, past, ap length c.as_slice.ensures.value, ap length c.self.invariant.1, length-numbers 1 (map command_view c.self.inside.items.items)))
