@@ -1,8 +1,11 @@
 pub mod Versions
 pub mod Carried
 pub mod Rest
-pub mod Reached
 pub mod OneScript
+pub mod Reached
+pub mod Rows
+pub mod Jobs
+pub mod Whole
 pub mod Named
 pub mod Learned
 pub mod Elsewhere
