@@ -1,0 +1,12 @@
+//! The core of the sessions: what their atomic steps make of the shared history, and the law that holds over every run of steps.
+#![tactic(auto)]
+
+pub mod event;
+mod law;
+pub mod note;
+pub mod state;
+
+pub use event::{Event, Stepped};
+pub use law::{every_run_is_legal, steps_are_determined};
+pub use note::{Note, NoteKind};
+pub use state::{Actor, Actors, Core, Hold};
