@@ -1,3 +1,4 @@
 pub mod Places
 pub mod Notes
 pub mod Legal
+pub mod EveryRun

@@ -50,7 +50,7 @@ others_same s notes n apart = filter-append (λ m. m.session == s) notes (n ∷ 
 
 -- ---- the listing that is left
 
-pub Holds : List Note → Option Hold → Type 0
+abbrev pub Holds : List Note → Option Hold → Type 0
 Holds notes None = (hold : Hold) → Leaves notes hold → ⊥
 Holds notes (Some hold) = Leaves notes hold
 
@@ -101,22 +101,18 @@ none_before notes n plain none hold left =
 
 -- a note that is neither a listing nor a page
 pub holds_same : (notes : List Note) (n : Note) (held : Option Hold) → is_listing n.kind ≡ false → is_paged n.kind ≡ false → Holds notes held → Holds (notes ++ n ∷ []) held
-unfolding Holds
 holds_same notes n None plain no_page h = none_before notes n plain h
 holds_same notes n (Some hold) plain no_page h =
     let same : hold.mores + cond (is_paged n.kind) 1 0 ≡ hold.mores = ap (λ b. hold.mores + cond b 1 0) no_page ∙ omega arith in
     subst (λ (k : ℕ). Leaves (notes ++ n ∷ []) (record hold { mores = k })) same (goes_on_by notes n hold plain h)
 
 pub holds_page : (notes : List Note) (n : Note) (hold : Hold) → is_listing n.kind ≡ false → is_paged n.kind ≡ true → Holds notes (Some hold) → Holds (notes ++ n ∷ []) (Some (record hold { mores = hold.mores + 1 }))
-unfolding Holds
 holds_page notes n hold plain page h = subst (λ (b : Bool). Leaves (notes ++ n ∷ []) (record hold { mores = hold.mores + cond b 1 0 })) page (goes_on_by notes n hold plain h)
 
 pub holds_new : (notes : List Note) (n : Note) → n.kind ≡ Listed → Holds (notes ++ n ∷ []) (Some (record { version = n.version; command = n.command; mores = 0 }))
-unfolding Holds
 holds_new notes n listed = record { before = notes; note = n; after = []; parts = refl; listed = listed; last = All-nil (λ m. is_listing m.kind ≡ false); version = refl; command = refl; mores = refl }
 
 pub holds_none : (notes : List Note) (n : Note) → n.kind ≡ Beyond → Holds (notes ++ n ∷ []) None
-unfolding Holds
 holds_none notes n beyond = λ hold left.
     ⊎_elim
     (λ h. let e : Listed ≡ Beyond = sym left.listed ∙ ap (λ (m : Note). m.kind) h.2 ∙ beyond in let b : true ≡ false = ap is_listed e in absurd (cc b))
@@ -125,7 +121,6 @@ holds_none notes n beyond = λ hold left.
     (split_last notes n left.before left.note left.after left.parts)
 
 pub holds_at_start : Holds [] None
-unfolding Holds
 holds_at_start = λ hold left. let long : length {A = Note} [] ≡ length (left.before ++ left.note ∷ left.after) = ap length left.parts in absurd (omega (arith, long, length-append left.before (left.note ∷ left.after)))
 
 -- ---- versions
