@@ -145,8 +145,11 @@ pub record IsAccepted (scripts : List (List CommandView)) (base : Dictionary) (c
   pub names : command_at scripts (place_of scripts code) ≡ Some (makes edit)
   pub accepted : accept (version_of scripts base (journal_of scripts core) version) edit ≡ None
 
+abbrev pub AreActors : List (List CommandView) → Core → Type 0
+AreActors scripts core = (session : ℕ) (actor : Actor) → slice_get core.actors session ≡ Some actor → IsActor scripts core session actor
+
 -- one actor for each script, and each code names an edit that the version before it accepts
 pub record IsCore (scripts : List (List CommandView)) (base : Dictionary) (core : Core) : Type 0 where
   pub same_length : length core.actors ≡ length scripts
-  pub actors : (session : ℕ) (actor : Actor) → slice_get core.actors session ≡ Some actor → IsActor scripts core session actor
+  pub actors : AreActors scripts core
   pub codes : (version code : ℕ) → slice_get core.history version ≡ Some code → IsAccepted scripts base core version code
