@@ -3,11 +3,11 @@
 
 mod edits;
 pub mod engine;
+mod learning;
 pub mod outcome;
-pub mod run;
-mod session;
-mod turn;
+pub mod session;
+pub mod turn;
 
 pub use engine::{Engine, Opening};
 pub use outcome::Outcome;
-pub use run::run_sessions;
+pub use session::Session;
