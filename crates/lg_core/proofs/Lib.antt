@@ -2,3 +2,4 @@ pub mod Places
 pub mod Notes
 pub mod Legal
 pub mod EveryRun
+pub mod NextCommand

@@ -1,10 +1,10 @@
 //! The edits that the codes of a history name, and the dictionary after them.
-ghost use Rattle.std.specs.Prelude.{◌≡◌, ◌<◌, true, Some, length, map, take, count_by, slice_index_or, IfOk};
+ghost use Rattle.std.specs.Prelude.{◌≡◌, true, Some, length, IfOk};
 ghost use Rattle.lg_edit.specs.Edits.{edit_view};
 ghost use Rattle.lg_log.specs.Codes.{is_code};
-ghost use Rattle.lg_script.specs.Commands.{command_view, is_edit, makes};
-ghost use Rattle.lg_script.specs.EditNumbers.{edit_numbers, edit_counts};
-ghost use Rattle.lg_script.specs.Histories.{command_at, numbered, version_of};
+ghost use Rattle.lg_script.specs.Commands.{makes};
+ghost use Rattle.lg_script.specs.EditNumbers.{edit_counts};
+ghost use Rattle.lg_script.specs.Histories.{command_at, version_of};
 ghost use Rattle.lg_core.specs.Codes.{place_of, AreScripts};
 ghost use Rattle.lg_core.specs.Core.{views_of, journal_of, IsCore};
 
@@ -13,7 +13,7 @@ use lg_base::NoMemory;
 use lg_dict::{Dict, View};
 use lg_edit::{Edit, apply};
 use lg_log::{code_laws, index_of, session_of};
-use lg_script::{Command, Commands, Scripts};
+use lg_script::Scripts;
 use std::alloc::Global;
 
 /// The dictionary after all edits of the history. The only error is running out of memory.
@@ -42,35 +42,8 @@ fn edit_of(scripts: &Scripts, code: u64) -> &Edit
 {
     code_laws();
     let commands = &scripts.items()[session_of(code) as usize];
-    edit_at(commands, index_of(code))
-}
-
-// The edit of that index among the edits.
-fn edit_at(commands: &Commands, index: u32) -> &Edit
-    requires { index < count_by is_edit (map command_view commands.now) }
-    ensures { numbered (map command_view commands.now) (slice_index_or (edit_numbers (map command_view commands.now)) index 0) ≡ Some (makes (edit_view result.now)) }
-{
-    let mut before = 0;
-    for command in commands.items() {
-        if let Command::Edit(edit) = command {
-            if before == index {
-                return edit;
-            }
-            before += 1;
-        }
+    match commands.edit(index_of(code)) {
+        Some((_, edit)) => edit,
+        None => unreachable!(),
     }
-    unreachable!()
-}
-
-/// How many of the first commands are edits.
-pub(crate) fn edits_before(commands: &Commands, place: u32) -> u32
-    ensures { result ≡ count_by is_edit (take place (map command_view commands.now)) }
-{
-    let mut before = 0;
-    for command in commands.items().iter().take(place as usize) {
-        if let Command::Edit(_) = command {
-            before += 1;
-        }
-    }
-    before
 }

@@ -14,7 +14,7 @@ use lg_token::{bound_of, tokens};
 use std::alloc::Global;
 
 /// What a look at the end of the history makes of a command.
-#[derive(Clone, Copy, Debug, PartialEq, Eq)]
+#[derive(Clone, Copy)]
 pub(crate) enum Looked {
     /// The command does not look: it is `more`.
     Waits,

@@ -6,7 +6,7 @@ ghost use Rattle.lg_core.specs.Core.{views_of, IsCore, AreActors, IsStep};
 ghost use Rattle.lg_core.specs.Steps.{held_after};
 ghost use Rattle.lg_core.specs.declared.event.Event.TheVariants.{Look, Learn, Publish, More};
 
-use crate::edits::{edits_before, newest};
+use crate::edits::newest;
 use crate::event::{Event, Stepped};
 use crate::look::{Looked, look_at};
 use crate::next::{next, next_at_end};
@@ -125,7 +125,7 @@ fn publish(
     if check(&view, edit).is_err() {
         return Ok(Stepped::NotEnabled);
     }
-    let index = edits_before(&scripts.items()[session as usize], actor.place);
+    let index = scripts.items()[session as usize].edits_before(actor.place);
     append(alloc, &mut core.history, code(session, index))?;
     let seen = core.version();
     let actor = Actor { seen, ..actor };
