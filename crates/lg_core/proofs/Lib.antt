@@ -3,3 +3,4 @@ pub mod Notes
 pub mod Legal
 pub mod EveryRun
 pub mod NextCommand
+pub mod Outcomes
