@@ -24,6 +24,7 @@ use Rattle.lg_core.specs.Core as core
 use Rattle.lg_core.specs.Core.{journal_of, newcomer, start_of, ended, published, next_place, next_code, note_of, IsNext, IsNextAtEnd, Happens}
 use Rattle.lg_core.specs.Lawful as law
 use Rattle.lg_core.specs.Lawful.{notes_of, noted, is_published, is_listing, is_paged, is_fresh, rises, Leaves, Says, IsLegalCore, Runs, EveryRunIsLegal}
+use Rattle.lg_core.proofs.Cores.{at_start}
 use Rattle.lg_core.proofs.Places.{Names, next_names}
 use Rattle.lg_core.proofs.Notes.{all_at, Holds, holds_same, holds_page, holds_new, holds_none, holds_at_start, rises_from}
 use Rattle.lg_core.proofs.Legal.{IsReached, HasCome, sees, noted_more, version_more, numbered_push}
@@ -134,11 +135,6 @@ module _ (have : EditsHaveCodes) (scripts : List (List CommandView)) (base : Dic
   keeps state _ notes _ _ reached (core.publishes s a edit end accepted) = publishes state notes reached s a edit end accepted
   keeps state _ notes _ _ reached (core.pages s a hold next is) = pages state notes reached s a hold next is
   keeps state _ notes _ _ reached (core.has_none s a next is) = has_none state notes reached s a next is
-
-  at_start : (n s : ℕ) (a : Actor) → slice_get (replicate n newcomer) s ≡ Some a → a ≡ newcomer
-  at_start zero s a is = absurd (none-some a is)
-  at_start (suc n) zero a is = sym (same_Some newcomer a is)
-  at_start (suc n) (suc s) a is = at_start n s a is
 
   none_yet : (sessions : ℕ) → IsReached scripts base (start_of sessions) []
   none_yet sessions = record {

@@ -87,7 +87,7 @@ got_set (x ∷ xs) (suc i) zero a b e = inr ((λ h. omega arith), e)
 got_set (x ∷ xs) (suc i) (suc j) a b e = ⊎_elim (λ t. inl (ap suc t.0, t.1)) (λ t. let n = t.0 in inr ((λ h. n (omega arith)), t.1)) (got_set xs i j a b e)
 
 -- where one actor changes, the others stay
-actors_set : (P : ℕ → Actor → Type 0) (actors : List Actor) (s : ℕ) (b : Actor) → P s b → ((t : ℕ) (c : Actor) → t ≢ s → slice_get actors t ≡ Some c → P t c)
+pub actors_set : (P : ℕ → Actor → Type 0) (actors : List Actor) (s : ℕ) (b : Actor) → P s b → ((t : ℕ) (c : Actor) → t ≢ s → slice_get actors t ≡ Some c → P t c)
     → (t : ℕ) (c : Actor) → slice_get (slice_set actors s b) t ≡ Some c → P t c
 actors_set P actors s b mine others t c at = ⊎_elim
     (λ (e : (t ≡ s) × (b ≡ c)). subst (λ (z : ℕ × Actor). P z.0 z.1) (λ i. (sym e.0 i, e.1 i)) mine)

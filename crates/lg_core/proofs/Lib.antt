@@ -4,3 +4,5 @@ pub mod Legal
 pub mod EveryRun
 pub mod NextCommand
 pub mod Outcomes
+pub mod Cores
+pub mod Named

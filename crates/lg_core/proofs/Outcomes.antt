@@ -16,9 +16,9 @@ use Rattle.lg_core.specs.declared.event.Event.{Event}
 use Rattle.lg_core.specs.declared.event.Event.TheVariants.{Look, Learn, Publish, More}
 use Rattle.lg_core.specs.declared.look.Looked.{Looked}
 use Rattle.lg_core.specs.declared.look.Looked.TheVariants as looks
-use Rattle.lg_core.specs.declared.told.Note.{Note}
-use Rattle.lg_core.specs.declared.told.NoteKind.{NoteKind}
-use Rattle.lg_core.specs.declared.told.NoteKind.TheVariants.{Listed, Beyond, Paged, NoListing, Published, Refused, At}
+use Rattle.lg_core.specs.declared.note.Note.{Note}
+use Rattle.lg_core.specs.declared.note.NoteKind.{NoteKind}
+use Rattle.lg_core.specs.declared.note.NoteKind.TheVariants.{Listed, Beyond, Paged, NoListing, Published, Refused, At}
 use Rattle.lg_core.specs.declared.state.Actor.{Actor}
 use Rattle.lg_core.specs.declared.state.Core.{Core}
 use Rattle.lg_core.specs.declared.state.Hold.{Hold}

@@ -63,7 +63,7 @@ asked scripts s i c is = go (slice_get scripts s) refl (rw (add-one, add-one) at
     go None e is = absurd (none-some c is)
     go (Some commands) e is = (slice_get_within scripts s commands e, ap (λ (l : List CommandView). slice_get l i) (get_or_from_slice_get scripts s commands [] e) ∙ is)
 
-counts_at : (scripts : List (List CommandView)) (s : ℕ) → slice_index (edit_counts scripts) s ≡ count_by is_edit (slice_index_or scripts s [])
+pub counts_at : (scripts : List (List CommandView)) (s : ℕ) → slice_index (edit_counts scripts) s ≡ count_by is_edit (slice_index_or scripts s [])
 counts_at [] s = refl
 counts_at (c ∷ cs) zero = refl
 counts_at (c ∷ cs) (suc s) = counts_at cs s
