@@ -1,8 +1,8 @@
 -- The edit that a code of the history names, and the dictionary after it.
 use Rattle.std.proofs.Common.{◌≡◌, ℕ, zero, suc, ◌+◌, ◌<◌, List, [], ◌∷◌, ◌++◌, length, map, take, get_or, All, Option, Some, None, slice_get, slice_index, slice_index_or, count_by, refl, ap, sym, subst, ◌∙◌, arith, add-one, cond, is_none, if◌then◌else◌}
 use Rattle.std.specs.Option.{option_map}
-use Rattle.std.proofs.lemmas.List.{take_more}
-use Rattle.std.proofs.lemmas.Option.{none-some, same_Some, get_or_from_slice_get, slice_get_within, slice_get-map}
+use Rattle.std.proofs.lemmas.List.{take_more, length-map}
+use Rattle.std.proofs.lemmas.Option.{none-some, same_Some, get_or_from_slice_get, slice_get_within, slice_get-map, slice_get-get_or}
 use Rattle.lg_gram.specs.declared.reply.Place.{Place}
 use Rattle.lg_dict.specs.Dictionary.{Dictionary}
 use Rattle.lg_edit.specs.Edits.{EditView, accept, after_edit, DefinesAsItMay, IsEditInBounds}
@@ -15,6 +15,7 @@ use Rattle.lg_script.specs.Histories.{numbered, command_in, command_at, after_co
 use Rattle.lg_core.specs.declared.state.Core.{Core}
 use Rattle.lg_core.specs.Codes.{place_of, places_of, AreScripts}
 use Rattle.lg_core.specs.Core.{views_of, journal_of, IsAccepted}
+use Rattle.lg_core.proofs.NextCommand.{item_at}
 use Rattle.lg_core.proofs.Outcomes.{same_edit}
 use Rattle.lg_core.proofs.Places.{counts_at}
 
@@ -74,3 +75,15 @@ module _ (scripts : List (List CommandView)) (base : Dictionary) (core : Core) (
   next_version dict after same made =
       let placed : slice_get (journal_of scripts core) n ≡ Some (place_of scripts code) = slice_get-map (place_of scripts) core.history n ∙ ap (option_map (place_of scripts)) at in
       made ∙ ap (λ (d : Dictionary). after_edit d edit) same ∙ sym (version_next scripts base (journal_of scripts core) n (place_of scripts code) edit placed names)
+
+-- ---- what is read of the scripts and of the history
+
+pub script_at : (scripts seen : List (List Command)) (s code : ℕ) (commands : List Command) → seen ≡ scripts → s ≡ code_session code → code_session code < length (edit_counts (views_of scripts)) → commands ≡ get_or seen s commands
+    → slice_get scripts (code_session code) ≡ Some commands
+script_at scripts seen s code commands same session less is =
+    let long : length (edit_counts (views_of scripts)) ≡ length scripts = length-map (views_of scripts) (count_by is_edit) ∙ length-map scripts (map command_view) in
+    let seen_long : length seen ≡ length scripts = ap length same in
+    subst (λ (k : ℕ). slice_get scripts k ≡ Some commands) session (item_at scripts seen s commands same (omega (arith, less, long, seen_long, session)) is)
+
+pub code_at : (history items : List ℕ) (n : ℕ) → items ≡ history → n < length items → slice_get history n ≡ Some (get_or items n 0)
+code_at history items n same less = subst (λ (l : List ℕ). slice_get l n ≡ Some (get_or items n 0)) same (slice_get-get_or items n 0 less)

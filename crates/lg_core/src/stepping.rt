@@ -15,7 +15,7 @@ use crate::state::{Actor, Core, Hold};
 use lg_base::{Codes, NoMemory};
 use lg_dict::Dict;
 use lg_edit::check;
-use lg_log::code;
+use lg_log::{code, code_laws};
 use lg_script::{Command, Scripts};
 use std::alloc::Global;
 use std::mem;
@@ -38,6 +38,7 @@ pub fn step(
     ensures kept { OnOk result (IsCore (views_of scripts.now) base.now core.new) }
     ensures unchanged { OnErr result (core.new ≡ core.old) }
 {
+    code_laws();
     match event {
         Event::Look(session) => look(alloc, base, scripts, core, session),
         Event::Learn(session) => Ok(learn(scripts, core, session)),
@@ -118,7 +119,10 @@ fn publish(
     ensures done { IfOk result (IsStep (views_of scripts.now) base.now core.old (Publish session) core.new) }
     ensures unchanged { OnErr result (core.new ≡ core.old) }
 {
-    let Some((actor, Command::Edit(edit))) = next_at_end(scripts, core, session) else {
+    let Some((actor, command)) = next_at_end(scripts, core, session) else {
+        return Ok(Stepped::NotEnabled);
+    };
+    let Command::Edit(edit) = command else {
         return Ok(Stepped::NotEnabled);
     };
     let view = newest(alloc, base, scripts, core)?;
@@ -152,7 +156,10 @@ fn more(scripts: &Scripts, core: &mut Core, session: u32) -> Stepped
     requires actors { AreActors (views_of scripts.now) core.old }
     ensures { (base : Dictionary) → IsStep (views_of scripts.now) base core.old (More session) core.new result }
 {
-    let Some((actor, Command::More)) = next(scripts, core, session) else {
+    let Some((actor, command)) = next(scripts, core, session) else {
+        return Stepped::NotEnabled;
+    };
+    let Command::More = command else {
         return Stepped::NotEnabled;
     };
     let note = match actor.held {
