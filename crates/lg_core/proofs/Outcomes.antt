@@ -5,7 +5,8 @@ use Rattle.lg_gram.specs.declared.edit.EditRefusal.{EditRefusal}
 use Rattle.lg_gram.specs.declared.listing.Bound.{Bound}
 use Rattle.lg_gram.specs.declared.listing.Token.{Token}
 use Rattle.lg_dict.specs.Dictionary.{Dictionary}
-use Rattle.lg_edit.specs.Edits.{EditView, edit_view, accept}
+use Rattle.lg_edit.specs.declared.edit.Edit.{Edit}
+use Rattle.lg_edit.specs.Edits.{EditView, accept}
 use Rattle.lg_token.specs.Tokens.{AreTokens}
 use Rattle.lg_token.specs.Bounds.{bound_of}
 use Rattle.lg_script.specs.declared.command.Command.{Command}
@@ -145,7 +146,7 @@ module _ (scripts : List (List CommandView)) (base : Dictionary) (core : Core) w
 
   -- ---- what happens after a look
 
-  as_it_is : (event : Event) (then there : Core) (told here : Option Note) → (then ≡ there) × (told ≡ here) → Happens scripts base core event there here → Happens scripts base core event then told
+  pub as_it_is : (event : Event) (then there : Core) (told here : Option Note) → (then ≡ there) × (told ≡ here) → Happens scripts base core event there here → Happens scripts base core event then told
   as_it_is event then there told here same h = subst (λ (z : Core × Option Note). Happens scripts base core event z.0 z.1) (λ i. (sym same.0 i, sym same.1 i)) h
 
   module _ (s : ℕ) (a : Actor) (then : Core) (told : Option Note) where
@@ -213,3 +214,19 @@ module _ (scripts : List (List CommandView)) (base : Dictionary) (core : Core) w
 pub are_determined : OneList → StepsAreDetermined
 are_determined one_list scripts base core one other event told another h k =
     determined scripts base core one_list event one other told another (gives scripts base core event one told h) (gives scripts base core event other another k)
+
+-- ---- commands by their views
+
+pub view_more : (command : Command) → command_view command ≡ goes_on → command ≡ commands.More
+view_more (commands.Parse text) is = absurd (cc is)
+view_more (commands.List first want text) is = absurd (cc is)
+view_more commands.More is = refl
+view_more (commands.Edit edit) is = absurd (cc is)
+view_more commands.Version is = absurd (cc is)
+
+pub view_edit : (command : Command) (view : EditView) → command_view command ≡ makes view → (edit : Edit) × (command ≡ commands.Edit edit)
+view_edit (commands.Parse text) view is = absurd (cc is)
+view_edit (commands.List first want text) view is = absurd (cc is)
+view_edit commands.More view is = absurd (cc is)
+view_edit (commands.Edit edit) view is = (edit, refl)
+view_edit commands.Version view is = absurd (cc is)
