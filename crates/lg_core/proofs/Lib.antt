@@ -1,0 +1,8 @@
+pub mod Places
+pub mod Notes
+pub mod Legal
+pub mod EveryRun
+pub mod NextCommand
+pub mod Outcomes
+pub mod Cores
+pub mod Named

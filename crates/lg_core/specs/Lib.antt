@@ -1,0 +1,4 @@
+pub mod Codes
+pub mod Core
+pub mod Lawful
+pub mod Steps
