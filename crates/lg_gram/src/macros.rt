@@ -16,6 +16,9 @@ use lg_base::{NoMemory, Text};
 use std::alloc::Global;
 use std::ops::ControlFlow;
 
+/// How many brackets may be open at once, a macro counting as one round its own.
+pub const LEVEL: u32 = 200;
+
 /// What macros stand for.
 pub trait Macros {
     ghost use Rattle.std.specs.Prelude.{List, ℕ, Option, IfSome, MatchOption, Some, None, ◌≡◌};

@@ -5,6 +5,7 @@ ghost use Rattle.lg_gram.specs.Limits.{DISJUNCTS};
 ghost use Rattle.lg_gram.specs.Problems.{IsProblem, IsPosition, FitsProblem};
 
 use crate::disjunct::{Disjunct, Disjuncts, Positions};
+use crate::formula;
 use crate::order::is_rising;
 use std::marker::Model;
 
@@ -15,7 +16,7 @@ pub const POSITIONS: usize = 252;
 pub const DISJUNCTS: usize = 8_000_000;
 
 /// The most connectors on a side of a disjunct.
-pub const SIDE: usize = 255;
+pub const SIDE: usize = formula::SIDE as usize;
 
 /// The most thousandths of a disjunct's cost, from zero.
 pub const DISJUNCT_COST: i64 = 10_000_000_000_000;

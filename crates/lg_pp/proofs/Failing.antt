@@ -13,7 +13,8 @@ use Rattle.lg_knowread.specs.declared.knowledge.Rule.TheVariants.{Forbid, Demand
 use Rattle.lg_pp.specs.Breaks.{IsTested}
 use Rattle.lg_pp.specs.Domains.{Begins, InDomain, IsNumber, SameGroup}
 use Rattle.lg_pp.specs.Judging.{AreFacts, FailsAtNumber, HasOther, IsBridge, IsCycle, IsGrouped, IsLabelled, IsOfDomains, MeetsOther, Overruns, class_of}
-use Rattle.lg_pp.specs.Labels.{FitsOne, HasMatch, Matches, MatchesOne, label_at}
+use Rattle.lg_gram.specs.Labels.{label_at}
+use Rattle.lg_pp.specs.Labels.{FitsOne, HasMatch, Matches, MatchesOne}
 use Rattle.lg_pp.specs.Reach.{AreFlags, AreRows, Collects, StartsKind}
 use Rattle.lg_pp.specs.Steps.{AreAlike}
 use Rattle.lg_pp.specs.declared.rules.facts.Facts.{Facts}

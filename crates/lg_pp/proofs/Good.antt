@@ -13,7 +13,8 @@ use Rattle.lg_gram.specs.declared.linkage.Link.{Link}
 use Rattle.lg_knowread.specs.declared.knowledge.Knowledge.{Knowledge}
 use Rattle.lg_knowread.specs.declared.knowledge.Pattern.{Pattern}
 use Rattle.lg_pp.proofs.Zipped.{zip_length, zip_at}
-use Rattle.lg_pp.specs.Labels.{IsGood, AreLabels, FitsOne, Matches, MatchesOne, HasMatch, label_at}
+use Rattle.lg_gram.specs.Labels.{label_at}
+use Rattle.lg_pp.specs.Labels.{IsGood, AreLabels, FitsOne, Matches, MatchesOne, HasMatch}
 use Rattle.lg_pp.specs.Domains.{Begins}
 use Rattle.lg_pp.specs.Reach.{StartsKind, StartsOne}
 

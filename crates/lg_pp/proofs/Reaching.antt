@@ -10,7 +10,8 @@ use Rattle.lg_gram.specs.declared.linkage.Link.{Link}
 use Rattle.lg_walks.specs.Islands.{IsWithin, AreIslands}
 use Rattle.lg_knowread.specs.declared.knowledge.Knowledge.{Knowledge}
 use Rattle.lg_pp.specs.Domains.{InDomain, IsOffRoot, Reaches}
-use Rattle.lg_pp.specs.Labels.{IsGood, FitsOne, MatchesOne, label_at}
+use Rattle.lg_gram.specs.Labels.{label_at}
+use Rattle.lg_pp.specs.Labels.{IsGood, FitsOne, MatchesOne}
 use Rattle.lg_pp.specs.Reach.{IsCollected, AreFlags, AreOffRoot, AreRows, Collects, TellReach}
 use Rattle.std.proofs.lemmas.Option.{slice_get-get_or}
 use Rattle.lg_pp.proofs.Zipped.{zip_at, zip_length}

@@ -1,10 +1,10 @@
--- Labels of links, and the patterns that match them.
-use Rattle.std.specs.Prelude.{◌≡◌, ℕ, List, [], ◌∷◌, Option, Some, None, slice_get, ◌⊎◌}
+-- The patterns that match labels of links.
+use Rattle.std.specs.Prelude.{◌≡◌, ℕ, List, [], ◌∷◌, Some, slice_get, ◌⊎◌}
 use Rattle.std.specs.List.{AllZip, Any}
 use Rattle.lg_gram.specs.Names.{Name, STAR}
-use Rattle.lg_gram.specs.Connectors.{Connector, label_of}
 use Rattle.lg_gram.specs.Linkages.{Linkage}
-use Rattle.lg_gram.specs.Rules.{Good, rights_of, lefts_of, HasLink}
+use Rattle.lg_gram.specs.Labels.{label_at}
+use Rattle.lg_gram.specs.Rules.{Good, HasLink}
 use Rattle.lg_gram.specs.declared.disjunct.Disjunct.{Disjunct}
 use Rattle.lg_gram.specs.declared.linkage.Link.{Link}
 use Rattle.lg_knowread.specs.declared.knowledge.Pattern.{Pattern}
@@ -13,14 +13,6 @@ use Rattle.lg_knowread.specs.declared.knowledge.Pattern.{Pattern}
 pub record IsGood (g : Linkage) : Type 0 where
   pub positions : List (List Disjunct)
   pub good : Good positions g
-
--- the label of a link, by the connectors at its two places
-abbrev pub label_between : Option Connector → Option Connector → Option Name
-label_between (Some a) (Some b) = Some (label_of a b)
-label_between _ _ = None
-
-abbrev pub label_at : Linkage → Link → Option Name
-label_at g l = label_between (slice_get (rights_of g l.left) l.lplace) (slice_get (lefts_of g l.right) l.rplace)
 
 -- the labels of a linkage's links, in their order
 abbrev pub AreLabels : Linkage → List Name → Type 0

@@ -2,12 +2,11 @@
 ghost use Rattle.std.specs.Prelude.{◌≡◌, ◌↔◌, ℕ, Some, slice_get, IsTrue, IfOk, ◌⊎◌};
 ghost use Rattle.std.specs.List.{Any};
 ghost use Rattle.lg_gram.specs.Names.{STAR};
-ghost use Rattle.lg_gram.specs.Rules.{Joins, rights_of, lefts_of};
-ghost use Rattle.lg_pp.specs.Labels.{IsGood, AreLabels, Matches, FitsOne, label_at};
+ghost use Rattle.lg_pp.specs.Labels.{IsGood, AreLabels, Matches, FitsOne};
 ghost use Rattle.lg_pp.specs.Reach.{StartsKind, StartsOne};
 
 use lg_base::NoMemory;
-use lg_gram::{Connector, Label, Link, Linkage, link_label};
+use lg_gram::{Label, Linkage};
 use lg_knowread::{Pattern, Start};
 use std::alloc::Global;
 
@@ -18,34 +17,9 @@ pub(crate) fn labels(alloc: Global, g: &Linkage) -> Result<Vec<Label>, NoMemory>
 {
     let mut labels = Vec::new(alloc);
     for link in g.links() {
-        labels.push(label_of_link(g, link))?;
+        labels.push(g.label(link))?;
     }
     Ok(labels)
-}
-
-fn label_of_link(g: &Linkage, link: &Link) -> Label
-    requires { Joins (rights_of g.now) (lefts_of g.now) link.now }
-    ensures { label_at g.now link.now ≡ Some result }
-{
-    let from = right_connector(g, link).unwrap();
-    let to = left_connector(g, link).unwrap();
-    link_label(&from, &to)
-}
-
-// The connector at the link's left word.
-fn right_connector(g: &Linkage, link: &Link) -> Option<Connector>
-    ensures { result ≡ slice_get (rights_of g.now link.now.left) link.now.lplace }
-{
-    let disjunct = g.chosen().get(link.left as usize)?.as_ref()?;
-    disjunct.right.items().get(link.lplace as usize).copied()
-}
-
-// The connector at the link's right word.
-fn left_connector(g: &Linkage, link: &Link) -> Option<Connector>
-    ensures { result ≡ slice_get (lefts_of g.now link.now.right) link.now.rplace }
-{
-    let disjunct = g.chosen().get(link.right as usize)?.as_ref()?;
-    disjunct.left.items().get(link.rplace as usize).copied()
 }
 
 /// Whether one of the patterns matches the label.

@@ -5,7 +5,8 @@ ghost use Rattle.lg_gram.specs.Limits.{LINKAGE_POSITIONS};
 ghost use Rattle.lg_gram.specs.Rules.{HasLink};
 ghost use Rattle.lg_walks.specs.Islands.{IsWithin};
 ghost use Rattle.lg_pp.specs.Domains.{InDomain};
-ghost use Rattle.lg_pp.specs.Labels.{IsGood, AreLabels, FitsOne, label_at};
+ghost use Rattle.lg_gram.specs.Labels.{label_at};
+ghost use Rattle.lg_pp.specs.Labels.{IsGood, AreLabels, FitsOne};
 ghost use Rattle.lg_pp.specs.Reach.{IsCollected, AreFlags, AreOffRoot, AreRows, Collects, TellReach};
 
 use crate::flags::Flags;

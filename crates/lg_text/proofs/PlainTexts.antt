@@ -2,17 +2,19 @@
 use Rattle.std.proofs.Common.{◌≡◌, ℕ, zero, suc, ◌+◌, ◌-◌, ◌/◌, ◌%◌, Bool, true, false, cond, eqb, ℤ, pos, negsuc, List, [], ◌∷◌, ◌++◌, length, take, map, Option, Some, None, IfSome, slice_get, slice_index_or, refl, ap, sym, ◌∙◌, subst, arith, ne_eqb, codes, unsigned_abs}
 use Rattle.std.specs.List.{list_any, join_with_byte, AllByRecursion}
 use Rattle.std.specs.Fmt.{decimal}
+use Rattle.std.specs.Option.{option_zip}
 use Rattle.std.proofs.lemmas.Bool.{or_parts, or_from, cases_Bool, cond_both}
 use Rattle.std.proofs.lemmas.List.Folds.{list_any-append}
 use Rattle.lg_base.specs.Costs.{cost_text, three_digits}
 use Rattle.lg_gram.specs.Names.{trimmed}
 use Rattle.lg_gram.specs.Connectors.{Connector, connector_text, label_of, merged, either}
+use Rattle.lg_gram.specs.Labels.{label_between}
 use Rattle.lg_gram.specs.Linkages.{Linkage}
 use Rattle.lg_gram.specs.Rules.{chosen_at, rights_of, lefts_of, left_list, right_list}
 use Rattle.lg_gram.specs.declared.disjunct.Disjunct.{Disjunct}
 use Rattle.lg_gram.specs.declared.linkage.Link.{Link}
 use Rattle.lg_gram.specs.declared.listing.Token.{Token}
-use Rattle.lg_text.specs.Texts.{side_text, label_between, label_text, choice_pieces}
+use Rattle.lg_text.specs.Texts.{side_text, letters_of, label_text, choice_pieces}
 use Rattle.lg_text.specs.Shown.{IsOneLine, IsPlainDisjunct}
 use Rattle.lg_text.proofs.Bytes.{Lacks, lacks_both, decimal_lacks}
 
@@ -79,7 +81,7 @@ take_plain zero xs e = refl
 take_plain (suc n) [] e = refl
 take_plain (suc n) (x ∷ xs) e = let parts = or_parts (eqb 10 x) (list_any (eqb 10) xs) e in or_from (eqb 10 x) (list_any (eqb 10) (take n xs)) parts.0 (take_plain n xs parts.1)
 
-between_plain : (a b : Option Connector) → IfSome a (λ c. IsOneLine (connector_text c)) → IfSome b (λ c. IsOneLine (connector_text c)) → IsOneLine (label_between a b)
+between_plain : (a b : Option Connector) → IfSome a (λ c. IsOneLine (connector_text c)) → IfSome b (λ c. IsOneLine (connector_text c)) → IsOneLine (letters_of (label_between (option_zip a b)))
 between_plain None b e f = refl
 between_plain (Some a) None e f = refl
 between_plain (Some a) (Some b) e f =

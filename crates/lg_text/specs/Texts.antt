@@ -1,12 +1,14 @@
 -- What is printed of a linkage and of a page.
-use Rattle.std.specs.Prelude.{◌≡◌, ℕ, List, [], ◌∷◌, ◌++◌, length, map, codes, Option, Some, None, is_none, slice_get, if◌then◌else◌}
+use Rattle.std.specs.Prelude.{◌≡◌, ℕ, List, [], ◌∷◌, ◌++◌, length, map, codes, Option, Some, None, is_none, if◌then◌else◌}
 use Rattle.std.specs.List.{flat_map, enumerate_from, zip, join_with_byte, count_by}
 use Rattle.std.specs.Option.{option_map_or}
 use Rattle.std.specs.Fmt.{decimal}
 use Rattle.lg_base.specs.Costs.{cost_text}
-use Rattle.lg_gram.specs.Connectors.{Connector, connector_text, label_of}
+use Rattle.lg_gram.specs.Connectors.{Connector, connector_text}
+use Rattle.lg_gram.specs.Labels.{label_at}
+use Rattle.lg_gram.specs.Names.{Name}
 use Rattle.lg_gram.specs.Linkages.{Linkage, unlinked, total_cost, total_length}
-use Rattle.lg_gram.specs.Rules.{Good, rights_of, lefts_of}
+use Rattle.lg_gram.specs.Rules.{Good}
 use Rattle.lg_gram.specs.declared.disjunct.Disjunct.{Disjunct}
 use Rattle.lg_gram.specs.declared.linkage.Link.{Link}
 use Rattle.lg_gram.specs.declared.listing.Token.{Token}
@@ -37,13 +39,13 @@ choice_pieces (Some d) = d.word ∷ side_text d.left ∷ side_text d.right ∷ c
 abbrev pub word_line : ℕ × (Token × Option Disjunct) → List ℕ
 word_line w = line_of (codes "word" ∷ decimal w.0 ∷ w.1.0.text ∷ choice_pieces w.1.1)
 
--- the label of a link, by the connectors at its two places
-abbrev pub label_between : Option Connector → Option Connector → List ℕ
-label_between (Some a) (Some b) = (label_of a b).caps ++ (label_of a b).subs
-label_between _ _ = []
+abbrev pub letters_of : Option Name → List ℕ
+letters_of None = []
+letters_of (Some n) = n.caps ++ n.subs
 
+-- the label of a link
 abbrev pub label_text : Linkage → Link → List ℕ
-label_text g l = label_between (slice_get (rights_of g l.left) l.lplace) (slice_get (lefts_of g l.right) l.rplace)
+label_text g l = letters_of (label_at g l)
 
 abbrev pub link_line : Linkage → Link → List ℕ
 link_line g l = line_of (codes "link" ∷ decimal l.left ∷ decimal l.right ∷ label_text g l ∷ decimal l.lplace ∷ decimal l.rplace ∷ [])

@@ -1,12 +1,12 @@
 //! The text of a linkage.
-ghost use Rattle.std.specs.Prelude.{◌≡◌, ◌++◌, OnOk, IfOk, slice_get, zip};
+ghost use Rattle.std.specs.Prelude.{◌≡◌, ◌++◌, OnOk, IfOk, zip};
 ghost use Rattle.std.specs.List.{flat_map, enumerate_from};
 ghost use Rattle.lg_gram.specs.Rules.{IsMatched, Joins, HasLink, rights_of, lefts_of};
-ghost use Rattle.lg_text.specs.Texts.{heading_line, word_line, link_line, label_text, linkage_text, IsPrintable};
+ghost use Rattle.lg_text.specs.Texts.{heading_line, word_line, link_line, linkage_text, IsPrintable};
 
 use crate::piece::{Piece, write_line};
 use lg_base::NoMemory;
-use lg_gram::{Connector, Disjunct, Label, Link, Linkage, Token, Tokens, link_label};
+use lg_gram::{Disjunct, Link, Linkage, Token, Tokens};
 use std::alloc::Global;
 
 /// The text of a linkage: a heading, a line for each position, and a line for each link in the linkage's order. There is
@@ -122,7 +122,7 @@ fn write_link(alloc: Global, out: &mut Vec<u8>, g: &Linkage, link: &Link) -> Res
     requires { Joins (rights_of g.now) (lefts_of g.now) link.now }
     ensures { OnOk result (out.new.items ≡ out.old.items ++ link_line g.now link.now) }
 {
-    let label = label_of_link(g, link);
+    let label = g.label(link);
     let pieces = [
         Piece::Number(u64::from(link.left)),
         Piece::Number(u64::from(link.right)),
@@ -131,30 +131,4 @@ fn write_link(alloc: Global, out: &mut Vec<u8>, g: &Linkage, link: &Link) -> Res
         Piece::Number(u64::from(link.rplace)),
     ];
     write_line(alloc, out, b"link", &pieces)
-}
-
-// The label of the connectors at the link's two places.
-fn label_of_link(g: &Linkage, link: &Link) -> Label
-    requires { Joins (rights_of g.now) (lefts_of g.now) link.now }
-    ensures { result.caps ++ result.subs ≡ label_text g.now link.now }
-{
-    let from = right_connector(g, link).unwrap();
-    let to = left_connector(g, link).unwrap();
-    link_label(&from, &to)
-}
-
-// The connector at the link's left word.
-fn right_connector(g: &Linkage, link: &Link) -> Option<Connector>
-    ensures { result ≡ slice_get (rights_of g.now link.now.left) link.now.lplace }
-{
-    let disjunct = g.chosen().get(link.left as usize)?.as_ref()?;
-    disjunct.right.items().get(link.lplace as usize).copied()
-}
-
-// The connector at the link's right word.
-fn left_connector(g: &Linkage, link: &Link) -> Option<Connector>
-    ensures { result ≡ slice_get (lefts_of g.now link.now.right) link.now.rplace }
-{
-    let disjunct = g.chosen().get(link.right as usize)?.as_ref()?;
-    disjunct.left.items().get(link.rplace as usize).copied()
 }
