@@ -16,7 +16,7 @@ use Rattle.lg_core.specs.declared.note.Note.{Note}
 use Rattle.lg_core.specs.declared.state.Actor.{Actor}
 use Rattle.lg_core.specs.declared.state.Core.{Core}
 use Rattle.lg_core.specs.declared.state.Hold.{Hold}
-use Rattle.lg_core.specs.Codes.{place_of, places_of, AreScripts}
+use Rattle.lg_script.specs.Codes.{place_of, places_of, AreScripts}
 use Rattle.lg_core.specs.Core as happens
 use Rattle.lg_core.specs.Core.{journal_of, newcomer, start_of, ended, published, next_place, next_code, IsNext, IsNextAtEnd, Happens, IsStep, IsActor, IsAccepted, AreActors, IsCore}
 use Rattle.lg_core.proofs.Places.{asked, Names, next_names}

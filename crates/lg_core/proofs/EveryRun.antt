@@ -19,7 +19,7 @@ use Rattle.lg_core.specs.declared.note.NoteKind.TheVariants.{Listed, Beyond, Pag
 use Rattle.lg_core.specs.declared.state.Actor.{Actor}
 use Rattle.lg_core.specs.declared.state.Core.{Core}
 use Rattle.lg_core.specs.declared.state.Hold.{Hold}
-use Rattle.lg_core.specs.Codes.{place_of, places_of, AreScripts}
+use Rattle.lg_script.specs.Codes.{place_of, places_of, AreScripts}
 use Rattle.lg_core.specs.Core as core
 use Rattle.lg_core.specs.Core.{journal_of, newcomer, start_of, ended, published, next_place, next_code, note_of, IsNext, IsNextAtEnd, Happens}
 use Rattle.lg_core.specs.Lawful as law

@@ -19,7 +19,7 @@ use Rattle.lg_core.specs.declared.note.NoteKind.TheVariants.{Listed, Beyond, Pag
 use Rattle.lg_core.specs.declared.state.Actor.{Actor}
 use Rattle.lg_core.specs.declared.state.Core.{Core}
 use Rattle.lg_core.specs.declared.state.Hold.{Hold}
-use Rattle.lg_core.specs.Codes.{place_of, places_of, AreScripts}
+use Rattle.lg_script.specs.Codes.{place_of, places_of, AreScripts}
 use Rattle.lg_core.specs.Core.{journal_of, with_actor, ended, next_place, note_of, IsNext}
 use Rattle.lg_core.specs.Lawful as law
 use Rattle.lg_core.specs.Lawful.{notes_of, noted, is_published, is_listing, is_paged, is_fresh, rises, Precedes, Leaves, Says, IsRight, IsLegalCore}

@@ -13,7 +13,7 @@ use Rattle.lg_script.specs.Commands.{CommandView, command_view, is_edit, makes}
 use Rattle.lg_script.specs.EditNumbers.{edit_numbers, edit_counts}
 use Rattle.lg_script.specs.Histories.{numbered, command_in, command_at, after_command, dictionary_after, version_of}
 use Rattle.lg_core.specs.declared.state.Core.{Core}
-use Rattle.lg_core.specs.Codes.{place_of, places_of, AreScripts}
+use Rattle.lg_script.specs.Codes.{place_of, places_of, AreScripts}
 use Rattle.lg_core.specs.Core.{views_of, journal_of, IsAccepted}
 use Rattle.lg_core.proofs.NextCommand.{item_at}
 use Rattle.lg_core.proofs.Outcomes.{same_edit}

@@ -9,7 +9,7 @@ use Rattle.lg_script.specs.Bounds.{AreInBounds}
 use Rattle.lg_script.specs.Commands.{CommandView, is_edit}
 use Rattle.lg_script.specs.EditNumbers.{edit_numbers, edit_counts}
 use Rattle.lg_script.specs.Histories.{command_in, command_at}
-use Rattle.lg_core.specs.Codes.{place_of, AreScripts}
+use Rattle.lg_script.specs.Codes.{place_of, AreScripts}
 use Rattle.lg_core.specs.Core.{next_place, next_code}
 use Rattle.lg_core.specs.declared.state.Actor.{Actor}
 

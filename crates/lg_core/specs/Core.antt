@@ -22,7 +22,7 @@ use Rattle.lg_core.specs.declared.note.NoteKind.TheVariants.{Listed, Beyond, Pag
 use Rattle.lg_core.specs.declared.state.Actor.{Actor}
 use Rattle.lg_core.specs.declared.state.Core.{Core}
 use Rattle.lg_core.specs.declared.state.Hold.{Hold}
-use Rattle.lg_core.specs.Codes.{place_of, places_of}
+use Rattle.lg_script.specs.Codes.{place_of, places_of}
 
 -- ---- states
 

@@ -18,7 +18,7 @@ use Rattle.lg_core.specs.declared.note.NoteKind.{NoteKind}
 use Rattle.lg_core.specs.declared.note.NoteKind.TheVariants.{Listed, Beyond, Paged, NoListing, Published, Refused, At}
 use Rattle.lg_core.specs.declared.state.Core.{Core}
 use Rattle.lg_core.specs.declared.state.Hold.{Hold}
-use Rattle.lg_core.specs.Codes.{AreScripts}
+use Rattle.lg_script.specs.Codes.{AreScripts}
 use Rattle.lg_core.specs.Core.{journal_of, start_of, sentence_of, Happens}
 
 -- steps from the start, one after another, and their notes in the same order

@@ -1,4 +1,3 @@
-pub mod Codes
 pub mod Core
 pub mod Lawful
 pub mod Steps

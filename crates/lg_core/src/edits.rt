@@ -5,7 +5,7 @@ ghost use Rattle.lg_log.specs.Codes.{is_code};
 ghost use Rattle.lg_script.specs.Commands.{makes};
 ghost use Rattle.lg_script.specs.EditNumbers.{edit_counts};
 ghost use Rattle.lg_script.specs.Histories.{command_at, version_of};
-ghost use Rattle.lg_core.specs.Codes.{place_of, AreScripts};
+ghost use Rattle.lg_script.specs.Codes.{place_of, AreScripts};
 ghost use Rattle.lg_core.specs.Core.{views_of, journal_of, IsCore};
 
 use crate::state::Core;

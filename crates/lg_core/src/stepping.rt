@@ -1,7 +1,7 @@
 //! The steps of the core.
 ghost use Rattle.std.specs.Prelude.{◌≡◌, ◌+◌, ◌<◌, ◌^◌, ◌++◌, [], ◌∷◌, length, IfOk, OnOk, OnErr};
 ghost use Rattle.lg_dict.specs.Dictionary.{Dictionary};
-ghost use Rattle.lg_core.specs.Codes.{AreScripts};
+ghost use Rattle.lg_script.specs.Codes.{AreScripts};
 ghost use Rattle.lg_core.specs.Core.{views_of, IsCore, AreActors, IsStep};
 ghost use Rattle.lg_core.specs.Steps.{held_after};
 ghost use Rattle.lg_core.specs.declared.event.Event.TheVariants.{Look, Learn, Publish, More};

@@ -7,3 +7,4 @@ pub mod Kinds
 pub mod Bounds
 pub mod Histories
 pub mod EditNumbers
+pub mod Codes

@@ -16,7 +16,7 @@ use Rattle.lg_script.specs.Commands.{CommandView, goes_on, makes, asks}
 use Rattle.lg_script.specs.Histories.{version_of, reply_version, unknown_name}
 use Rattle.lg_session.specs.declared.session.Session.{Session}
 use Rattle.lg_session.specs.Answering.{later, Stays, AnswersSo, IsAnswered, GivesNextPage}
-use Rattle.lg_session.specs.Codes.{place_of}
+use Rattle.lg_script.specs.Codes.{place_of}
 use Rattle.lg_session.specs.Engines.{Meaning, Progress, start_of, moved, IsOpened, GoesOn}
 use Rattle.lg_session.specs.Legal as legal
 use Rattle.lg_session.specs.Legal.{Holding, AsksFor, AnswerIs}

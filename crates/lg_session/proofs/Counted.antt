@@ -15,7 +15,7 @@ use Rattle.lg_script.specs.Commands.{CommandView, goes_on, makes}
 use Rattle.lg_script.specs.Histories.{command_at, after_command, dictionary_after, version_of, numbered}
 use Rattle.lg_session.specs.declared.session.Session.{Session}
 use Rattle.lg_session.specs.Answering.{IsUp, IsAnswered, IsMade, Answers, counted}
-use Rattle.lg_session.specs.Codes.{place_of, places_of}
+use Rattle.lg_script.specs.Codes.{place_of, places_of}
 use Rattle.lg_session.specs.Engines.{Meaning, Progress}
 use Rattle.lg_session.specs.Learning.{Learns, MeetsEnd, Publishes}
 use Rattle.lg_session.specs.Legal as legal

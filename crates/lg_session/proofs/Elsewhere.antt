@@ -6,7 +6,7 @@ use Rattle.std.proofs.lemmas.Map.Views.{Contains-from_any}
 use Rattle.lg_gram.specs.declared.reply.Place.{Place}
 use Rattle.lg_log.specs.Codes.{code_session, is_of}
 use Rattle.lg_script.specs.Commands.{CommandView}
-use Rattle.lg_session.specs.Codes.{place_of, places_of}
+use Rattle.lg_script.specs.Codes.{place_of, places_of}
 
 -- the places that are a session's own
 abbrev pub own_in : ℕ → List Place → List Place

@@ -14,7 +14,7 @@ use Rattle.lg_log.specs.Codes.{is_of}
 use Rattle.lg_log.specs.Passes.{Standing, with_code}
 use Rattle.lg_script.specs.Commands.{CommandView, makes}
 use Rattle.lg_script.specs.Histories.{command_at, after_command, dictionary_after, unknown_name}
-use Rattle.lg_session.specs.Codes.{place_of, places_of}
+use Rattle.lg_script.specs.Codes.{place_of, places_of}
 use Rattle.lg_session.specs.Learning.{Known, Learns, CatchesUp, IsEdited}
 
 -- an edit that is refused changes nothing

@@ -11,7 +11,7 @@ use Rattle.lg_script.specs.declared.command.Command.{Command}
 use Rattle.lg_script.specs.Commands.{CommandView, command_view, makes, is_edit}
 use Rattle.lg_script.specs.EditNumbers.{edit_numbers, edit_counts}
 use Rattle.lg_script.specs.Histories.{numbered, command_in, command_at}
-use Rattle.lg_session.specs.Codes.{place_of}
+use Rattle.lg_script.specs.Codes.{place_of}
 use Rattle.lg_session.specs.Legal.{script_views}
 
 -- the commands of a session

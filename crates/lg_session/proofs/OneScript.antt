@@ -9,7 +9,7 @@ use Rattle.lg_script.specs.Commands.{CommandView, command_view, asks}
 use Rattle.lg_script.specs.Histories.{command_at, command_in, numbered}
 use Rattle.lg_log.specs.Codes.{code_session, code_index}
 use Rattle.lg_script.specs.EditNumbers.{edit_numbers}
-use Rattle.lg_session.specs.Codes.{place_of, AreScripts}
+use Rattle.lg_script.specs.Codes.{place_of, AreScripts}
 use Rattle.lg_session.specs.Legal.{script_views}
 use Rattle.lg_session.specs.Rows.{Ground, commands_of}
 

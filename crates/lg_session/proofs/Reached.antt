@@ -15,7 +15,7 @@ use Rattle.lg_log.specs.Passes.{LogId, Standing, at_start}
 use Rattle.lg_script.specs.Commands.{CommandView}
 use Rattle.lg_script.specs.Histories.{command_at, dictionary_after, fresh, version_of}
 use Rattle.lg_session.specs.declared.session.Session.{Session}
-use Rattle.lg_session.specs.Codes.{place_of, places_of}
+use Rattle.lg_script.specs.Codes.{place_of, places_of}
 use Rattle.lg_session.specs.Engines.{Progress}
 use Rattle.lg_session.specs.Legal.{Holding, Run, AnswerIs}
 use Rattle.lg_session.specs.Rows.{Ground, run_on, commands_of, HasEnded}

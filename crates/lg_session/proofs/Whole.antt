@@ -12,7 +12,7 @@ use Rattle.lg_log.specs.Codes.{is_code, code_session, CodesAreOfEdits}
 use Rattle.lg_script.specs.Commands.{CommandView, is_edit}
 use Rattle.lg_script.specs.EditNumbers.{edit_counts}
 use Rattle.lg_script.specs.Histories.{numbered, published_by}
-use Rattle.lg_session.specs.Codes.{place_of, places_of}
+use Rattle.lg_script.specs.Codes.{place_of, places_of}
 use Rattle.lg_session.specs.Legal.{IsLegal, IsLegalSession, AnswersAll}
 use Rattle.lg_session.specs.Rows.{Ground, run_on, commands_of, IsRight, HaveEnded}
 

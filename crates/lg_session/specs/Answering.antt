@@ -9,7 +9,7 @@ use Rattle.lg_log.specs.Codes.{code_session}
 use Rattle.lg_script.specs.Commands.{CommandView}
 use Rattle.lg_script.specs.Histories.{command_at}
 use Rattle.lg_session.specs.declared.session.Session.{Session}
-use Rattle.lg_session.specs.Codes.{place_of}
+use Rattle.lg_script.specs.Codes.{place_of}
 use Rattle.lg_session.specs.Engines.{Meaning, Progress, GoesOn}
 use Rattle.lg_session.specs.Learning.{CatchesUp, IsEdited}
 use Rattle.lg_session.specs.Legal.{Holding, AnswerIs}

@@ -10,7 +10,7 @@ use Rattle.lg_log.specs.Codes.{is_of}
 use Rattle.lg_log.specs.Passes.{Standing, with_code}
 use Rattle.lg_script.specs.Commands.{CommandView}
 use Rattle.lg_script.specs.Histories.{dictionary_after, unknown_name}
-use Rattle.lg_session.specs.Codes.{places_of}
+use Rattle.lg_script.specs.Codes.{places_of}
 
 -- a pass, beside the dictionary after what it has seen
 abbrev pub Known : Type 0

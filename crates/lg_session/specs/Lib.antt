@@ -1,4 +1,3 @@
-pub mod Codes
 pub mod Engines
 pub mod Legal
 pub mod Rows

@@ -8,7 +8,7 @@ use Rattle.lg_script.specs.declared.command.Command.{Command}
 use Rattle.lg_script.specs.Commands.{CommandView}
 use Rattle.lg_script.specs.Histories.{published_by}
 use Rattle.lg_session.specs.declared.job.Job.{Job}
-use Rattle.lg_session.specs.Codes.{places_of}
+use Rattle.lg_script.specs.Codes.{places_of}
 use Rattle.lg_session.specs.Engines.{Meaning}
 use Rattle.lg_session.specs.Legal.{Run, IsLegalSession, script_views}
 

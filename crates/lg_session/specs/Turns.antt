@@ -10,7 +10,7 @@ use Rattle.lg_log.specs.Passes.{LogId, Standing}
 use Rattle.lg_script.specs.Commands.{CommandView, goes_on}
 use Rattle.lg_script.specs.Histories.{dictionary_after, version_of, reply_version}
 use Rattle.lg_session.specs.declared.session.Session.{Session}
-use Rattle.lg_session.specs.Codes.{place_of, places_of}
+use Rattle.lg_script.specs.Codes.{place_of, places_of}
 use Rattle.lg_session.specs.Engines.{Meaning, Progress}
 use Rattle.lg_session.specs.Legal.{Holding, Run, AnswerIs}
 

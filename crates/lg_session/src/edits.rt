@@ -8,7 +8,7 @@ ghost use Rattle.lg_edit.specs.Edits.{edit_view, DefinesAsItMay, IsEditInBounds}
 ghost use Rattle.lg_log.specs.Codes.{is_code, is_of};
 ghost use Rattle.lg_script.specs.EditNumbers.{edit_counts};
 ghost use Rattle.lg_script.specs.Histories.{names_in, unknown_name as name_of};
-ghost use Rattle.lg_session.specs.Codes.{AreScripts};
+ghost use Rattle.lg_script.specs.Codes.{AreScripts};
 ghost use Rattle.lg_session.specs.Learning.{IsEdited};
 ghost use Rattle.lg_session.specs.Legal.{script_views};
 

@@ -3,7 +3,7 @@ ghost use Rattle.std.specs.Prelude.{◌≡◌, ◌≤◌, true, length, IfOk};
 ghost use Rattle.std.specs.List.{list_all};
 ghost use Rattle.lg_log.specs.Codes.{is_code};
 ghost use Rattle.lg_script.specs.EditNumbers.{edit_counts};
-ghost use Rattle.lg_session.specs.Codes.{place_of, places_of};
+ghost use Rattle.lg_script.specs.Codes.{place_of, places_of};
 ghost use Rattle.lg_session.specs.Legal.{script_views};
 
 use lg_base::NoMemory;

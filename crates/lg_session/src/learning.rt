@@ -6,7 +6,7 @@ ghost use Rattle.lg_script.specs.Commands.{makes};
 ghost use Rattle.lg_script.specs.EditNumbers.{edit_counts};
 ghost use Rattle.lg_script.specs.Histories.{command_at, dictionary_after};
 ghost use Rattle.lg_session.specs.Answering.{IsUp};
-ghost use Rattle.lg_session.specs.Codes.{AreScripts, place_of};
+ghost use Rattle.lg_script.specs.Codes.{AreScripts, place_of};
 ghost use Rattle.lg_session.specs.Learning.{CatchesUp};
 ghost use Rattle.lg_session.specs.Legal.{script_views};
 

@@ -1,7 +1,7 @@
 //! Sessions, run over their scripts.
 ghost use Rattle.std.specs.Prelude.{◌≡◌, ◌≤◌, length, IfOk};
 ghost use Rattle.lg_script.specs.EditNumbers.{edit_counts};
-ghost use Rattle.lg_session.specs.Codes.{AreScripts};
+ghost use Rattle.lg_script.specs.Codes.{AreScripts};
 ghost use Rattle.lg_session.specs.Legal.{IsLegal, AnswersAll, script_views, run_of};
 ghost use Rattle.lg_session.specs.Rows.{jobs_from};
 

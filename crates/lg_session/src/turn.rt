@@ -7,7 +7,7 @@ ghost use Rattle.lg_script.specs.Commands.{CommandView, command_view, goes_on, m
 ghost use Rattle.lg_script.specs.EditNumbers.{edit_counts};
 ghost use Rattle.lg_script.specs.Histories.{command_at};
 ghost use Rattle.lg_session.specs.Answering.{IsAnswered, IsMade, Answers, GivesNextPage};
-ghost use Rattle.lg_session.specs.Codes.{AreScripts, place_of};
+ghost use Rattle.lg_script.specs.Codes.{AreScripts, place_of};
 ghost use Rattle.lg_session.specs.Legal.{AsksFor, script_views};
 ghost use Rattle.lg_session.specs.Turns.{Story, HasCome, IsAt, MayGoOn, Turned, place_in};
 

@@ -2,7 +2,7 @@ use Rattle.std.proofs.Common.{ap, ◌≡◌, Some, count_by, arith, sym}
 use Rattle.lg_script.specs.Commands.{is_edit, makes}
 use Rattle.lg_edit.specs.Edits.{edit_view}
 use Rattle.lg_script.specs.Histories.{command_at}
-use Rattle.lg_session.specs.Codes.{place_of}
+use Rattle.lg_script.specs.Codes.{place_of}
 use Rattle.lg_session.specs.Legal.{script_views}
 use Rattle.lg_session.proofs.Named.{in_bounds, code_in, edit_stands, commands_read}
 use Rattle.lg_session.proofs.learning.edit_of.Goals as goal

@@ -7,7 +7,7 @@ use Rattle.lg_log.specs.Codes.{is_code}
 use Rattle.lg_log.specs.Passes.{at_start}
 use Rattle.lg_script.specs.Commands.{is_edit}
 use Rattle.lg_script.specs.EditNumbers.{edit_counts}
-use Rattle.lg_session.specs.Codes.{places_of}
+use Rattle.lg_script.specs.Codes.{places_of}
 use Rattle.lg_session.specs.Legal.{script_views}
 use Rattle.lg_session.specs.Rows.{Ground, ground_of, HaveEnded}
 use Rattle.lg_session.proofs.Jobs.{all_begin}
