@@ -17,3 +17,7 @@ pub mod Begin
 pub mod Made
 pub mod Parting
 pub mod Numbers
+pub mod Ends
+pub mod Keeping
+pub mod Firsts
+pub mod Admitting

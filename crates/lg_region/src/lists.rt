@@ -48,7 +48,7 @@ impl<'a> Lists<'a> {
     {
         let mut fronts = Vec::new(alloc);
         let mut tails = IndexSet::new(alloc);
-        let sides = numbered(alloc, &mut fronts, &mut tails, problem)?;
+        let sides = numbered(alloc, &mut fronts, &mut tails, problem.positions())?;
         Ok(Lists {
             problem,
             fronts,
@@ -62,10 +62,16 @@ impl<'a> Lists<'a> {
         ensures value { MatchOption result (length self.now.lists < id) (λ list. (id ≤ length self.now.lists) × (list.now ≡ list_of self.now.lists id)) }
         ensures lists { AreListsOf self.now.positions self.now.lists }
     {
+        let fronts = &self.fronts;
         if id == 0 {
             return Some(&[]);
         }
-        self.fronts.get(id as usize - 1).copied()
+        let index = id as usize - 1;
+        if index < fronts.len() {
+            Some(fronts[index])
+        } else {
+            None
+        }
     }
 
     /// How many words there are. No memory.
@@ -97,6 +103,7 @@ impl<'a> Lists<'a> {
         ensures value { MatchOption result (id ≡ 0) (IsEndOf self.now.lists id) }
         ensures lists { AreListsOf self.now.positions self.now.lists }
     {
+        let fronts = &self.fronts;
         if id == 0 {
             return None;
         }
@@ -104,7 +111,7 @@ impl<'a> Lists<'a> {
         let tail = self.tails[index];
         Some(End {
             id,
-            place: self.fronts[index].len() as u32 - 1,
+            place: fronts[index].len() as u32 - 1,
             last: tail.last,
             shorter: tail.shorter,
         })
