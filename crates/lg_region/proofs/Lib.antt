@@ -21,3 +21,4 @@ pub mod Ends
 pub mod Keeping
 pub mod Firsts
 pub mod Admitting
+pub mod Growing
