@@ -22,3 +22,5 @@ pub mod Keeping
 pub mod Firsts
 pub mod Admitting
 pub mod Growing
+pub mod Once
+pub mod Going

@@ -74,6 +74,13 @@ impl<'a> Lists<'a> {
         }
     }
 
+    /// The lists are numbered as said above. The function does nothing: a caller whose proof needs the fact calls it.
+    pub fn are_numbered(&self)
+        ensures { AreListsOf self.now.positions self.now.lists }
+    {
+        let _fronts = &self.fronts;
+    }
+
     /// How many words there are. No memory.
     pub(crate) fn words(&self) -> u32
         ensures { result ≡ length self.now.positions }

@@ -1,7 +1,7 @@
 //! How the lists of two ends go on behind a joint between them.
-ghost use Rattle.std.specs.Prelude.{◌≡◌, ◌≤◌, ◌++◌, length, map, IfOk, OnOk};
+ghost use Rattle.std.specs.Prelude.{◌≡◌, ◌≤◌, ◌++◌, false, length, map, IfOk, OnOk};
 ghost use Rattle.lg_region.specs.Fronts.{AreListsOf};
-ghost use Rattle.lg_region.specs.Ways.{AreExactly, IsWayOf, rest_items, rests_of, way_of, joined_ways};
+ghost use Rattle.lg_region.specs.Ways.{AddsExactly, AreExactly, IsWayOf, rest_items, rests_of, way_of, joined_ways};
 
 use crate::key::Joint;
 use crate::lists::Lists;
@@ -71,6 +71,7 @@ pub(crate) fn ways_between(
     requires far { far ≤ length lists.now.lists }
     ensures { IfOk result (λ ways. AreExactly ways.items (IsWayOf lists.entry.now.lists near far apart)) }
 {
+    lists.are_numbered();
     let mut ways = Vec::new(alloc);
     if apart {
         ways.push(Way {
@@ -79,12 +80,31 @@ pub(crate) fn ways_between(
             far,
         })?;
     }
-    if let (Some(first), Some(second)) = (lists.end(near), lists.end(far)) {
-        if matches(&first.last, &second.last) {
-            push_joined(&mut ways, &first, &second)?;
-        }
-    }
+    push_joints(lists, near, far, &mut ways)?;
     Ok(ways)
+}
+
+// The ways on with a joint.
+fn push_joints(
+    lists: &Lists<'_>,
+    near: u32,
+    far: u32,
+    ways: &mut Vec<Way>,
+) -> Result<(), NoMemory>
+    requires near { near ≤ length lists.now.lists }
+    requires far { far ≤ length lists.now.lists }
+    ensures { OnOk result (AddsExactly ways.old.items ways.new.items (IsWayOf lists.entry.now.lists near far false)) }
+{
+    let Some(first) = lists.end(near) else {
+        return Ok(());
+    };
+    let Some(second) = lists.end(far) else {
+        return Ok(());
+    };
+    if !matches(&first.last, &second.last) {
+        return Ok(());
+    }
+    push_joined(ways, &first, &second)
 }
 
 fn push_joined(ways: &mut Vec<Way>, near: &End, far: &End) -> Result<(), NoMemory>
