@@ -24,3 +24,4 @@ pub mod Admitting
 pub mod Growing
 pub mod Once
 pub mod Going
+pub mod Splitting

@@ -62,3 +62,13 @@ StandsIn word from to (At w number to_left to_right lkey rkey) = (w ≡ word) ×
 abbrev pub AddsIn : Numbering → Gap → ℕ → ℕ → ℕ → List Alt → List Alt → Type 0
 AddsIn numbers gap word from to old new =
     AddsExactly old new (λ a. IsAltOfRegion numbers.positions numbers.lists (region_of_gap numbers.lists gap) a × StandsIn word from to a)
+
+-- the alternatives of the whole sentence that stand there are added
+abbrev pub AddsFirst : Numbering → ℕ → ℕ → ℕ → ℕ → List Alt → List Alt → Type 0
+AddsFirst numbers nulls word from to old new =
+    AddsExactly old new (λ a. IsAltOfWhole numbers.positions numbers.lists nulls a × StandsIn word from to a)
+
+-- an alternative that links nothing, or stands at an earlier word
+abbrev pub StandsBefore : ℕ → Alt → Type 0
+StandsBefore word AllNull = Unit {0}
+StandsBefore word (At w number to_left to_right lkey rkey) = w < word

@@ -49,6 +49,7 @@ pub(crate) fn push_group(
     requires group { IsGroup lists.now gap.now group.now }
     ensures { OnOk result (AddsIn lists.entry.now gap.now group.now.word group.now.from group.now.to out.old.items out.new.items) }
 {
+    lists.are_numbered();
     let lefts = ways_between(alloc, lists, gap.llist, group.left, gap.llist == 0)?;
     if lefts.is_empty() {
         return Ok(());
