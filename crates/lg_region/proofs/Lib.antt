@@ -25,3 +25,4 @@ pub mod Growing
 pub mod Once
 pub mod Going
 pub mod Splitting
+pub mod Expanding

@@ -39,7 +39,7 @@ false_zero : (n : ℕ) → not (n == 0) ≡ false → n ≡ 0
 false_zero zero e = refl
 false_zero (suc n) e = grind (arith, nat_tests)
 
-some_number : (positions : List (List Disjunct)) (word number : ℕ) → number < length (get_or positions word []) → (d : Disjunct) × IsDisjunctAt positions word number d
+pub some_number : (positions : List (List Disjunct)) (word number : ℕ) → number < length (get_or positions word []) → (d : Disjunct) × IsDisjunctAt positions word number d
 some_number positions word number l = at_of (get_or positions word []) number l
   where
     at_of : (ds : List Disjunct) (n : ℕ) → n < length ds → (d : Disjunct) × (slice_get ds n ≡ Some d)
