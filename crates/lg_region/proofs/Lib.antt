@@ -26,3 +26,4 @@ pub mod Once
 pub mod Going
 pub mod Splitting
 pub mod Expanding
+pub mod Keeps
