@@ -1,6 +1,6 @@
 pub mod Fits
 pub mod Walks
-pub mod Lists
+pub mod Elements
 pub mod Glue
 pub mod Joints
 pub mod Parts

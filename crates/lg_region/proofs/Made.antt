@@ -8,7 +8,7 @@ use Rattle.lg_gram.specs.declared.disjunct.Disjunct.{Disjunct}
 use Rattle.lg_region.specs.Parts.{Region, IsPart, Under, part_of}
 use Rattle.lg_region.specs.Cuts.{IsEmpty, IsValid, Spells, Alternative, IsAlternative, SpelledBy, all_null, split}
 use Rattle.lg_region.specs.Laws.{HasLinkage, KeysHave}
-use Rattle.lg_region.proofs.Lists.{contains_none}
+use Rattle.lg_region.proofs.Elements.{contains_none}
 use Rattle.lg_region.proofs.Empty.{region_complete, region_sound, none_of}
 use Rattle.lg_region.proofs.Assemble.{assembled, assembled_glued, glued_spells, glued_same, spelled_glued, same_by}
 

@@ -7,7 +7,8 @@ use Rattle.std.proofs.Math.Seq.{take-length}
 use Rattle.lg_gram.specs.Connectors.{Connector}
 use Rattle.lg_gram.specs.declared.disjunct.Disjunct.{Disjunct}
 use Rattle.lg_region.specs.Parts.{Region, IsKnown}
-use Rattle.lg_region.specs.Cuts.{Joint, GoesOn, IsCutAt, Split, IsCut, IsValid}
+use Rattle.lg_region.specs.Cuts.{GoesOn, IsCutAt, Split, IsCut, IsValid}
+use Rattle.lg_region.specs.declared.key.Joint.{Joint}
 use Rattle.lg_region.specs.Whole.{First, IsFirst}
 
 take_nil : (m : ℕ) (cs : List Connector) → cs ≡ [] → take m cs ≡ []
