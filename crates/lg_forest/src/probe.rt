@@ -1,0 +1,6 @@
+//! Probe.
+ghost use Rattle.lg_forest.specs.Probe.{Probe};
+
+fn probe()
+    ensures { Probe }
+{}
