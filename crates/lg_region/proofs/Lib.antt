@@ -15,3 +15,5 @@ pub mod Assemble
 pub mod Valid
 pub mod Begin
 pub mod Made
+pub mod Parting
+pub mod Numbers

@@ -14,5 +14,8 @@ mod numbering;
 pub use alternative::{Alt, Alts};
 pub use expand::expand_key;
 pub use key::{Joint, Key};
-pub use law::{alternatives_decide, cuts_are_valid, regions_are_cut_once, sentences_are_cut_once};
+pub use law::{
+    alternatives_decide, cuts_are_valid, numbers_tell_lists_apart, parts_make_linkages, regions_are_cut_once,
+    sentences_are_cut_once,
+};
 pub use lists::Lists;
