@@ -7,8 +7,7 @@ use Rattle.lg_gram.specs.declared.disjunct.Disjunct.{Disjunct}
 use Rattle.lg_region.specs.Parts.{Region, UnderWhole}
 use Rattle.lg_region.specs.Cuts.{Split, Alternative, all_null, split, IsAlternative, IsValid}
 use Rattle.lg_region.specs.Whole.{First, IsFirst, WholeAlternative, nothing, first, IsWholeAlternative}
-use Rattle.lg_region.specs.Laws.{CutsAreValid, AlternativesDecide, HasLinkage, KeysHave}
-use Rattle.lg_region.specs.Fronts.{AreListsOf}
+use Rattle.lg_region.specs.Laws.{CutsAreValid, AlternativesDecide, WholeAlternativesDecide, NumbersTellListsApart, HasLinkage, KeysHave, WholeKeyHas}
 use Rattle.lg_region.specs.Keys.{IsValidKey, IsAltOf, IsAltOfWhole, IsAltOfRegion, IsKeyOf, IsFirstOf, IsSplitOf, IsDisjunctAt, region_of_numbers}
 use Rattle.lg_region.specs.declared.key.Key.{Key}
 use Rattle.lg_region.specs.declared.key.Key.TheVariants.{Whole, Region as Between}
@@ -16,7 +15,8 @@ use Rattle.lg_region.specs.declared.alternative.Alt.{Alt}
 use Rattle.lg_region.specs.declared.alternative.Alt.TheVariants.{AllNull, Split as At}
 use Rattle.lg_forest.specs.Demands.{HasLinkageUnder}
 use Rattle.lg_forest.specs.Forests.{IsLive}
-use Rattle.lg_forest.specs.Probe.{Laws, WholeHas}
+use Rattle.lg_forest.specs.Search.{KeysAreDecided}
+use Rattle.lg_forest.proofs.Below.{below}
 
 -- a key and the region that it stands for have the same linkages
 key_has : (positions : List (List Disjunct)) (lists : List (List Connector)) (m : Key) (k : Region) → IsKeyOf lists m k → HasLinkage positions k ↔ HasLinkageUnder positions lists m
@@ -31,12 +31,12 @@ numbered positions word d (i, lt, at) = (i, subst (λ z. slice_get (slice_index_
 abbrev LiveAlt : List (List Disjunct) → List (List Connector) → Key → Type 0
 LiveAlt positions lists k = (a : Alt) × IsAltOf positions lists k a × IsLive positions lists a
 
-module _ (laws : Laws) (positions : List (List Disjunct)) (lists : List (List Connector)) (numbers : AreListsOf positions lists) where
-  number_whole : (nulls : ℕ) (a : WholeAlternative) → IsWholeAlternative positions nulls a → WholeHas positions a → LiveAlt positions lists (Whole nulls)
+module _ (positions : List (List Disjunct)) (lists : List (List Connector)) (valid : CutsAreValid) (numbers : NumbersTellListsApart positions lists) where
+  number_whole : (nulls : ℕ) (a : WholeAlternative) → IsWholeAlternative positions nulls a → WholeKeyHas positions a → LiveAlt positions lists (Whole nulls)
   number_whole nulls nothing is has = (AllNull, is, record { left = tt; right = tt })
   number_whole nulls (first c) is has =
       let n = numbered positions c.word c.disjunct is.listed in
-      let r = laws.keys positions lists numbers c.rkey (laws.valid.first positions nulls c is) in (
+      let r = numbers.some_key c.rkey (valid.first positions nulls c is) in (
         At c.word n.0 None None None (Some r.0),
         (c, record { first = is; place = refl; chosen = n.1; behind = r.1 }),
         record { left = tt; right = (key_has positions lists r.0 c.rkey r.1).0 has },
@@ -46,16 +46,16 @@ module _ (laws : Laws) (positions : List (List Disjunct)) (lists : List (List Co
   number_region k all_null v is has = (AllNull, is, record { left = tt; right = tt })
   number_region k (split c) v is has =
       let n = numbered positions c.word c.disjunct is.listed in
-      let s = laws.valid.split positions k c v is in
-      let l = laws.keys positions lists numbers c.lkey s.0 in
-      let r = laws.keys positions lists numbers c.rkey s.1 in (
+      let s = valid.split positions k c v is in
+      let l = numbers.some_key c.lkey s.0 in
+      let r = numbers.some_key c.rkey s.1 in (
         At c.word n.0 c.to_left c.to_right (Some l.0) (Some r.0),
         (c, record { cut = is; place = refl; chosen = n.1; joint_left = refl; joint_right = refl; before = l.1; behind = r.1 }),
         record { left = (key_has positions lists l.0 c.lkey l.1).0 has.0; right = (key_has positions lists r.0 c.rkey r.1).0 has.1 },
       )
 
 -- and back
-whole_of : (positions : List (List Disjunct)) (lists : List (List Connector)) (nulls : ℕ) (a : Alt) → IsAltOfWhole positions lists nulls a → IsLive positions lists a → (b : WholeAlternative) × IsWholeAlternative positions nulls b × WholeHas positions b
+whole_of : (positions : List (List Disjunct)) (lists : List (List Connector)) (nulls : ℕ) (a : Alt) → IsAltOfWhole positions lists nulls a → IsLive positions lists a → (b : WholeAlternative) × IsWholeAlternative positions nulls b × WholeKeyHas positions b
 whole_of positions lists nulls AllNull is live = (nothing, is, tt)
 whole_of positions lists nulls (At word number None None None (Some rkey)) (c, is) live = (first c, is.first, (key_has positions lists rkey c.rkey is.behind).1 live.right)
 whole_of positions lists nulls (At word number None None None None) is live = absurd is
@@ -70,12 +70,16 @@ region_of positions lists k (At word number to_left to_right (Some lkey) (Some r
 region_of positions lists k (At word number to_left to_right (Some lkey) None) is live = absurd is
 region_of positions lists k (At word number to_left to_right None rkey) is live = absurd is
 
-pub decides : Laws → (positions : List (List Disjunct)) (lists : List (List Connector)) (k : Key) → AreListsOf positions lists → IsValidKey positions lists k → HasLinkageUnder positions lists k ↔ ((a : Alt) × IsAltOf positions lists k a × IsLive positions lists a)
-decides laws positions lists (Whole nulls) numbers v = (
-  (λ h. let a = (laws.whole positions nulls).0 h in number_whole laws positions lists numbers nulls a.0 a.1 a.2),
-  (λ h. (laws.whole positions nulls).1 (whole_of positions lists nulls h.0 h.1 h.2)),
-)
-decides laws positions lists (Between left right llist rlist nulls) numbers v = (
-  (λ h. let k = region_of_numbers lists left right llist rlist nulls in let a = (laws.decide positions k v.2).0 h in number_region laws positions lists numbers k a.0 v.2 a.1 a.2),
-  (λ h. let k = region_of_numbers lists left right llist rlist nulls in (laws.decide positions k v.2).1 (region_of positions lists k h.0 h.1 h.2)),
-)
+pub decided : (positions : List (List Disjunct)) (lists : List (List Connector)) → CutsAreValid → AlternativesDecide → WholeAlternativesDecide → NumbersTellListsApart positions lists → KeysAreDecided positions lists
+decided positions lists valid regions wholes numbers = record { below = λ k a v is. below positions lists k a valid v is; decides = by_kind }
+  where
+    by_kind : (k : Key) → IsValidKey positions lists k → HasLinkageUnder positions lists k ↔ ((a : Alt) × IsAltOf positions lists k a × IsLive positions lists a)
+    by_kind (Whole nulls) v = (
+      (λ h. let a = (wholes positions nulls).0 h in number_whole positions lists valid numbers nulls a.0 a.1 a.2),
+      (λ h. (wholes positions nulls).1 (whole_of positions lists nulls h.0 h.1 h.2)),
+    )
+    by_kind (Between left right llist rlist nulls) v =
+        let k = region_of_numbers lists left right llist rlist nulls in (
+          (λ h. let a = (regions positions k v.2).0 h in number_region positions lists valid numbers k a.0 v.2 a.1 a.2),
+          (λ h. (regions positions k v.2).1 (region_of positions lists k h.0 h.1 h.2)),
+        )

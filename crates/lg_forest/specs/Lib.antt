@@ -1,4 +1,3 @@
 pub mod Demands
 pub mod Forests
 pub mod Search
-pub mod Probe

@@ -1,15 +1,15 @@
 -- The table of the keys that were asked for.
-use Rattle.std.specs.Prelude.{◌≡◌, ℕ, suc, ◌+◌, ◌-◌, ◌<◌, List, length, Option, None, Some, ◌⊎◌, IfSome}
+use Rattle.std.specs.Prelude.{◌≡◌, ◌↔◌, ℕ, suc, ◌+◌, ◌-◌, ◌<◌, List, length, Option, None, Some, ◌⊎◌, IfSome}
 use Rattle.std.specs.List.{Contains}
 use Rattle.std.specs.Map.{keys_of}
 use Rattle.lg_gram.specs.Connectors.{Connector}
 use Rattle.lg_gram.specs.declared.disjunct.Disjunct.{Disjunct}
-use Rattle.lg_region.specs.Keys.{IsValidKey}
+use Rattle.lg_region.specs.Keys.{IsValidKey, IsAltOf}
 use Rattle.lg_region.specs.declared.key.Key.{Key}
 use Rattle.lg_region.specs.declared.key.Key.TheVariants.{Whole, Region as Between}
 use Rattle.lg_region.specs.declared.alternative.Alt.{Alt}
 use Rattle.lg_forest.specs.Demands.{HasLinkageUnder, left_key, right_key, AsksNext, Reaches}
-use Rattle.lg_forest.specs.Forests.{AreLive}
+use Rattle.lg_forest.specs.Forests.{IsLive, AreLive}
 
 -- from end to end; the whole sentence is wider than each region
 abbrev pub key_width : List (List Disjunct) → Key → ℕ
@@ -46,3 +46,9 @@ pub record Grown (positions : List (List Disjunct)) (lists : List (List Connecto
 -- what is asked for from the keys of a kind on
 abbrev pub ReachedFrom : List (List Disjunct) → List (List Connector) → (Key → Type 0) → Key → Type 0
 ReachedFrom positions lists Kind n = (m : Key) × Kind m × Reaches positions lists m n
+
+-- A key has a linkage exactly where one of its alternatives is live, and the keys of its alternatives are narrower and may be
+-- asked for.
+pub record KeysAreDecided (positions : List (List Disjunct)) (lists : List (List Connector)) : Type 0 where
+  pub below : (k : Key) (a : Alt) → IsValidKey positions lists k → IsAltOf positions lists k a → AreBelow positions lists (key_width positions k) a
+  pub decides : (k : Key) → IsValidKey positions lists k → HasLinkageUnder positions lists k ↔ ((a : Alt) × IsAltOf positions lists k a × IsLive positions lists a)

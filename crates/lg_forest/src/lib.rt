@@ -1,4 +1,4 @@
-//! Probe.
+//! The packed forest of a problem.
 #![tactic(auto)]
 
-mod probe;
+mod law;

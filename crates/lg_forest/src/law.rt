@@ -1,0 +1,17 @@
+//! Laws of keys, each the contract of a function without a body.
+ghost use Rattle.std.specs.Prelude.{List};
+ghost use Rattle.lg_gram.specs.Connectors.{Connector};
+ghost use Rattle.lg_gram.specs.declared.disjunct.Disjunct.{Disjunct};
+ghost use Rattle.lg_region.specs.Fronts.{AreListsOf};
+ghost use Rattle.lg_forest.specs.Search.{KeysAreDecided};
+
+use lg_region::law::{alternatives_decide, cuts_are_valid, numbers_tell_lists_apart};
+
+/// A key has a linkage exactly where one of its alternatives is live, and the keys of its alternatives are narrower.
+pub(crate) fn keys_are_decided()
+    ensures { (positions : List (List Disjunct)) (lists : List (List Connector)) → AreListsOf positions lists → KeysAreDecided positions lists }
+{
+    alternatives_decide();
+    cuts_are_valid();
+    numbers_tell_lists_apart();
+}
