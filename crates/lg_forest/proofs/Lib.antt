@@ -1,2 +1,4 @@
 pub mod Below
 pub mod Decide
+pub mod Once
+pub mod Tables
