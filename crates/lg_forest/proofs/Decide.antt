@@ -70,8 +70,12 @@ region_of positions lists k (At word number to_left to_right (Some lkey) (Some r
 region_of positions lists k (At word number to_left to_right (Some lkey) None) is live = absurd is
 region_of positions lists k (At word number to_left to_right None rkey) is live = absurd is
 
-pub decided : (positions : List (List Disjunct)) (lists : List (List Connector)) → CutsAreValid → AlternativesDecide → WholeAlternativesDecide → NumbersTellListsApart positions lists → KeysAreDecided positions lists
-decided positions lists valid regions wholes numbers = record { below = λ k a v is. below positions lists k a valid v is; decides = by_kind }
+pub decided : (positions : List (List Disjunct)) (lists : List (List Connector)) → CutsAreValid → AlternativesDecide → WholeAlternativesDecide → NumbersTellListsApart positions lists → KeysAreDecided (record { positions = positions; lists = lists })
+decided positions lists valid regions wholes numbers = record {
+  valid = λ k a v is. (below positions lists k a valid v is).0;
+  below = λ k a v is. (below positions lists k a valid v is).1;
+  decides = by_kind;
+}
   where
     by_kind : (k : Key) → IsValidKey positions lists k → HasLinkageUnder positions lists k ↔ ((a : Alt) × IsAltOf positions lists k a × IsLive positions lists a)
     by_kind (Whole nulls) v = (

@@ -2,3 +2,5 @@ pub mod Below
 pub mod Decide
 pub mod Once
 pub mod Tables
+pub mod Asked
+pub mod Flags

@@ -1,9 +1,10 @@
 -- The table of the keys that were asked for.
-use Rattle.std.specs.Prelude.{◌≡◌, ◌↔◌, ℕ, suc, ◌+◌, ◌-◌, ◌<◌, List, length, Option, None, Some, ◌⊎◌, IfSome}
+use Rattle.std.specs.Prelude.{◌≡◌, ◌↔◌, ℕ, zero, suc, ◌+◌, ◌-◌, ◌^◌, ◌<◌, ◌≤◌, max, List, length, Option, None, Some, ◌⊎◌, IfSome}
 use Rattle.std.specs.List.{Contains}
 use Rattle.std.specs.Map.{keys_of}
 use Rattle.lg_gram.specs.Connectors.{Connector}
 use Rattle.lg_gram.specs.declared.disjunct.Disjunct.{Disjunct}
+use Rattle.lg_region.specs.Fronts.{Numbering}
 use Rattle.lg_region.specs.Keys.{IsValidKey, IsAltOf}
 use Rattle.lg_region.specs.declared.key.Key.{Key}
 use Rattle.lg_region.specs.declared.key.Key.TheVariants.{Whole, Region as Between}
@@ -16,39 +17,50 @@ abbrev pub key_width : List (List Disjunct) → Key → ℕ
 key_width positions (Whole nulls) = suc (length positions)
 key_width positions (Between left right llist rlist nulls) = right - left
 
--- a key that may be asked for, narrower than n
-pub record IsBelow (positions : List (List Disjunct)) (lists : List (List Connector)) (n : ℕ) (k : Key) : Type 0 where
-  pub valid : IsValidKey positions lists k
-  pub narrow : key_width positions k < n
+-- the least number that is above the width of the key, if there is one
+abbrev pub part_bound : List (List Disjunct) → Option Key → ℕ
+part_bound positions None = zero
+part_bound positions (Some k) = suc (key_width positions k)
 
--- both keys of an alternative are
-pub record AreBelow (positions : List (List Disjunct)) (lists : List (List Connector)) (n : ℕ) (a : Alt) : Type 0 where
-  pub left : IfSome (left_key a) (IsBelow positions lists n)
-  pub right : IfSome (right_key a) (IsBelow positions lists n)
+-- the same of both keys of an alternative
+abbrev pub alt_bound : List (List Disjunct) → Alt → ℕ
+alt_bound positions a = max (part_bound positions (left_key a)) (part_bound positions (right_key a))
 
--- what an alternative asks for
-pub data AsksOf (positions : List (List Disjunct)) (lists : List (List Connector)) (a : Alt) : Key → Type 0 where
-  left : (next : Key) → left_key a ≡ Some next → AsksOf positions lists a next
-  right : (next : Key) → right_key a ≡ Some next → IfSome (left_key a) (HasLinkageUnder positions lists) → AsksOf positions lists a next
-
--- each key of the table may be asked for, has its live alternatives, and has all in the table that it asks for
-pub record IsTable (positions : List (List Disjunct)) (lists : List (List Connector)) (entries : List (Key × List Alt)) : Type 0 where
-  pub valid : (k : Key) → Contains (keys_of entries) k → IsValidKey positions lists k
-  pub live : (k : Key) (alts : List Alt) → Contains entries (k, alts) → AreLive positions lists k alts
-  pub closed : (k m : Key) → Contains (keys_of entries) k → AsksNext positions lists k m → Contains (keys_of entries) m
-
--- the table has all keys that it had, and what is new in it is of a kind
-pub record Grown (positions : List (List Disjunct)) (lists : List (List Connector)) (Kind : Key → Type 0) (old new : List (Key × List Alt)) : Type 0 where
-  pub is_table : IsTable positions lists new
-  pub kept : (k : Key) → Contains (keys_of old) k → Contains (keys_of new) k
-  pub fresh : (k : Key) → Contains (keys_of new) k → Contains (keys_of old) k ⊎ Kind k
-
--- what is asked for from the keys of a kind on
-abbrev pub ReachedFrom : List (List Disjunct) → List (List Connector) → (Key → Type 0) → Key → Type 0
-ReachedFrom positions lists Kind n = (m : Key) × Kind m × Reaches positions lists m n
+-- both keys of an alternative may be asked for
+pub record HasValidKeys (n : Numbering) (a : Alt) : Type 0 where
+  pub left : IfSome (left_key a) (IsValidKey n.positions n.lists)
+  pub right : IfSome (right_key a) (IsValidKey n.positions n.lists)
 
 -- A key has a linkage exactly where one of its alternatives is live, and the keys of its alternatives are narrower and may be
 -- asked for.
-pub record KeysAreDecided (positions : List (List Disjunct)) (lists : List (List Connector)) : Type 0 where
-  pub below : (k : Key) (a : Alt) → IsValidKey positions lists k → IsAltOf positions lists k a → AreBelow positions lists (key_width positions k) a
-  pub decides : (k : Key) → IsValidKey positions lists k → HasLinkageUnder positions lists k ↔ ((a : Alt) × IsAltOf positions lists k a × IsLive positions lists a)
+pub record KeysAreDecided (n : Numbering) : Type 0 where
+  pub valid : (k : Key) (a : Alt) → IsValidKey n.positions n.lists k → IsAltOf n.positions n.lists k a → HasValidKeys n a
+  pub below : (k : Key) (a : Alt) → IsValidKey n.positions n.lists k → IsAltOf n.positions n.lists k a → alt_bound n.positions a ≤ key_width n.positions k
+  pub decides : (k : Key) → IsValidKey n.positions n.lists k → HasLinkageUnder n.positions n.lists k ↔ ((a : Alt) × IsAltOf n.positions n.lists k a × IsLive n.positions n.lists a)
+
+-- what an alternative asks for
+pub data AsksOf (n : Numbering) (a : Alt) : Key → Type 0 where
+  left : (next : Key) → left_key a ≡ Some next → AsksOf n a next
+  right : (next : Key) → right_key a ≡ Some next → IfSome (left_key a) (HasLinkageUnder n.positions n.lists) → AsksOf n a next
+
+-- each key of the table may be asked for, has its live alternatives, and has all in the table that it asks for
+pub record IsTable (n : Numbering) (entries : List (Key × List Alt)) : Type 0 where
+  pub valid : (k : Key) → Contains (keys_of entries) k → IsValidKey n.positions n.lists k
+  pub live : (k : Key) (alts : List Alt) → Contains entries (k, alts) → AreLive n.positions n.lists k alts
+  pub closed : (k m : Key) → Contains (keys_of entries) k → AsksNext n.positions n.lists k m → Contains (keys_of entries) m
+
+-- The keys of a kind were asked for: they are in the table with all that was there, and what is new in it is one of them or was
+-- asked for, in turn, from one.
+pub record Asked (n : Numbering) (Kind : Key → Type 0) (old new : List (Key × List Alt)) : Type 0 where
+  pub is_table : IsTable n new
+  pub kept : (k : Key) → Contains (keys_of old) k → Contains (keys_of new) k
+  pub there : (k : Key) → Kind k → Contains (keys_of new) k
+  pub fresh : (k : Key) → Contains (keys_of new) k → Contains (keys_of old) k ⊎ ((m : Key) × Kind m × Reaches n.positions n.lists m k)
+
+-- as many steps were counted as there are new keys, and so many more
+abbrev pub IsCounted : ℕ → ℕ → List (Key × List Alt) → ℕ → List (Key × List Alt) → Type 0
+IsCounted more before old after new = after + length old ≡ more + before + length new
+
+-- there is room to count the steps of the keys that are narrower than a width
+abbrev pub HasRoom : ℕ → ℕ → List (Key × List Alt) → Type 0
+HasRoom width steps entries = steps + width ≤ 2 ^ 126 + 2 ^ 10 + length entries

@@ -9,7 +9,7 @@ use lg_region::law::{alternatives_decide, cuts_are_valid, numbers_tell_lists_apa
 
 /// A key has a linkage exactly where one of its alternatives is live, and the keys of its alternatives are narrower.
 pub(crate) fn keys_are_decided()
-    ensures { (positions : List (List Disjunct)) (lists : List (List Connector)) → AreListsOf positions lists → KeysAreDecided positions lists }
+    ensures { (positions : List (List Disjunct)) (lists : List (List Connector)) → AreListsOf positions lists → KeysAreDecided (record { positions = positions; lists = lists }) }
 {
     alternatives_decide();
     cuts_are_valid();

@@ -2,4 +2,5 @@
 #![tactic(auto)]
 
 mod law;
+mod search;
 mod table;

@@ -1,0 +1,4 @@
+use Rattle.lg_forest.proofs.search.keep.Goals as goal
+
+pub returns : goal.returns
+returns c = ?
