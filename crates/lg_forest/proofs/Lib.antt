@@ -4,3 +4,5 @@ pub mod Once
 pub mod Tables
 pub mod Asked
 pub mod Flags
+pub mod FirstMet
+pub mod Solved

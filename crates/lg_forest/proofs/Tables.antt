@@ -1,5 +1,6 @@
 -- What a hash table tells of its entries, where `==` at the keys tells whether they are the same.
-use Rattle.std.proofs.Common.{◌≡◌, ℕ, refl, sym, ap, ◌∙◌, subst, Bool, true, false, List, [], ◌∷◌, ◌++◌, Option, Some, None, IsSome, MatchOption, Contains, Bor, rules}
+use Rattle.std.proofs.Common.{◌≡◌, ◌≢◌, ◌↔◌, ℕ, refl, sym, ap, ◌∙◌, subst, Bool, true, false, true≢false, List, [], ◌∷◌, ◌++◌, Option, Some, None, IsSome, MatchOption, Contains, Bor, rules}
+use Rattle.std.specs.List.{filter}
 use Rattle.std.specs.Cmp.{IsEquivalence}
 use Rattle.std.specs.Bool.{Decides}
 use Rattle.std.specs.Map.{keys_of, lookup}
@@ -8,6 +9,7 @@ use Rattle.std.proofs.lemmas.Map.Views.{Contains-from_lookup, Contains-keys_from
 use Rattle.indexmap.specs.IndexMap.{IndexMap, keys, get, insert_entry}
 use Rattle.indexmap.proofs.CallerLemmas.{insert_entry-new}
 use Rattle.lg_region.specs.declared.key.Key.{Key}
+use Rattle.lg_forest.proofs.Once.{filter_in, filter_out}
 use Rattle.lg_region.specs.contracts.key.KeyPartialEq.TheImpl.{eq-value}
 
 -- the test of `==` at keys
@@ -36,3 +38,23 @@ module _ {X : Type 0} where
   -- a key that is not there is added last
   pub added : {S : Type 0} (m : IndexMap Key X S) (k : Key) (v : X) → (Contains (keys m) k → ⊥) → insert_entry key_eq m.entries k v ≡ m.entries ++ (k, v) ∷ []
   added m k v new = insert_entry-new key_eq m k v (missing m.entries k new)
+
+-- some alternative is there
+abbrev pub is_live : {X : Type 0} → List X → Bool
+is_live [] = false
+is_live (x ∷ xs) = true
+
+live_some : {X : Type 0} (xs : List X) → is_live xs ≡ true → xs ≢ []
+live_some [] t e = true≢false (sym t)
+live_some (x ∷ xs) t e = cc
+
+some_live : {X : Type 0} (xs : List X) → (xs ≢ []) → is_live xs ≡ true
+some_live [] ne = absurd (ne refl)
+some_live (x ∷ xs) ne = refl
+
+-- the entries that are kept
+pub kept_entries : {X : Type 0} (es kept : List (Key × List X)) → kept ≡ filter (λ (e : Key × List X). is_live e.1) es → (k : Key) (v : List X) → Contains kept (k, v) ↔ (Contains es (k, v) × (v ≢ []))
+kept_entries {X} es kept e k v = (
+  (λ h. let r = filter_out (λ (p : Key × List X). is_live p.1) es (k, v) (subst (λ z. Contains z (k, v)) e h) in (r.0, live_some v r.1)),
+  (λ h. subst (λ z. Contains z (k, v)) (sym e) (filter_in (λ (p : Key × List X). is_live p.1) es (k, v) h.0 (some_live v h.1))),
+)

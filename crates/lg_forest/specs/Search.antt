@@ -64,3 +64,7 @@ IsCounted more before old after new = after + length old ≡ more + before + len
 -- there is room to count the steps of the keys that are narrower than a width
 abbrev pub HasRoom : ℕ → ℕ → List (Key × List Alt) → Type 0
 HasRoom width steps entries = steps + width ≤ 2 ^ 126 + 2 ^ 10 + length entries
+
+-- the whole sentence, with `from` unlinked words or more, and fewer than `end`
+abbrev pub IsWholeFrom : ℕ → ℕ → Key → Type 0
+IsWholeFrom from end k = (nulls : ℕ) × (from ≤ nulls) × (nulls < end) × (k ≡ Whole nulls)

@@ -1,6 +1,9 @@
 //! The packed forest of a problem.
 #![tactic(auto)]
 
+pub mod forest;
 mod law;
 mod search;
 mod table;
+
+pub use forest::{Forest, solve, solve_at};

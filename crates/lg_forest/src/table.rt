@@ -1,8 +1,9 @@
 //! The keys that were asked for, each with its live alternatives.
-ghost use Rattle.std.specs.Prelude.{◌≡◌, ◌↔◌, ◌<◌, ◌^◌, [], ◌∷◌, ◌++◌, IsTrue, MatchOption, OnOk, List, length};
+ghost use Rattle.std.specs.Prelude.{◌≡◌, ◌≢◌, ◌↔◌, ◌<◌, ◌^◌, [], ◌∷◌, ◌++◌, IsTrue, MatchOption, OnOk, List, length};
 ghost use Rattle.std.specs.List.{Contains};
 ghost use Rattle.std.specs.Map.{keys_of};
 ghost use Rattle.lg_region.specs.Fronts.{AreOnce};
+ghost use Rattle.lg_region.specs.declared.key.Key.{Key};
 ghost use Rattle.lg_region.specs.declared.alternative.Alt.{Alt};
 
 use indexmap::IndexMap;
@@ -60,5 +61,13 @@ impl Table {
     {
         self.found.insert(key, alts)?;
         Ok(())
+    }
+
+    /// Lets the keys go that have no alternative.
+    pub fn forget_dead(&mut self)
+        ensures live { (k : Key) (alts : List Alt) → Contains self.new (k, alts) ↔ (Contains self.old (k, alts) × (alts ≢ [])) }
+        ensures once { AreOnce (keys_of self.new) }
+    {
+        self.found.retain(|_key, alts| !alts.is_empty());
     }
 }
