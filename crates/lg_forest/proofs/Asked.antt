@@ -14,8 +14,9 @@ use Rattle.lg_region.specs.declared.alternative.Alt.{Alt}
 use Rattle.lg_forest.specs.Demands.{HasLinkageUnder, AsksNext, Reaches, left_key, right_key}
 use Rattle.lg_forest.specs.Demands.AsksNext.{left, right}
 use Rattle.lg_forest.specs.Demands.Reaches.{itself, onward}
+use Rattle.lg_forest.specs.declared.search.Last.{Last}
 use Rattle.lg_forest.specs.Forests.{IsLive, AreLive}
-use Rattle.lg_forest.specs.Search.{KeysAreDecided, IsTable, HasValidKeys, Asked, AsksOf, key_width, part_bound, alt_bound}
+use Rattle.lg_forest.specs.Search.{KeysAreDecided, IsTable, IsLast, HasValidKeys, Asked, AsksOf, key_width, part_bound, alt_bound}
 use Rattle.lg_forest.specs.Search.AsksOf.{left as asks_left, right as asks_right}
 use Rattle.lg_forest.proofs.Once.{contains_here, contains_none, contains_map, contains_at}
 
@@ -197,3 +198,11 @@ exact n k alts items e exactly = subst (λ z. (a : Alt) → Contains z a ↔ IsA
 
 pub alt_at : (n : Numbering) (k : Key) (alts : List Alt) (i : ℕ) (a : Alt) → ((a : Alt) → Contains alts a ↔ IsAltOf n.positions n.lists k a) → slice_get alts i ≡ Some a → IsAltOf n.positions n.lists k a
 alt_at n k alts i a exactly at = (exactly a).0 (contains_at alts i a at)
+
+some_as : {A : Type 0} (o : Option A) (P Q : A → Type 0) → ((x : A) → P x → Q x) → IfSome o P → IfSome o Q
+some_as None P Q f h = tt
+some_as (Some x) P Q f h = f x h
+
+-- what is known of the last key stays right
+pub last_kept : (n : Numbering) (old new : Entries) (last : Last) → ((k : Key) → Contains (keys_of old) k → Contains (keys_of new) k) → IsLast n old last → IsLast n new last
+last_kept n old new last more is = record { live = is.live; there = some_as last.key (Contains (keys_of old)) (Contains (keys_of new)) more is.there }

@@ -1,5 +1,5 @@
 -- The table of the keys that were asked for.
-use Rattle.std.specs.Prelude.{◌≡◌, ◌↔◌, ℕ, zero, suc, ◌+◌, ◌-◌, ◌^◌, ◌<◌, ◌≤◌, max, List, length, Option, None, Some, ◌⊎◌, IfSome}
+use Rattle.std.specs.Prelude.{◌≡◌, ◌↔◌, ℕ, zero, suc, ◌+◌, ◌-◌, ◌^◌, ◌<◌, ◌≤◌, max, List, length, Option, None, Some, ◌⊎◌, IfSome, IsTrue}
 use Rattle.std.specs.List.{Contains}
 use Rattle.std.specs.Map.{keys_of}
 use Rattle.lg_gram.specs.Connectors.{Connector}
@@ -11,6 +11,7 @@ use Rattle.lg_region.specs.declared.key.Key.TheVariants.{Whole, Region as Betwee
 use Rattle.lg_region.specs.declared.alternative.Alt.{Alt}
 use Rattle.lg_forest.specs.Demands.{HasLinkageUnder, left_key, right_key, AsksNext, Reaches}
 use Rattle.lg_forest.specs.Forests.{IsLive, AreLive}
+use Rattle.lg_forest.specs.declared.search.Last.{Last}
 
 -- from end to end; the whole sentence is wider than each region
 abbrev pub key_width : List (List Disjunct) → Key → ℕ
@@ -56,6 +57,11 @@ pub record Asked (n : Numbering) (Kind : Key → Type 0) (old new : List (Key ×
   pub kept : (k : Key) → Contains (keys_of old) k → Contains (keys_of new) k
   pub there : (k : Key) → Kind k → Contains (keys_of new) k
   pub fresh : (k : Key) → Contains (keys_of new) k → Contains (keys_of old) k ⊎ ((m : Key) × Kind m × Reaches n.positions n.lists m k)
+
+-- the last key is in the table, and whether it has a linkage is known
+pub record IsLast (n : Numbering) (entries : List (Key × List Alt)) (last : Last) : Type 0 where
+  pub live : IsTrue last.live ↔ IfSome last.key (HasLinkageUnder n.positions n.lists)
+  pub there : IfSome last.key (Contains (keys_of entries))
 
 -- as many steps were counted as there are new keys, and so many more
 abbrev pub IsCounted : ℕ → ℕ → List (Key × List Alt) → ℕ → List (Key × List Alt) → Type 0

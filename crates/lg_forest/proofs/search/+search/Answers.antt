@@ -1,11 +1,11 @@
 use Rattle.std.proofs.Common.{◌≡◌, ◌↔◌, ◌+◌, ◌∙◌, true≢false, Option, subst, sym, ap, Some, IsTrue, IfOk, OnOk, IfSome, length, take, slice_get, Contains, arith, rules}
 use Rattle.lg_region.specs.Keys.{kept}
-use Rattle.lg_forest.specs.Demands.{HasLinkageUnder, AsksNext}
+use Rattle.lg_forest.specs.Demands.{HasLinkageUnder, left_key}
 use Rattle.lg_forest.specs.Forests.{IsLive, AreLive}
-use Rattle.lg_forest.specs.Search.{Asked, AsksOf}
+use Rattle.lg_forest.specs.Search.{Asked, AsksOf, IsLast}
 use Rattle.lg_region.specs.declared.key.Key.{Key}
 use Rattle.lg_region.specs.declared.alternative.Alt.TheVariants.{Split as At}
-use Rattle.lg_forest.proofs.Asked.{live_decides, not_there, asked_added, asked_as, asked_more, asked_all, asked_left, asked_both, ok_as, on_ok_as, alt_at, exact}
+use Rattle.lg_forest.proofs.Asked.{live_decides, not_there, asked_added, asked_as, asked_more, asked_all, asked_left, asked_both, ok_as, on_ok_as, last_kept, alt_at, exact}
 use Rattle.lg_forest.proofs.Flags.{Flags, kept_live, flags_long, flags_more, all_flags}
 use Rattle.lg_forest.proofs.search.+search.Goals as goal
 
@@ -18,7 +18,7 @@ explore-is_live-requires g t c κs within =
     let below = c.requires.decided.below c.args.key c.get.result c.requires.key is in
     let steps = c.loop-index.invariant.steps in
     let room = c.requires.room in
-    (search rules, (search rules, (c.requires.decided, (c.requires.decided.valid c.args.key c.get.result c.requires.key is, (c.loop-index.invariant.asked.is_table, omega arith)))))
+    (search rules, (search rules, (c.requires.decided, (c.requires.decided.valid c.args.key c.get.result c.requires.key is, (c.loop-index.invariant.asked.is_table, (c.loop-index.invariant.last, omega arith))))))
 
 pub explore-loop-index-preserved : goal.explore-loop-index-preserved
 explore-loop-index-preserved g t c =
@@ -30,6 +30,7 @@ explore-loop-index-preserved g t c =
   asked = asked_more n c.alts.inside.items.items c.loop-index.index (c.loop-index.index + 1) c.get.result c.args.table.now c.loop-index.table c.is_live.new.table at (omega arith) c.loop-index.invariant.asked c.in_ok-live.ensures.asked;
   flags = subst (λ z. Flags (IsLive n.positions n.lists) (take (c.loop-index.index + 1) c.alts.inside.items.items) z) (sym c.in_ok-push.ensures.items)
       (flags_more (IsLive n.positions n.lists) c.alts.inside.items.items c.loop-index.index (c.loop-index.index + 1) c.get.result c.loop-index.flags.items c.in_ok-live.live at (omega arith) c.loop-index.invariant.flags c.in_ok-live.ensures.live);
+  last = c.in_ok-live.ensures.last;
   steps = omega arith;
 }
 
@@ -54,25 +55,39 @@ explore-returns-clause-asked g t c =
 pub is_live-returns-then-branch-clause-live : goal.is_live-returns-then-branch-clause-live
 is_live-returns-then-branch-clause-live g t c =
     let n = c.args.lists.now in
-    subst (λ z. IfOk c.visit_part-then-branch.result (λ live. IsTrue live ↔ IsLive n.positions n.lists z)) (sym c.in-Split.is)
-    (ok_as c.visit_part-then-branch.result (λ found. IsTrue found ↔ IfSome c.in-Split.rkey (HasLinkageUnder n.positions n.lists)) (λ live. IsTrue live ↔ IsLive n.positions n.lists (At c.in-Split.word c.in-Split.disjunct c.in-Split.to_left c.in-Split.to_right c.in-Split.lkey c.in-Split.rkey))
-        (λ found h. ((λ yes. record { left = c.in_ok-visit_part-in-Split.ensures.found.0 c.if-branch.true; right = h.0 yes }), (λ live. h.1 live.right)))
-        c.visit_part-then-branch.ensures.found)
+    subst (λ z. IfOk c.visit_part.result (λ live. IsTrue live ↔ IsLive n.positions n.lists z)) (sym c.in-Split.is)
+    (ok_as c.visit_part.result (λ found. IsTrue found ↔ IfSome c.in-Split.rkey (HasLinkageUnder n.positions n.lists)) (λ live. IsTrue live ↔ IsLive n.positions n.lists (At c.in-Split.word c.in-Split.disjunct c.in-Split.to_left c.in-Split.to_right c.in-Split.lkey c.in-Split.rkey))
+        (λ found h. ((λ yes. record { left = c.in_ok-visit_left-in-Split.ensures.found.0 c.if-branch.true; right = h.0 yes }), (λ live. h.1 live.right)))
+        c.visit_part.ensures.found)
 
 pub is_live-returns-then-branch-clause-asked : goal.is_live-returns-then-branch-clause-asked
 is_live-returns-then-branch-clause-asked g t c =
     let n = c.args.lists.now in
-    subst (λ z. OnOk c.visit_part-then-branch.result (Asked n (AsksOf n z) c.args.table.now c.visit_part-then-branch.new.table)) (sym c.in-Split.is)
-    (on_ok_as c.visit_part-then-branch.result (Asked n (λ k. c.in-Split.rkey ≡ Some k) c.visit_part.new.table c.visit_part-then-branch.new.table) (Asked n (AsksOf n (At c.in-Split.word c.in-Split.disjunct c.in-Split.to_left c.in-Split.to_right c.in-Split.lkey c.in-Split.rkey)) c.args.table.now c.visit_part-then-branch.new.table)
-        (λ y. asked_both n (At c.in-Split.word c.in-Split.disjunct c.in-Split.to_left c.in-Split.to_right c.in-Split.lkey c.in-Split.rkey) c.args.table.now c.visit_part.new.table c.visit_part-then-branch.new.table (c.in_ok-visit_part-in-Split.ensures.found.0 c.if-branch.true) c.in_ok-visit_part-in-Split.ensures.asked y)
-        c.visit_part-then-branch.ensures.asked)
+    subst (λ z. OnOk c.visit_part.result (Asked n (AsksOf n z) c.args.table.now c.visit_part.new.table)) (sym c.in-Split.is)
+    (on_ok_as c.visit_part.result (Asked n (λ k. c.in-Split.rkey ≡ Some k) c.visit_left.new.table c.visit_part.new.table) (Asked n (AsksOf n (At c.in-Split.word c.in-Split.disjunct c.in-Split.to_left c.in-Split.to_right c.in-Split.lkey c.in-Split.rkey)) c.args.table.now c.visit_part.new.table)
+        (λ y. asked_both n (At c.in-Split.word c.in-Split.disjunct c.in-Split.to_left c.in-Split.to_right c.in-Split.lkey c.in-Split.rkey) c.args.table.now c.visit_left.new.table c.visit_part.new.table (c.in_ok-visit_left-in-Split.ensures.found.0 c.if-branch.true) c.in_ok-visit_left-in-Split.ensures.asked y)
+        c.visit_part.ensures.asked)
+
+pub is_live-returns-then-branch-clause-last : goal.is_live-returns-then-branch-clause-last
+is_live-returns-then-branch-clause-last g t c =
+    let n = c.args.lists.now in
+    on_ok_as c.visit_part.result (Asked n (λ k. c.in-Split.rkey ≡ Some k) c.visit_left.new.table c.visit_part.new.table) (IsLast n c.visit_part.new.table c.visit_left.new.last)
+    (λ x. last_kept n c.visit_left.new.table c.visit_part.new.table c.visit_left.new.last x.kept c.in_ok-visit_left-in-Split.ensures.last)
+    c.visit_part.ensures.asked
+
+pub is_live-returns-else-branch-clause-live : goal.is_live-returns-else-branch-clause-live
+is_live-returns-else-branch-clause-live g t c =
+    let n = c.args.lists.now in (
+      (λ yes. absurd (true≢false (sym yes))),
+      (λ live. absurd (true≢false (sym (c.in_ok-visit_left-in-Split.ensures.found.1 (subst (λ z. IfSome (left_key z) (HasLinkageUnder n.positions n.lists)) c.in-Split.is live.left)) ∙ c.if-branch.false))),
+    )
 
 pub is_live-returns-else-branch-clause-asked : goal.is_live-returns-else-branch-clause-asked
 is_live-returns-else-branch-clause-asked g t c =
     let n = c.args.lists.now in
-    subst (λ z. Asked n (AsksOf n z) c.args.table.now c.visit_part.new.table) (sym c.in-Split.is)
-    (asked_left n (At c.in-Split.word c.in-Split.disjunct c.in-Split.to_left c.in-Split.to_right c.in-Split.lkey c.in-Split.rkey) c.args.table.now c.visit_part.new.table
-        (λ live. true≢false (sym (c.in_ok-visit_part-in-Split.ensures.found.1 live) ∙ c.if-branch.false)) c.in_ok-visit_part-in-Split.ensures.asked)
+    subst (λ z. Asked n (AsksOf n z) c.args.table.now c.visit_left.new.table) (sym c.in-Split.is)
+    (asked_left n (At c.in-Split.word c.in-Split.disjunct c.in-Split.to_left c.in-Split.to_right c.in-Split.lkey c.in-Split.rkey) c.args.table.now c.visit_left.new.table
+        (λ live. true≢false (sym (c.in_ok-visit_left-in-Split.ensures.found.1 live) ∙ c.if-branch.false)) c.in_ok-visit_left-in-Split.ensures.asked)
 
 pub visit-returns-in-Some-clause-found : goal.visit-returns-in-Some-clause-found
 visit-returns-in-Some-clause-found g t c =
