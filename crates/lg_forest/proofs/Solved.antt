@@ -108,3 +108,12 @@ asked_one n nulls old new x =
     (λ k e. (nulls, omega arith, omega arith, e))
     (λ k h. let le = h.1 in let lt = h.2 in let e : h.0 ≡ nulls = omega arith in h.3 ∙ ap Whole e)
     x
+
+-- the keys of a forest are counted by its entries
+pub nodes_counted : (positions : List (List Disjunct)) (from : ℕ) (forest : Forest) (n : ℕ) (is : IsForest positions from forest) → n ≡ length forest.entries → CountsKeys (λ k. IsDemanded positions is.lists from forest.unused k × HasLinkageUnder positions is.lists k) n
+nodes_counted positions from forest n is e = record {
+  keys = keys_of forest.entries;
+  exactly = is.nodes;
+  once = is.once;
+  count = e ∙ sym (length-map forest.entries (λ (p : Key × List Alt). p.0));
+}

@@ -1,3 +1,4 @@
 pub mod Demands
 pub mod Forests
 pub mod Search
+pub mod Drafts

@@ -4,10 +4,11 @@ ghost use Rattle.std.specs.Map.{keys_of};
 ghost use Rattle.lg_gram.specs.Connectors.{Connector};
 ghost use Rattle.lg_gram.specs.Levels.{IsFewest};
 ghost use Rattle.lg_gram.specs.Limits.{POSITIONS};
+ghost use Rattle.lg_gram.specs.declared.disjunct.Disjunct.{Disjunct};
 ghost use Rattle.lg_region.specs.Fronts.{AreListsOf, AreOnce};
 ghost use Rattle.lg_region.specs.declared.key.Key.{Key};
 ghost use Rattle.lg_region.specs.declared.alternative.Alt.{Alt};
-ghost use Rattle.lg_forest.specs.Demands.{IsDemanded};
+ghost use Rattle.lg_forest.specs.Demands.{IsDemanded, HasLinkageUnder};
 ghost use Rattle.lg_forest.specs.Forests.{IsForest, CountsKeys};
 ghost use Rattle.lg_forest.specs.Search.{KeysAreDecided, Asked, IsWholeFrom, IsCounted};
 
@@ -60,9 +61,10 @@ impl Forest {
         self.unused
     }
 
-    /// How many keys there are.
+    /// How many keys there are: of a forest of a problem, the demanded keys that have a linkage.
     pub fn nodes(&self) -> u64
-        ensures { result ≡ length self.now.entries }
+        ensures entries { result ≡ length self.now.entries }
+        ensures counts { (positions : List (List Disjunct)) (from : ℕ) (is : IsForest positions from self.now) → CountsKeys (λ k. IsDemanded positions is.lists from self.now.unused k × HasLinkageUnder positions is.lists k) result }
     {
         self.live.len() as u64
     }

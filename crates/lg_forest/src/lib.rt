@@ -1,6 +1,7 @@
 //! The packed forest of a problem.
 #![tactic(auto)]
 
+mod draft;
 pub mod forest;
 mod law;
 mod search;
