@@ -6,3 +6,4 @@ pub mod Asked
 pub mod Flags
 pub mod FirstMet
 pub mod Solved
+pub mod Drafted

@@ -1,6 +1,7 @@
 //! Drafts of linkages, which are joined without order.
-ghost use Rattle.std.specs.Prelude.{◌≡◌, ◌++◌, ◌∷◌, [], IfOk};
-ghost use Rattle.lg_forest.specs.Drafts.{Draft as Seen};
+ghost use Rattle.std.specs.Prelude.{◌≡◌, ◌++◌, map, IfOk, OnOk};
+ghost use Rattle.std.specs.List.{flat_map};
+ghost use Rattle.lg_forest.specs.Drafts.{joined, empty};
 
 use lg_base::NoMemory;
 use lg_gram::Link;
@@ -32,7 +33,7 @@ impl Model for Draft {
 impl Draft {
     /// The draft in which no word is linked.
     pub fn empty(alloc: Global) -> Draft
-        ensures { result ≡ record { uses = []; links = [] } }
+        ensures { result ≡ empty }
     {
         Draft {
             uses: Vec::new(alloc),
@@ -48,7 +49,7 @@ impl Draft {
         used: Use,
         joints: &[Link],
     ) -> Result<Draft, NoMemory>
-        ensures { IfOk result (λ d. d ≡ record { uses = left.now.uses ++ (right.now.uses ++ used ∷ []); links = left.now.links ++ (right.now.links ++ joints.now) }) }
+        ensures { IfOk result (λ d. d ≡ joined used joints.now left.now right.now) }
     {
         let mut uses = left.uses.as_slice().to_vec(alloc)?;
         uses.extend_from_slice(right.uses.as_slice())?;
@@ -72,4 +73,38 @@ impl Draft {
     {
         self.links.as_slice()
     }
+}
+
+/// Each draft of the left part, joined with each of the right part.
+pub(crate) fn join_all(
+    alloc: Global,
+    lefts: &[Draft],
+    rights: &[Draft],
+    used: Use,
+    joints: &[Link],
+) -> Result<Vec<Draft>, NoMemory>
+    ensures { IfOk result (λ all. all.items ≡ flat_map (λ p. map (joined used joints.now p) rights.now) lefts.now) }
+{
+    let mut all = Vec::new(alloc);
+    for left in lefts {
+        join_each(alloc, left, rights, used, joints, &mut all)?;
+    }
+    Ok(all)
+}
+
+fn join_each(
+    alloc: Global,
+    left: &Draft,
+    rights: &[Draft],
+    used: Use,
+    joints: &[Link],
+    all: &mut Vec<Draft>,
+) -> Result<(), NoMemory>
+    ensures { OnOk result (all.new.items ≡ all.old.items ++ map (joined used joints.now left.now) rights.now) }
+{
+    for right in rights {
+        let draft = Draft::join(alloc, left, right, used, joints)?;
+        all.push(draft)?;
+    }
+    Ok(())
 }
