@@ -24,7 +24,7 @@ key_has positions lists (Whole nulls) k is = absurd is
 key_has positions lists (Between left right llist rlist nulls) k is = (subst (λ z. HasLinkage positions z) is.2, subst (λ z. HasLinkage positions z) (sym is.2))
 
 -- the number of a listed disjunct
-numbered : (positions : List (List Disjunct)) (word : ℕ) (d : Disjunct) → Contains (slice_index_or positions word []) d → (number : ℕ) × IsDisjunctAt positions word number d
+pub numbered : (positions : List (List Disjunct)) (word : ℕ) (d : Disjunct) → Contains (slice_index_or positions word []) d → (number : ℕ) × IsDisjunctAt positions word number d
 numbered positions word d (i, lt, at) = (i, subst (λ z. slice_get (slice_index_or positions word []) i ≡ Some z) at (slice_get-get_or (slice_index_or positions word []) i d lt))
 
 -- an alternative in numbers, from one that is not

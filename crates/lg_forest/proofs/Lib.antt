@@ -7,3 +7,4 @@ pub mod Flags
 pub mod FirstMet
 pub mod Solved
 pub mod Drafted
+pub mod Spelled
