@@ -39,7 +39,7 @@ part_narrow n o k w v b e =
     let s = ap (part_bound n.positions) e in
     (subst (λ z. IfSome z (IsValidKey n.positions n.lists)) e v, omega arith)
 
-next_narrow : (n : Numbering) (k m : Key) → KeysAreDecided n → IsValidKey n.positions n.lists k → AsksNext n.positions n.lists k m → IsValidKey n.positions n.lists m × (key_width n.positions m < key_width n.positions k)
+pub next_narrow : (n : Numbering) (k m : Key) → KeysAreDecided n → IsValidKey n.positions n.lists k → AsksNext n.positions n.lists k m → IsValidKey n.positions n.lists m × (key_width n.positions m < key_width n.positions k)
 next_narrow n k m d v (left a next is e) =
     let b = d.below k a v is in part_narrow n (left_key a) next (key_width n.positions k) (d.valid k a v is).left (omega arith) e
 next_narrow n k m d v (right a next is e h) =

@@ -8,3 +8,4 @@ pub mod FirstMet
 pub mod Solved
 pub mod Drafted
 pub mod Spelled
+pub mod Forested

@@ -33,10 +33,8 @@ pub(crate) fn drafts_under(
         return Ok(all);
     };
     for index in 0..alts.len() {
-        let drafts = drafts_of(alloc, problem, forest, key, alts.get(index))?;
-        for draft in drafts {
-            all.push(draft)?;
-        }
+        let mut drafts = drafts_of(alloc, problem, forest, key, alts.get(index))?;
+        all.append(&mut drafts)?;
     }
     Ok(all)
 }

@@ -1,9 +1,8 @@
-use Rattle.std.proofs.Common.{◌+◌, ◌*◌, ℕ, ◌++◌, take, Contains, List}
-use Rattle.lg_gram.specs.Linkages.{Linkage}
+use Rattle.std.proofs.Common.{◌+◌, ◌*◌, ℕ}
 use Rattle.lg_forest.specs.Forests.{IsForest}
 use Rattle.lg_forest.specs.Search.{key_width, part_bound, alt_bound}
-use Rattle.lg_forest.specs.Drafts.{AreDraftsOf, IsSpelled}
-use Rattle.lg_region.specs.declared.alternative.Alt.{Alt}
+use Rattle.lg_forest.specs.Drafts.{AreDraftsOf}
+use Rattle.lg_forest.proofs.Forested.{SpelledBy}
 use Rattle.lg_forest.proofs.spell.+spell.Given as goal
 
 abbrev pub decreases-drafts_under : goal.decreases-drafts_under
@@ -14,3 +13,7 @@ decreases-drafts_of l = 3 * alt_bound l.problem.now l.alt + 1
 
 abbrev pub decreases-drafts_of_part : goal.decreases-drafts_of_part
 decreases-drafts_of_part l = 3 * part_bound l.problem.now l.key
+
+-- drafts of what the alternatives so far spell
+abbrev pub invariant-drafts_under-loop-index : goal.invariant-drafts_under-loop-index
+invariant-drafts_under-loop-index l = (from : ℕ) (is : IsForest l.problem from l.forest) → AreDraftsOf l.problem (SpelledBy l.problem is.lists l.key l.alts l.index) l.all.items
