@@ -17,3 +17,13 @@ pub mod Begin
 pub mod Made
 pub mod Parting
 pub mod Numbers
+pub mod Ends
+pub mod Keeping
+pub mod Firsts
+pub mod Admitting
+pub mod Growing
+pub mod Once
+pub mod Going
+pub mod Splitting
+pub mod Expanding
+pub mod Keeps

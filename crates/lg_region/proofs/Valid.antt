@@ -16,7 +16,7 @@ take_nil zero cs e = refl
 take_nil (suc m) [] e = refl
 take_nil (suc m) (c ∷ cs) e = absurd (let x = ap length e in omega arith)
 
-take_short : (cs : List Connector) (m : ℕ) → length (take m cs) ≤ m
+pub take_short : (cs : List Connector) (m : ℕ) → length (take m cs) ≤ m
 take_short cs zero = omega arith
 take_short [] (suc m) = omega arith
 take_short (c ∷ cs) (suc m) = let r = take_short cs m in omega arith

@@ -6,3 +6,5 @@ pub mod Fronts
 pub mod Keys
 pub mod Numbered
 pub mod Kept
+pub mod Ways
+pub mod Groups

@@ -1,5 +1,5 @@
 -- What is kept of each list: its last connector and the number of the rest; and the numbers of the lists of each disjunct.
-use Rattle.std.specs.Prelude.{◌≡◌, ℕ, suc, ◌<◌, ◌≤◌, List, [], ◌∷◌, ◌++◌, length, Some, slice_get, slice_index_or}
+use Rattle.std.specs.Prelude.{◌≡◌, ℕ, suc, ◌+◌, ◌<◌, ◌≤◌, List, [], ◌∷◌, ◌++◌, length, Some, slice_get, slice_index_or}
 use Rattle.std.specs.List.{AllZip}
 use Rattle.lg_gram.specs.Connectors.{Connector}
 use Rattle.lg_gram.specs.declared.disjunct.Disjunct.{Disjunct}
@@ -30,6 +30,28 @@ pub record IsNumberOf (lists : List (List Connector)) (id : ℕ) (cs : List Conn
 pub record HasSides (lists : List (List Connector)) (d : Disjunct) (s : Sides) : Type 0 where
   pub left : IsNumberOf lists s.left d.left
   pub right : IsNumberOf lists s.right d.right
+
+-- More lists are met: those that had a number keep it, and each of the others gets the next one.
+pub record Numbers (old : List (List Connector)) (old_tails : List Tail) (lists : List (List Connector)) (tails : List Tail) (more : List (List Connector)) : Type 0 where
+  pub grown : List (List Connector)
+  pub grows : lists ≡ old ++ grown
+  pub few : length lists ≤ length old + length more
+  pub level : length tails ≡ length lists
+  pub numbered : (met : List (List Connector)) → AreNumbered met old old_tails → AreNumbered (met ++ more) lists tails
+
+abbrev pub GivesNumber : List (List Connector) → List Tail → List (List Connector) → List Connector → ℕ → Type 0
+GivesNumber old old_tails lists cs id = (met : List (List Connector)) → AreNumbered met old old_tails → IsNumberOf lists id cs
+
+abbrev pub GivesSides : List (List Connector) → List Tail → List (List Connector) → List Disjunct → List Sides → Type 0
+GivesSides old old_tails lists ds row = (met : List (List Connector)) → AreNumbered met old old_tails → AllZip (HasSides lists) ds row
+
+-- a list with this end is met, and this is its number
+pub record Admits (old : List (List Connector)) (old_tails : List Tail) (lists : List (List Connector)) (tails : List Tail) (t : Tail) (front : List Connector) (id : ℕ) : Type 0 where
+  pub grown : List (List Connector)
+  pub grows : lists ≡ old ++ grown
+  pub few : length lists ≤ suc (length old)
+  pub level : length tails ≡ length lists
+  pub admitted : (met : List (List Connector)) → AreNumbered met old old_tails → t.shorter ≤ length old → front ≡ list_of old t.shorter ++ t.last ∷ [] → AreNumbered (met ++ front ∷ []) lists tails × IsNumberOf lists id front
 
 -- those of all disjuncts
 abbrev pub AreSidesOf : List (List Connector) → List (List Disjunct) → List (List Sides) → Type 0

@@ -6,10 +6,12 @@
 
 pub mod alternative;
 pub mod expand;
+mod group;
 pub mod key;
 pub mod law;
 pub mod lists;
 mod numbering;
+mod ways;
 
 pub use alternative::{Alt, Alts};
 pub use expand::expand_key;

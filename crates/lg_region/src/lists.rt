@@ -1,8 +1,13 @@
 //! Numbers of the lists of a problem.
-ghost use Rattle.std.specs.Prelude.{◌≡◌, ◌+◌, ◌<◌, ◌≤◌, length, slice_index_or, MatchOption, IfOk};
+ghost use Rattle.std.specs.Prelude.{◌≡◌, ◌<◌, ◌≤◌, [], length, slice_index_or, MatchOption, IfOk};
+ghost use Rattle.lg_gram.specs.declared.disjunct.Disjunct.{Disjunct};
 ghost use Rattle.lg_region.specs.Fronts.{AreListsOf, list_of};
+ghost use Rattle.lg_region.specs.Keys.{IsDisjunctAt};
+ghost use Rattle.lg_region.specs.Numbered.{HasSides};
+ghost use Rattle.lg_region.specs.Ways.{IsEndOf};
 
 use crate::numbering::{Sides, Tail, numbered};
+use crate::ways::End;
 use indexmap::IndexSet;
 use lg_base::NoMemory;
 use lg_gram::{Connector, Problem};
@@ -43,7 +48,7 @@ impl<'a> Lists<'a> {
     {
         let mut fronts = Vec::new(alloc);
         let mut tails = IndexSet::new(alloc);
-        let sides = numbered(alloc, &mut fronts, &mut tails, problem)?;
+        let sides = numbered(alloc, &mut fronts, &mut tails, problem.positions())?;
         Ok(Lists {
             problem,
             fronts,
@@ -57,9 +62,65 @@ impl<'a> Lists<'a> {
         ensures value { MatchOption result (length self.now.lists < id) (λ list. (id ≤ length self.now.lists) × (list.now ≡ list_of self.now.lists id)) }
         ensures lists { AreListsOf self.now.positions self.now.lists }
     {
+        let fronts = &self.fronts;
         if id == 0 {
             return Some(&[]);
         }
-        self.fronts.get(id as usize - 1).copied()
+        let index = id as usize - 1;
+        if index < fronts.len() {
+            Some(fronts[index])
+        } else {
+            None
+        }
+    }
+
+    /// The lists are numbered as said above. The function does nothing: a caller whose proof needs the fact calls it.
+    pub fn are_numbered(&self)
+        ensures { AreListsOf self.now.positions self.now.lists }
+    {
+        let _fronts = &self.fronts;
+    }
+
+    /// How many words there are. No memory.
+    pub(crate) fn words(&self) -> u32
+        ensures { result ≡ length self.now.positions }
+    {
+        self.problem.positions().len() as u32
+    }
+
+    /// How many disjuncts a word has. No memory.
+    pub(crate) fn count(&self, word: u32) -> u32
+        requires { word < length self.now.positions }
+        ensures { result ≡ length (slice_index_or self.now.positions word []) }
+    {
+        self.problem.positions()[word as usize].items().len() as u32
+    }
+
+    /// The numbers of the two lists of a disjunct. No memory.
+    pub(crate) fn sides(&self, word: u32, number: u32) -> Sides
+        requires { number < length (slice_index_or self.now.positions word []) }
+        ensures { (d : Disjunct) → IsDisjunctAt self.now.positions word number d → HasSides self.now.lists d result }
+    {
+        self.sides[word as usize][number as usize]
+    }
+
+    /// The end of a list. None where it is empty. No memory.
+    pub(crate) fn end(&self, id: u32) -> Option<End>
+        requires { id ≤ length self.now.lists }
+        ensures value { MatchOption result (id ≡ 0) (IsEndOf self.now.lists id) }
+        ensures lists { AreListsOf self.now.positions self.now.lists }
+    {
+        let fronts = &self.fronts;
+        if id == 0 {
+            return None;
+        }
+        let index = id as usize - 1;
+        let tail = self.tails[index];
+        Some(End {
+            id,
+            place: fronts[index].len() as u32 - 1,
+            last: tail.last,
+            shorter: tail.shorter,
+        })
     }
 }
