@@ -1,6 +1,6 @@
 //! The search: each key that is asked for is expanded once, depth first.
-ghost use Rattle.std.specs.Prelude.{◌≡◌, ◌↔◌, suc, Some, IsTrue, IfOk, OnOk, IfSome, length};
-ghost use Rattle.lg_region.specs.Keys.{IsValidKey, kept};
+ghost use Rattle.std.specs.Prelude.{◌≡◌, ◌↔◌, suc, Some, IsTrue, IfOk, OnOk, IfSome};
+ghost use Rattle.lg_region.specs.Keys.{IsValidKey};
 ghost use Rattle.lg_forest.specs.Demands.{HasLinkageUnder, AsksNext};
 ghost use Rattle.lg_forest.specs.Forests.{IsLive, AreLive};
 ghost use Rattle.lg_forest.specs.Search.{KeysAreDecided, IsTable, HasValidKeys, IsLast, Asked, AsksOf, key_width, part_bound, alt_bound, HasRoom, IsCounted};
@@ -72,7 +72,7 @@ fn explore<L>(
         let live = is_live(alloc, lists, table, alts.get(index), &mut last, steps)?;
         flags.push(live)?;
     }
-    Ok(keep(alts, flags.as_slice()))
+    Ok(alts.keep(flags.as_slice()))
 }
 
 // Whether each key of an alternative has a linkage. The right key is asked for only where the left one has one.
@@ -156,13 +156,4 @@ fn visit_part<L>(
         None => Ok(true),
         Some(key) => visit(alloc, lists, table, key, steps),
     }
-}
-
-// TEMP
-fn keep(alts: Alts, live: &[bool]) -> Alts
-    requires { length live.now ≡ length alts }
-    ensures { result ≡ kept alts live.now }
-{
-    let _ = live.len();
-    alts
 }
