@@ -11,7 +11,8 @@ use Rattle.lg_gram.specs.declared.listing.Token.{Token}
 use Rattle.lg_dict.specs.Dictionary.{Dictionary}
 use Rattle.std.proofs.lemmas.Slice.Zip.{AllZip-long}
 use Rattle.lg_answer.proofs.Lists.{zip_at}
-use Rattle.lg_token.specs.Bounds.{LISTED_POSITIONS, LISTED_CHOICES, token_choices, all_choices, bound_of}
+use Rattle.lg_gram.specs.Limits.{POSITIONS}
+use Rattle.lg_token.specs.Bounds.{LISTED_CHOICES, token_choices, all_choices, bound_of}
 use Rattle.lg_answer.specs.Problems.{IsProblemOf}
 use Rattle.lg_answer.specs.Steps.{AreFound, AreFoundFor}
 
@@ -24,8 +25,8 @@ at_most : (m n : ℕ) → nat_lt m n ≡ false → n ≤ m
 at_most m n h = grind (arith, nat_tests)
 
 module _ (dict : Dictionary) where
-  few_words : (tokens : List Token) → bound_of dict tokens ≡ None → length tokens ≤ LISTED_POSITIONS
-  few_words tokens none = at_most LISTED_POSITIONS (length tokens) (neither _ _ _ _ none).0
+  few_words : (tokens : List Token) → bound_of dict tokens ≡ None → length tokens ≤ POSITIONS
+  few_words tokens none = at_most POSITIONS (length tokens) (neither _ _ _ _ none).0
 
   few_choices : (tokens : List Token) → bound_of dict tokens ≡ None → all_choices dict tokens ≤ LISTED_CHOICES
   few_choices tokens none = at_most LISTED_CHOICES (all_choices dict tokens) (neither _ _ _ _ none).1

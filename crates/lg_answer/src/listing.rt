@@ -6,11 +6,11 @@ ghost use Rattle.lg_answer.specs.Pages.{IsOpen, IsListing, IsRefused, IsPage, Is
 use crate::page::page_of;
 use crate::problem::problem_of;
 use crate::refusal::AnswerRefusal;
-use lg_base::NoMemory;
+use lg_base::{NoMemory, Own, Steps};
 use lg_dict::View;
+use lg_forest::{solve, spell_all};
 use lg_gram::{Linkage, Page, Problem, Stats, Tokens};
 use lg_knowread::Knowledge;
-use lg_rules::plain_list;
 use lg_token::{bound_of, tokens};
 use std::alloc::Global;
 use std::marker::Model;
@@ -40,7 +40,7 @@ impl Model for Listing {
 impl Listing {
     /// The listing of a sentence at its start, before its first candidate.
     ///
-    /// The text has fewer than 2^32 bytes. A sentence is `Beyond` a bound where it has more than 8 tokens, and else where
+    /// The text has fewer than 2^32 bytes. A sentence is `Beyond` a bound where it has more than 252 tokens, and else where
     /// their words have more than 4,000,000 choices together, whose counting stops at 2^60. All candidates are found here;
     /// a page takes time in proportion to the candidates that it looks at.
     pub fn start(alloc: Global, view: &View, text: &str) -> Result<Listing, AnswerRefusal>
@@ -54,7 +54,8 @@ impl Listing {
             return Err(AnswerRefusal::Beyond(bound));
         }
         let problem = problem_of(alloc, view, tokens.items())?;
-        let candidates = plain_list(alloc, &problem)?;
+        let forest = solve(alloc, &problem, &mut Steps::<Own>::start())?;
+        let candidates = spell_all(alloc, &problem, &forest)?;
         Ok(Listing {
             tokens,
             problem,

@@ -3,6 +3,7 @@ use Rattle.std.specs.Prelude.{◌≡◌, ℕ, ◌^◌, min, nat_lt, List, length
 use Rattle.std.specs.List.{sum_by}
 use Rattle.std.specs.Option.{option_map_or}
 use Rattle.std.specs.FinMap.{get}
+use Rattle.lg_gram.specs.Limits.{POSITIONS}
 use Rattle.lg_gram.specs.Measures.{choice_count}
 use Rattle.lg_gram.specs.declared.listing.Token.{Token}
 use Rattle.lg_gram.specs.declared.listing.Bound.{Bound}
@@ -10,10 +11,7 @@ use Rattle.lg_gram.specs.declared.listing.Bound.TheVariants.{TooManyWords, TooWi
 use Rattle.lg_dict.specs.Dictionary.{Dictionary}
 use Rattle.lg_token.specs.Tokens.{AreTokens}
 
--- the most positions that are listed, and the most choices of all words
-abbrev pub LISTED_POSITIONS : ℕ
-LISTED_POSITIONS = 8
-
+-- the most choices of all words of a sentence that is listed
 abbrev pub LISTED_CHOICES : ℕ
 LISTED_CHOICES = 4000000
 
@@ -31,10 +29,10 @@ token_choices dict t = sum_by (word_choices dict) t.words
 abbrev pub all_choices : Dictionary → List Token → ℕ
 all_choices dict tokens = sum_by (token_choices dict) tokens
 
--- why these tokens are not listed: too many, or else too many choices
+-- why these tokens are not listed: more than a problem may have positions, or else too many choices
 abbrev pub bound_of : Dictionary → List Token → Option Bound
 bound_of dict tokens =
-    if nat_lt LISTED_POSITIONS (length tokens) then Some (TooManyWords (length tokens))
+    if nat_lt POSITIONS (length tokens) then Some (TooManyWords (length tokens))
     else (if nat_lt LISTED_CHOICES (all_choices dict tokens) then Some (TooWide (min (all_choices dict tokens) CHOICES_COUNTED))
     else None)
 

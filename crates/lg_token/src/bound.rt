@@ -5,10 +5,8 @@ ghost use Rattle.lg_token.specs.Bounds.{CHOICES_COUNTED, word_choices, token_cho
 
 use lg_base::Text;
 use lg_dict::View;
+use lg_gram::problem::POSITIONS;
 use lg_gram::{Bound, Token};
-
-// The most tokens of a sentence that is listed.
-const LISTED_POSITIONS: usize = 8;
 
 // The most choices of all words of a sentence that is listed.
 const LISTED_CHOICES: u64 = 4_000_000;
@@ -16,12 +14,12 @@ const LISTED_CHOICES: u64 = 4_000_000;
 // Where the count of choices stops.
 const CHOICES_COUNTED: u64 = 1 << 60;
 
-/// Why these tokens are not listed, if they are not: there are more than 8, or else their words have more than 4,000,000
+/// Why these tokens are not listed, if they are not: there are more than 252, or else their words have more than 4,000,000
 /// choices together, whose counting stops at 2^60. No memory.
 pub fn bound_of(view: &View, tokens: &[Token]) -> Option<Bound>
     ensures { result ≡ bound_of view.now tokens.now }
 {
-    if tokens.len() > LISTED_POSITIONS {
+    if tokens.len() > POSITIONS {
         return Some(Bound::TooManyWords(tokens.len() as u64));
     }
     let choices = all_choices(view, tokens);
