@@ -9,10 +9,10 @@ ghost use Rattle.lg_dictread.specs.Scanning.{answer_of};
 
 use crate::entry::read_one;
 use crate::law::exactly_one_entry;
-use crate::limits::BRACKETS;
 use crate::stop::Stop;
 use lg_expr::{Known, Macros};
 use lg_gram::RawEntry;
+use lg_gram::macros::LEVEL;
 use lg_lex::{Marks, Place, Spot, next_spotted, tokens_are_one_list, utf8_fault, without_mark};
 use std::alloc::Global;
 use thiserror::Error;
@@ -73,7 +73,7 @@ fn read_alone(alloc: Global, text: &[u8]) -> Result<RawEntry, EntryError>
     ensures { TellsAlone text.now (answer_of free_rules (tokens_from Dictionary text.now 0)) result }
 {
     exactly_one_entry();
-    match read_one(alloc, &FreeMacros, BRACKETS, text, Spot::START) {
+    match read_one(alloc, &FreeMacros, LEVEL, text, Spot::START) {
         Ok(one) => match next_spotted(Marks::Dictionary, text, one.end) {
             None => Ok(one.entry),
             Some(found) => Err(syntax_at(found.start.place)),

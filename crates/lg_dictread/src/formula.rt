@@ -14,12 +14,12 @@ ghost use Rattle.lg_dictread.specs.Recalling.{IsOfText, IsRead, TellsFormula};
 use crate::dict_error::DictError;
 use crate::earlier::Earlier;
 use crate::entry::read_expression;
-use crate::limits::{BRACKETS, SECTIONS};
+use crate::limits::SECTIONS;
 use crate::measure::measure;
 use crate::stop::Stop;
 use lg_base::{NoMemory, Text};
 use lg_expr::{exactly_one, expressions_fit};
-use lg_gram::macros::filled_level;
+use lg_gram::macros::{LEVEL, filled_level};
 use lg_gram::{Formula, filled_formula};
 use lg_lex::{Marks, Spot, section_to, sections_keep_their_tokens};
 use std::alloc::Global;
@@ -125,7 +125,7 @@ fn read_anew<'a>(
     exactly_one();
     expressions_fit();
     sections_keep_their_tokens();
-    let read = match read_expression(alloc, earlier, BRACKETS, text, from) {
+    let read = match read_expression(alloc, earlier, LEVEL, text, from) {
         Ok(read) => read,
         Err(stop) => return Err(fault_error(alloc, stop)),
     };

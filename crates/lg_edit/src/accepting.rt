@@ -8,11 +8,8 @@ ghost use Rattle.lg_edit.specs.Edits.{IsEditInBounds, edit_view, accept, accept_
 
 use crate::edit::Edit;
 use lg_dict::View;
-use lg_gram::macros::{filled_level, first_unknown};
+use lg_gram::macros::{LEVEL, filled_level, first_unknown};
 use lg_gram::{EditRefusal, Excess, RawEntry, first_excess};
-
-// The brackets that may be open at once, a macro counting as one round its own.
-const LEVEL: u32 = 200;
 
 /// Tests an edit against the dictionary as it is now. The error is the first cause for which it is refused, in the order
 /// of `EditRefusal`, where the expression has the macros of the dictionary put in. A word can be removed only where it is
