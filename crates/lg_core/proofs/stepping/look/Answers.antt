@@ -36,7 +36,7 @@ end-note-requires-clause-session c = is_session (views_of c.args.scripts.now) c.
 pub end-note-requires-clause-next : goal.end-note-requires-clause-next
 end-note-requires-clause-next c = small_place (views_of c.args.scripts.now) c.args.core.now c.args.session c.in-Some.actor (command_view c.in-Some.command.now) c.requires.scripts c.in-Some.ensures.next
 
-pub returns-in-Ends-clause-done : goal.returns-clause-done
+pub returns-in-Ends-clause-done : goal.returns-in-Ends-clause-done
 returns-in-Ends-clause-done c =
     let views = views_of c.args.scripts.now in
     let command = command_view c.in-Some.command.now in
