@@ -1,5 +1,5 @@
 -- States from which steps can be made stay such.
-use Rattle.std.proofs.Common.{◌≡◌, ◌≢◌, ℕ, zero, suc, ◌+◌, ◌≤◌, ◌<◌, ◌⊎◌, inl, inr, ⊎_elim, true, List, [], ◌∷◌, ◌++◌, length, replicate, take, Option, Some, None, IfSome, slice_get, slice_set, slice_index_or, refl, ap, sym, subst, ◌∙◌, arith, append-nil, length-append}
+use Rattle.std.proofs.Common.{◌≡◌, ◌≢◌, ℕ, zero, suc, ◌+◌, ◌≤◌, ◌<◌, ◌⊎◌, inl, inr, ⊎_elim, true, List, [], ◌∷◌, ◌++◌, length, replicate, take, Option, Some, None, IfSome, Result, Ok, Err, IfOk, OnOk, slice_get, slice_set, slice_index_or, refl, ap, sym, subst, ◌∙◌, arith, append-nil, length-append}
 use Rattle.std.proofs.Math.Seq.{take-length}
 use Rattle.std.proofs.lemmas.List.{length-map, length-replicate, length-set, map-append}
 use Rattle.std.proofs.lemmas.Option.{none-some, same_Some, slice_get_within}
@@ -13,12 +13,13 @@ use Rattle.lg_core.specs.declared.event.Event.{Event}
 use Rattle.lg_core.specs.declared.event.Stepped.{Stepped}
 use Rattle.lg_core.specs.declared.event.Stepped.TheVariants.{Done, NotEnabled}
 use Rattle.lg_core.specs.declared.note.Note.{Note}
+use Rattle.lg_core.specs.declared.note.NoteKind.TheVariants.{Published}
 use Rattle.lg_core.specs.declared.state.Actor.{Actor}
 use Rattle.lg_core.specs.declared.state.Core.{Core}
 use Rattle.lg_core.specs.declared.state.Hold.{Hold}
 use Rattle.lg_script.specs.Codes.{place_of, places_of, AreScripts}
 use Rattle.lg_core.specs.Core as happens
-use Rattle.lg_core.specs.Core.{journal_of, newcomer, start_of, ended, published, next_place, next_code, IsNext, IsNextAtEnd, Happens, IsStep, IsActor, IsAccepted, AreActors, IsCore}
+use Rattle.lg_core.specs.Core.{journal_of, newcomer, start_of, ended, published, next_place, next_code, note_of, IsNext, IsNextAtEnd, Happens, IsStep, IsActor, IsAccepted, AreActors, IsCore}
 use Rattle.lg_core.proofs.Places.{asked, Names, next_names}
 use Rattle.lg_core.proofs.Legal.{actors_set, version_more}
 
@@ -128,3 +129,21 @@ module _ (have : EditsHaveCodes) (scripts : List (List CommandView)) (base : Dic
   pub stepped_core : (event : Event) (then : Core) (stepped : Stepped) → IsStep scripts base core event then stepped → IsCore scripts base then
   stepped_core event then (Done told) h = stays_core event then told h
   stepped_core event then NotEnabled h = subst (IsCore scripts base) (sym h.0) is
+
+  pub kept_on : {E : Type 0} (event : Event) (then : Core) (r : Result Stepped E) → IfOk r (IsStep scripts base core event then) → OnOk r (IsCore scripts base then)
+  kept_on event then (Ok stepped) h = stepped_core event then stepped h
+  kept_on event then (Err e) h = tt
+
+-- a code is appended and seen, and then the command ends
+module _ (core : Core) (s : ℕ) (a : Actor) (history : List ℕ) (seen code next : ℕ) (appended : history ≡ core.history ++ code ∷ []) (same : code ≡ next) (all : seen ≡ length history) (had_seen : a.seen ≡ length core.history) where
+  one_more : seen ≡ a.seen + 1
+  one_more = let long = ap length appended ∙ length-append core.history (code ∷ []) in omega (arith, long)
+
+  pub published_so : ended (record { history = history; actors = core.actors }) s (record a { seen = seen }) a.held ≡ published core s a next
+  published_so i = record {
+    history = (appended ∙ ap (λ (c : ℕ). core.history ++ c ∷ []) same) i;
+    actors = slice_set core.actors s (record a { place = a.place + 1; seen = one_more i });
+  }
+
+  pub note_so : note_of s (record a { seen = seen }) seen Published ≡ note_of s a (a.seen + 1) Published
+  note_so i = note_of s a (one_more i) Published

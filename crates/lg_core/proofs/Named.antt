@@ -6,18 +6,19 @@ use Rattle.std.proofs.lemmas.Option.{none-some, same_Some, get_or_from_slice_get
 use Rattle.lg_gram.specs.declared.reply.Place.{Place}
 use Rattle.lg_dict.specs.Dictionary.{Dictionary}
 use Rattle.lg_edit.specs.Edits.{EditView, accept, after_edit, DefinesAsItMay, IsEditInBounds}
-use Rattle.lg_log.specs.Codes.{code_session, code_index}
+use Rattle.lg_log.specs.Codes.{code_of, code_session, code_index}
 use Rattle.lg_script.specs.declared.command.Command.{Command}
 use Rattle.lg_script.specs.Bounds.{IsInBounds, AreInBounds}
 use Rattle.lg_script.specs.Commands.{CommandView, command_view, is_edit, makes}
 use Rattle.lg_script.specs.EditNumbers.{edit_numbers, edit_counts}
 use Rattle.lg_script.specs.Histories.{numbered, command_in, command_at, after_command, dictionary_after, version_of}
+use Rattle.lg_core.specs.declared.state.Actor.{Actor}
 use Rattle.lg_core.specs.declared.state.Core.{Core}
 use Rattle.lg_script.specs.Codes.{place_of, places_of, AreScripts}
-use Rattle.lg_core.specs.Core.{views_of, journal_of, IsAccepted}
+use Rattle.lg_core.specs.Core.{views_of, journal_of, next_code, IsNext, IsAccepted}
 use Rattle.lg_core.proofs.NextCommand.{item_at}
 use Rattle.lg_core.proofs.Outcomes.{same_edit}
-use Rattle.lg_core.proofs.Places.{counts_at}
+use Rattle.lg_core.proofs.Places.{counts_at, asked}
 
 -- the views of the script of a session
 pub view_at : (scripts : List (List Command)) (s : ℕ) (commands : List Command) → slice_get scripts s ≡ Some commands → slice_get (views_of scripts) s ≡ Some (map command_view commands)
@@ -87,3 +88,15 @@ script_at scripts seen s code commands same session less is =
 
 pub code_at : (history items : List ℕ) (n : ℕ) → items ≡ history → n < length items → slice_get history n ≡ Some (get_or items n 0)
 code_at history items n same less = subst (λ (l : List ℕ). slice_get l n ≡ Some (get_or items n 0)) same (slice_get-get_or items n 0 less)
+
+-- ---- the code of the next command
+
+pub session_there : (scripts : List (List Command)) (core : Core) (s : ℕ) (a : Actor) (command : CommandView) → IsNext (views_of scripts) core s a command → s < length scripts
+session_there scripts core s a command next = omega (arith, (asked (views_of scripts) s a.place command next.asks_for).0, length-map scripts (map command_view))
+
+pub code_is : (scripts seen : List (List Command)) (s : ℕ) (a : Actor) (commands : List Command) (index code : ℕ) → seen ≡ scripts → s < length scripts → commands ≡ get_or seen s commands
+    → index ≡ count_by is_edit (take a.place (map command_view commands)) → code ≡ code_of s index → code ≡ next_code (views_of scripts) s a
+code_is scripts seen s a commands index code same less is counted coded =
+    let script : slice_get scripts s ≡ Some commands = item_at scripts seen s commands same (subst (λ (l : List (List Command)). s < length l) (sym same) less) is in
+    let view : slice_index_or (views_of scripts) s [] ≡ map command_view commands = get_or_from_slice_get (views_of scripts) s (map command_view commands) [] (view_at scripts s commands script) in
+    coded ∙ ap (code_of s) (counted ∙ sym (ap (λ (l : List CommandView). count_by is_edit (take a.place l)) view))

@@ -5,14 +5,13 @@ use Rattle.lg_gram.specs.declared.edit.EditRefusal.{EditRefusal}
 use Rattle.lg_gram.specs.declared.listing.Bound.{Bound}
 use Rattle.lg_gram.specs.declared.listing.Token.{Token}
 use Rattle.lg_dict.specs.Dictionary.{Dictionary}
-use Rattle.lg_edit.specs.declared.edit.Edit.{Edit}
 use Rattle.lg_edit.specs.Edits.{EditView, accept}
 use Rattle.lg_token.specs.Tokens.{AreTokens}
 use Rattle.lg_token.specs.Bounds.{bound_of}
 use Rattle.lg_script.specs.declared.command.Command.{Command}
 use Rattle.lg_script.specs.declared.command.Command.TheVariants as commands
 use Rattle.lg_script.specs.Commands.{CommandView, command_view, parses, lists, goes_on, makes, asks}
-use Rattle.lg_script.specs.Histories.{command_at}
+use Rattle.lg_script.specs.Histories.{command_at, version_of}
 use Rattle.lg_core.specs.declared.event.Event.{Event}
 use Rattle.lg_core.specs.declared.event.Event.TheVariants.{Look, Learn, Publish, More}
 use Rattle.lg_core.specs.declared.look.Looked.{Looked}
@@ -24,8 +23,8 @@ use Rattle.lg_core.specs.declared.state.Actor.{Actor}
 use Rattle.lg_core.specs.declared.state.Core.{Core}
 use Rattle.lg_core.specs.declared.state.Hold.{Hold}
 use Rattle.lg_core.specs.Core as happens
-use Rattle.lg_core.specs.Core.{with_actor, ended, published, next_place, next_code, note_of, seen_by, sentence_of, IsNext, IsNextAtEnd, Happens, StepsAreDetermined}
-use Rattle.lg_core.specs.Steps.{HasNoNext, IsNotAtEnd, held_after, HasBound, kind_by, looked_by, LooksSo}
+use Rattle.lg_core.specs.Core.{journal_of, with_actor, ended, published, next_place, next_code, note_of, seen_by, sentence_of, IsNext, IsNextAtEnd, Happens, StepsAreDetermined}
+use Rattle.lg_core.specs.Steps.{HasNoNext, IsNotAtEnd, held_after, HasBound, kind_by, looked_by, LooksSo, newest_of}
 
 -- a text has one list of tokens
 abbrev pub OneList : Type 0
@@ -59,6 +58,11 @@ module _ (dict : Dictionary) where
   waits looks.Accepted = ⊥
   waits (looks.Ends kind) = ⊥
 
+  accepts : Looked → Type 0
+  accepts looks.Waits = ⊥
+  accepts looks.Accepted = Unit {0}
+  accepts (looks.Ends kind) = ⊥
+
   looked_waits : (o : Option EditRefusal) → looks.Waits ≡ looked_by o → ⊥
   unfolding waits
   looked_waits None is = subst waits is tt
@@ -71,6 +75,20 @@ module _ (dict : Dictionary) where
   waits_for_more goes_on h = refl
   waits_for_more (makes edit) h = absurd (looked_waits (accept dict edit) h)
   waits_for_more asks h = absurd (subst waits h tt)
+
+  looked_accepted : (o : Option EditRefusal) → looks.Accepted ≡ looked_by o → o ≡ None
+  unfolding accepts
+  looked_accepted None is = refl
+  looked_accepted (Some cause) is = absurd (subst accepts is tt)
+
+  -- an edit alone is accepted
+  pub accepted_edit : (command : CommandView) → LooksSo dict command looks.Accepted → (edit : EditView) × (command ≡ makes edit) × (accept dict edit ≡ None)
+  unfolding accepts
+  accepted_edit (parses text) h = absurd (subst accepts h.2 tt)
+  accepted_edit (lists first want text) h = absurd (subst accepts h.2 tt)
+  accepted_edit goes_on h = absurd (subst accepts h tt)
+  accepted_edit (makes edit) h = (edit, refl, looked_accepted (accept dict edit) h)
+  accepted_edit asks h = absurd (subst accepts h tt)
 
 edit_in : EditView → CommandView → EditView
 edit_in other (makes edit) = edit
@@ -198,18 +216,20 @@ module _ (scripts : List (List CommandView)) (base : Dictionary) (core : Core) w
         let looked : g.2 ≡ looks.Waits = subst (λ c. LooksSo (seen_by scripts base core g.0) c g.2) is g.4 in
         subst (λ l. ComesTo s g.0 l then told) looked g.5
 
-    pub no_edit : IsNext scripts core s a command → ((edit : EditView) → command ≡ makes edit → ⊥) → Cannot (Publish s)
-    no_edit next other then told h = let g = gives (Publish s) then told h in other g.1 (same_command s a g.0 command (makes g.1) next g.2.next)
-
     pub no_goes_on : IsNext scripts core s a command → (command ≡ goes_on → ⊥) → Cannot (More s)
     no_goes_on next other then told h = let g = gives (More s) then told h in other (same_command s a g.0 command goes_on next g.1)
 
-  pub is_refused : (s : ℕ) (a : Actor) (edit : EditView) (cause : EditRefusal) → IsNextAtEnd scripts core s a (makes edit) → accept (seen_by scripts base core a) edit ≡ Some cause → Cannot (Publish s)
-  is_refused s a edit cause end refused then told h =
+  -- the dictionary that was seen is the newest
+  pub looks_seen : (s : ℕ) (a : Actor) (command : CommandView) (looked : Looked) → IsNextAtEnd scripts core s a command → LooksSo (newest_of scripts base core) command looked → LooksSo (seen_by scripts base core a) command looked
+  looks_seen s a command looked end so = subst (λ (n : ℕ). LooksSo (version_of scripts base (journal_of scripts core) n) command looked) (sym end.has_seen_all) so
+
+  pub not_accepted : (s : ℕ) (a : Actor) (command : CommandView) (looked : Looked) → IsNextAtEnd scripts core s a command → LooksSo (newest_of scripts base core) command looked → (looked ≡ looks.Accepted → ⊥) → Cannot (Publish s)
+  not_accepted s a command looked end so other then told h =
       let g = gives (Publish s) then told h in
-      let same = same_actor s g.0 a (makes g.1) (makes edit) g.2.next end.next in
-      let edits : g.1 ≡ edit = same_edit g.1 edit (same_command s g.0 a (makes g.1) (makes edit) g.2.next end.next) in
-      none-some cause (sym (subst (λ (z : Actor × EditView). accept (seen_by scripts base core z.0) z.1 ≡ None) (λ i. (same i, edits i)) g.3) ∙ refused)
+      let same = same_actor s a g.0 command (makes g.1) end.next g.2.next in
+      let edits : command ≡ makes g.1 = same_command s a g.0 command (makes g.1) end.next g.2.next in
+      let looks_so : LooksSo (seen_by scripts base core g.0) (makes g.1) looked = subst (λ (z : Actor × CommandView). LooksSo (seen_by scripts base core z.0) z.1 looked) (λ i. (same i, edits i)) (looks_seen s a command looked end so) in
+      other (looks_so ∙ ap looked_by g.3)
 
 pub are_determined : OneList → StepsAreDetermined
 are_determined one_list scripts base core one other event told another h k =
@@ -224,9 +244,3 @@ view_more commands.More is = refl
 view_more (commands.Edit edit) is = absurd (cc is)
 view_more commands.Version is = absurd (cc is)
 
-pub view_edit : (command : Command) (view : EditView) → command_view command ≡ makes view → (edit : Edit) × (command ≡ commands.Edit edit)
-view_edit (commands.Parse text) view is = absurd (cc is)
-view_edit (commands.List first want text) view is = absurd (cc is)
-view_edit commands.More view is = absurd (cc is)
-view_edit (commands.Edit edit) view is = (edit, refl)
-view_edit commands.Version view is = absurd (cc is)

@@ -1,5 +1,5 @@
 -- The words of the functions that make a step. What has to hold in the end stands in Core.
-use Rattle.std.specs.Prelude.{◌≡◌, ℕ, ◌+◌, ◌<◌, ◌^◌, List, [], Option, Some, None, IfSome}
+use Rattle.std.specs.Prelude.{◌≡◌, ℕ, ◌+◌, List, length, Option, Some, None}
 use Rattle.lg_gram.specs.declared.edit.EditRefusal.{EditRefusal}
 use Rattle.lg_gram.specs.declared.listing.Bound.{Bound}
 use Rattle.lg_gram.specs.declared.listing.Token.{Token}
@@ -8,14 +8,15 @@ use Rattle.lg_edit.specs.Edits.{accept}
 use Rattle.lg_token.specs.Bounds.{bound_of}
 use Rattle.lg_token.specs.Tokens.{AreTokens}
 use Rattle.lg_script.specs.Commands.{CommandView, parses, lists, goes_on, makes, asks}
+use Rattle.lg_script.specs.Histories.{version_of}
 use Rattle.lg_core.specs.declared.note.NoteKind.{NoteKind}
-use Rattle.lg_core.specs.declared.note.NoteKind.TheVariants.{Listed, Beyond, Paged, NoListing, Published, Refused, At}
+use Rattle.lg_core.specs.declared.note.NoteKind.TheVariants.{Listed, Beyond, Refused, At}
 use Rattle.lg_core.specs.declared.state.Actor.{Actor}
 use Rattle.lg_core.specs.declared.state.Core.{Core}
 use Rattle.lg_core.specs.declared.state.Hold.{Hold}
 use Rattle.lg_core.specs.declared.look.Looked.{Looked}
 use Rattle.lg_core.specs.declared.look.Looked.TheVariants as looks
-use Rattle.lg_core.specs.Core.{IsNext, IsNextAtEnd}
+use Rattle.lg_core.specs.Core.{journal_of, IsNext, IsNextAtEnd}
 
 -- no command is left
 abbrev pub HasNoNext : List (List CommandView) → Core → ℕ → Type 0
@@ -30,6 +31,10 @@ abbrev pub held_after : Actor → NoteKind → Option Hold
 held_after actor Listed = Some (record { version = actor.seen; command = actor.place + 1; mores = 0 })
 held_after actor Beyond = None
 held_after actor kind = actor.held
+
+-- the dictionary after all edits of the history
+abbrev pub newest_of : List (List CommandView) → Dictionary → Core → Dictionary
+newest_of scripts base core = version_of scripts base (journal_of scripts core) (length core.history)
 
 -- the bound that a sentence passes, if it passes one
 abbrev pub HasBound : Dictionary → List ℕ → Option Bound → Type 0

@@ -1,12 +1,13 @@
 //! The edits that the codes of a history name, and the dictionary after them.
-ghost use Rattle.std.specs.Prelude.{◌≡◌, true, Some, length, IfOk};
+ghost use Rattle.std.specs.Prelude.{◌≡◌, true, Some, IfOk};
 ghost use Rattle.lg_edit.specs.Edits.{edit_view};
 ghost use Rattle.lg_log.specs.Codes.{is_code};
 ghost use Rattle.lg_script.specs.Commands.{makes};
 ghost use Rattle.lg_script.specs.EditNumbers.{edit_counts};
-ghost use Rattle.lg_script.specs.Histories.{command_at, version_of};
+ghost use Rattle.lg_script.specs.Histories.{command_at};
 ghost use Rattle.lg_script.specs.Codes.{place_of, AreScripts};
-ghost use Rattle.lg_core.specs.Core.{views_of, journal_of, IsCore};
+ghost use Rattle.lg_core.specs.Core.{views_of, IsCore};
+ghost use Rattle.lg_core.specs.Steps.{newest_of};
 
 use crate::state::Core;
 use lg_base::NoMemory;
@@ -25,7 +26,7 @@ pub(crate) fn newest<'a>(
 ) -> Result<View<'a>, NoMemory>
     requires scripts { AreScripts (views_of scripts.now) }
     requires core { IsCore (views_of scripts.now) base.now core.now }
-    ensures { IfOk result (λ view. view ≡ version_of (views_of scripts.now) base.now (journal_of (views_of scripts.now) core.now) (length core.now.history)) }
+    ensures { IfOk result (λ view. view ≡ newest_of (views_of scripts.now) base.now core.now) }
 {
     let mut view = View::of(alloc, base);
     for code in core.history.items() {

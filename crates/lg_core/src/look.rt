@@ -3,13 +3,17 @@ ghost use Rattle.std.specs.Prelude.{◌≡◌, Option, IfOk};
 ghost use Rattle.lg_gram.specs.declared.listing.Bound.{Bound as SeenBound};
 ghost use Rattle.lg_script.specs.Bounds.{IsSentence, IsInBounds};
 ghost use Rattle.lg_script.specs.Commands.{command_view};
-ghost use Rattle.lg_core.specs.Steps.{HasBound, kind_by, LooksSo};
+ghost use Rattle.lg_script.specs.Codes.{AreScripts};
+ghost use Rattle.lg_core.specs.Core.{views_of, IsCore};
+ghost use Rattle.lg_core.specs.Steps.{HasBound, kind_by, LooksSo, newest_of};
 
+use crate::edits::newest;
 use crate::note::NoteKind;
+use crate::state::Core;
 use lg_base::{NoMemory, Text};
-use lg_dict::View;
+use lg_dict::{Dict, View};
 use lg_edit::check;
-use lg_script::Command;
+use lg_script::{Command, Scripts};
 use lg_token::{bound_of, tokens};
 use std::alloc::Global;
 
@@ -24,8 +28,25 @@ pub(crate) enum Looked {
     Ends(NoteKind),
 }
 
-/// Looks at a command by the dictionary that was seen. The only error is running out of memory.
-pub(crate) fn look_at(alloc: Global, view: &View, command: &Command) -> Result<Looked, NoMemory>
+/// Looks at a command by the dictionary after all edits of the history. The only error is running out of memory.
+pub(crate) fn look_at_end(
+    alloc: Global,
+    base: &Dict,
+    scripts: &Scripts,
+    core: &Core,
+    command: &Command,
+) -> Result<Looked, NoMemory>
+    requires scripts { AreScripts (views_of scripts.now) }
+    requires core { IsCore (views_of scripts.now) base.now core.now }
+    requires command { IsInBounds (command_view command.now) }
+    ensures { IfOk result (LooksSo (newest_of (views_of scripts.now) base.now core.now) (command_view command.now)) }
+{
+    let view = newest(alloc, base, scripts, core)?;
+    look_at(alloc, &view, command)
+}
+
+// Looks at a command by this dictionary.
+fn look_at(alloc: Global, view: &View, command: &Command) -> Result<Looked, NoMemory>
     requires { IsInBounds (command_view command.now) }
     ensures { IfOk result (LooksSo view.now (command_view command.now)) }
 {

@@ -6,15 +6,13 @@ ghost use Rattle.lg_core.specs.Core.{views_of, IsCore, AreActors, IsStep};
 ghost use Rattle.lg_core.specs.Steps.{held_after};
 ghost use Rattle.lg_core.specs.declared.event.Event.TheVariants.{Look, Learn, Publish, More};
 
-use crate::edits::newest;
 use crate::event::{Event, Stepped};
-use crate::look::{Looked, look_at};
+use crate::look::{Looked, look_at_end};
 use crate::next::{next, next_at_end};
 use crate::note::NoteKind;
 use crate::state::{Actor, Core, Hold};
 use lg_base::{Codes, NoMemory};
 use lg_dict::Dict;
-use lg_edit::check;
 use lg_log::{code, code_laws};
 use lg_script::{Command, Scripts};
 use std::alloc::Global;
@@ -63,8 +61,7 @@ fn look(
     let Some((actor, command)) = next_at_end(scripts, core, session) else {
         return Ok(Stepped::NotEnabled);
     };
-    let view = newest(alloc, base, scripts, core)?;
-    match look_at(alloc, &view, command)? {
+    match look_at_end(alloc, base, scripts, core, command)? {
         Looked::Waits => Ok(Stepped::NotEnabled),
         Looked::Accepted => Ok(Stepped::Done(None)),
         Looked::Ends(kind) => {
@@ -122,13 +119,9 @@ fn publish(
     let Some((actor, command)) = next_at_end(scripts, core, session) else {
         return Ok(Stepped::NotEnabled);
     };
-    let Command::Edit(edit) = command else {
+    let Looked::Accepted = look_at_end(alloc, base, scripts, core, command)? else {
         return Ok(Stepped::NotEnabled);
     };
-    let view = newest(alloc, base, scripts, core)?;
-    if check(&view, edit).is_err() {
-        return Ok(Stepped::NotEnabled);
-    }
     let index = scripts.items()[session as usize].edits_before(actor.place);
     append(alloc, &mut core.history, code(session, index))?;
     let seen = core.version();
