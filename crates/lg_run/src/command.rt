@@ -4,6 +4,7 @@ ghost use Rattle.lg_run.specs.Words.{Task, TaskIs};
 ghost use Rattle.lg_run.specs.Commands.{option_words, IsCommand};
 
 use crate::options::{cut_options, is_operand};
+use lg_dictread::FILE;
 
 /// What the words ask for, with the words that are its options.
 #[derive(Clone, Copy, Debug, PartialEq, Eq)]
@@ -34,8 +35,8 @@ impl<'a> Command<'a> {
     }
 }
 
-// The most bytes of a sentence.
-const SENTENCE: usize = 67_108_864;
+// The most bytes of a sentence: as many as a file may have.
+const SENTENCE: usize = FILE as usize;
 
 /// The command that the words ask for. None where they are in no form.
 ///

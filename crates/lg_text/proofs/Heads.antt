@@ -1,5 +1,5 @@
 -- The first line of an answer, read back.
-use Rattle.std.proofs.Common.{◌≡◌, ℕ, zero, suc, ◌<◌, ◌≤◌, ◌^◌, Bool, true, false, cond, eqb, leb, List, [], ◌∷◌, ◌++◌, length, Option, Some, None, IfSome, refl, ap, sym, ◌∙◌, subst, arith, codes, append_assoc, ne_eqb, leb-true}
+use Rattle.std.proofs.Common.{◌≡◌, ℕ, ◌<◌, ◌≤◌, ◌^◌, cond, eqb, leb, List, [], ◌∷◌, ◌++◌, length, Option, Some, None, IfSome, refl, ap, sym, ◌∙◌, arith, codes, append_assoc, ne_eqb, leb-true}
 use Rattle.std.specs.List.{list_all, flat_map, join_with_byte}
 use Rattle.std.specs.Fmt.{decimal}
 use Rattle.std.proofs.lemmas.Bool.{and_parts, cond-false}
@@ -14,7 +14,7 @@ use Rattle.lg_text.specs.Replies.{kind_word, place_text, cause_pieces}
 use Rattle.lg_text.specs.Shown.{IsPlain, IsPlace, Answered, shown_of, shown_version, is_digit}
 use Rattle.lg_text.proofs.Bytes.{Lacks, lacks_both, decimal_lacks, decimal_digits, AreDigits, until, after, until_is, until_all, after_is}
 use Rattle.lg_text.proofs.Joined.{join_with_byte-cons}
-use Rattle.lg_text.proofs.TextLines.{told_pieces, told_line, head_line}
+use Rattle.lg_text.proofs.TextLines.{told_line, head_line}
 
 -- ---- the place
 

@@ -1,22 +1,21 @@
 -- Printed texts without a line feed.
-use Rattle.std.proofs.Common.{◌≡◌, ℕ, zero, suc, ◌+◌, ◌-◌, ◌/◌, ◌%◌, Bool, true, false, cond, eqb, ℤ, pos, negsuc, List, [], ◌∷◌, ◌++◌, length, take, map, Option, Some, None, IfSome, slice_get, slice_index_or, refl, ap, sym, ◌∙◌, subst, arith, ne_eqb, codes, unsigned_abs}
+use Rattle.std.proofs.Common.{◌≡◌, ℕ, zero, suc, ◌+◌, ◌/◌, ◌%◌, Bool, true, false, cond, eqb, ℤ, pos, negsuc, List, [], ◌∷◌, ◌++◌, take, map, Option, Some, None, IfSome, slice_get, slice_index_or, refl, sym, ◌∙◌, arith, ne_eqb}
 use Rattle.std.specs.List.{list_any, join_with_byte, AllByRecursion}
 use Rattle.std.specs.Fmt.{decimal}
 use Rattle.std.specs.Option.{option_zip}
-use Rattle.std.proofs.lemmas.Bool.{or_parts, or_from, cases_Bool, cond_both}
+use Rattle.std.proofs.lemmas.Bool.{or_parts, or_from, cond_both}
 use Rattle.std.proofs.lemmas.List.Folds.{list_any-append}
 use Rattle.lg_base.specs.Costs.{cost_text, three_digits}
 use Rattle.lg_gram.specs.Names.{trimmed}
-use Rattle.lg_gram.specs.Connectors.{Connector, connector_text, label_of, merged, either}
+use Rattle.lg_gram.specs.Connectors.{Connector, connector_text, merged, either}
 use Rattle.lg_gram.specs.Labels.{label_between}
 use Rattle.lg_gram.specs.Linkages.{Linkage}
 use Rattle.lg_gram.specs.Rules.{chosen_at, rights_of, lefts_of, left_list, right_list}
 use Rattle.lg_gram.specs.declared.disjunct.Disjunct.{Disjunct}
 use Rattle.lg_gram.specs.declared.linkage.Link.{Link}
-use Rattle.lg_gram.specs.declared.listing.Token.{Token}
 use Rattle.lg_text.specs.Texts.{side_text, letters_of, label_text, choice_pieces}
 use Rattle.lg_text.specs.Shown.{IsOneLine, IsPlainDisjunct}
-use Rattle.lg_text.proofs.Bytes.{Lacks, lacks_both, decimal_lacks}
+use Rattle.lg_text.proofs.Bytes.{lacks_both, decimal_lacks}
 
 abbrev pub AreOneLines : List (List ℕ) → Type 0
 AreOneLines pieces = AllByRecursion (λ (piece : List ℕ). IsOneLine piece) pieces

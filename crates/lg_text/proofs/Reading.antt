@@ -1,5 +1,5 @@
 -- A document, read back by its lines.
-use Rattle.std.proofs.Common.{◌≡◌, ℕ, zero, suc, ◌+◌, ◌≤◌, ◌<◌, ◌^◌, Bool, true, false, cond, eqb, leb, List, [], ◌∷◌, ◌++◌, length, drop, map, refl, ap, sym, ◌∙◌, subst, arith, codes, append_assoc, ⊎_elim, true≢false, eqb-true, ne_eqb, leb-true}
+use Rattle.std.proofs.Common.{◌≡◌, ℕ, suc, ◌+◌, ◌≤◌, Bool, true, false, eqb, leb, List, [], ◌∷◌, ◌++◌, length, drop, map, refl, ap, sym, ◌∙◌, arith, codes, append_assoc, ⊎_elim, true≢false, eqb-true, ne_eqb, leb-true}
 use Rattle.std.specs.List.{list_any, flat_map, enumerate_from, filter, starts_with, AllByRecursion}
 use Rattle.std.specs.Prelude.{◌||◌}
 use Rattle.std.specs.Fmt.{decimal}
@@ -9,7 +9,7 @@ use Rattle.std.proofs.lemmas.List.Elements.{filter-append}
 use Rattle.std.proofs.lemmas.Grind.{flat_map-append}
 use Rattle.lg_gram.specs.declared.reply.Place.{Place}
 use Rattle.lg_text.specs.Replies.{place_text, journal_text}
-use Rattle.lg_text.specs.Shown.{IsOneLine, IsPlain, IsPlace, Answered, shown_of, answer_text, document_text, closed, begins, HasLines, HasHead, page_words, journal_words, is_digit, JournalsAreShown, LinesAreApart, HeadsAreShown, DocumentsShow}
+use Rattle.lg_text.specs.Shown.{IsOneLine, IsPlain, IsPlace, Answered, shown_of, answer_text, document_text, closed, begins, HasHead, page_words, journal_words, is_digit, JournalsAreShown, LinesAreApart, HeadsAreShown, DocumentsShow}
 use Rattle.lg_text.proofs.Bytes.{until, after, until_is, after_is, decimal_lacks}
 use Rattle.lg_text.proofs.PlainTexts.{AreOneLines}
 use Rattle.lg_text.proofs.TextLines.{all_both, head_line, head_of, entry_line, journal_lines, journal_is, journal_plain, journal_begun, journal_has_lines}

@@ -1,9 +1,9 @@
 -- The lines of pages, of answers and of the journal.
-use Rattle.std.proofs.Common.{◌≡◌, ℕ, zero, suc, ◌+◌, ◌<◌, ◌^◌, Bool, true, false, cond, eqb, List, [], ◌∷◌, ◌++◌, length, map, Option, Some, None, IfSome, refl, ap, sym, ◌∙◌, subst, arith, codes, append_assoc, append-nil}
-use Rattle.std.specs.List.{list_any, list_all, flat_map, enumerate_from, zip, join_with_byte, AllByRecursion}
+use Rattle.std.proofs.Common.{◌≡◌, ℕ, ◌+◌, ◌<◌, ◌^◌, Bool, true, false, cond, List, [], ◌∷◌, ◌++◌, length, map, Option, Some, None, refl, ap, sym, ◌∙◌, arith, codes, append-nil}
+use Rattle.std.specs.List.{list_all, flat_map, enumerate_from, zip, join_with_byte, AllByRecursion}
 use Rattle.std.specs.Option.{option_map_or}
 use Rattle.std.specs.Fmt.{decimal}
-use Rattle.std.proofs.lemmas.Bool.{cond_both, and_parts}
+use Rattle.std.proofs.lemmas.Bool.{and_parts}
 use Rattle.std.proofs.lemmas.Fmt.{decimal_nonempty}
 use Rattle.std.proofs.lemmas.Grind.{flat_map-append}
 use Rattle.lg_base.specs.Costs.{cost_text}
@@ -25,8 +25,8 @@ use Rattle.lg_gram.specs.declared.reply.Reply.{Reply}
 use Rattle.lg_gram.specs.declared.reply.Reply.TheVariants.{Listed, Beyond, Published, Refused, At, NoListing}
 use Rattle.lg_text.specs.Texts.{line_of, heading_line, word_line, link_line, label_text, choice_pieces, linkage_text, fail_line, item_text, shown, page_line, page_text, bound_pieces}
 use Rattle.lg_text.specs.Replies.{kind_word, place_text, cause_pieces, reply_text, edit_line, journal_text}
-use Rattle.lg_text.specs.Shown.{IsOneLine, IsPlainPage, IsPlainReply, IsPlain, IsPlace, Answered, answer_text, closed, begins, HasLines, HasHead, page_words, journal_words, is_digit}
-use Rattle.lg_text.proofs.Bytes.{Lacks, lacks_both, decimal_lacks, decimal_digits}
+use Rattle.lg_text.specs.Shown.{IsOneLine, IsPlainPage, IsPlainReply, IsPlain, Answered, answer_text, closed, begins, HasLines, HasHead, page_words, journal_words, is_digit}
+use Rattle.lg_text.proofs.Bytes.{lacks_both, decimal_digits}
 use Rattle.lg_text.proofs.PlainTexts.{AreOneLines, AreChosen, joined_plain, number_plain, cost_plain, label_plain, choice_plain}
 
 pub all_both : {X : Type 0} (P : X → Type 0) (xs ys : List X) → AllByRecursion P xs → AllByRecursion P ys → AllByRecursion P (xs ++ ys)

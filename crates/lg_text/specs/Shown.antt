@@ -1,7 +1,7 @@
 -- What the bytes of a document show: the journal, and of each answer its place, its kind and its version.
-use Rattle.std.specs.Prelude.{◌≡◌, ℕ, ◌<◌, ◌^◌, eqb, leb, ◌&&◌, Bool, true, false, List, [], ◌∷◌, ◌++◌, map, codes, All, Option, Some, None, IfSome}
+use Rattle.std.specs.Prelude.{◌≡◌, ℕ, ◌<◌, ◌^◌, eqb, leb, ◌&&◌, Bool, true, false, List, [], ◌∷◌, ◌++◌, map, codes, Option, Some, None, IfSome}
 use Rattle.std.specs.List.{list_any, flat_map, starts_with, AllByRecursion}
-use Rattle.lg_gram.specs.Connectors.{Connector, connector_text}
+use Rattle.lg_gram.specs.Connectors.{connector_text}
 use Rattle.lg_gram.specs.declared.disjunct.Disjunct.{Disjunct}
 use Rattle.lg_gram.specs.declared.listing.Token.{Token}
 use Rattle.lg_gram.specs.declared.listing.Page.{Page}

@@ -312,6 +312,31 @@ done
     expect(&rt, alloc, files, &words, Status::Done, document, "")
 }
 
+// With the two numbers exchanged the page would end at its first line; with none it would show a further linkage.
+#[test]
+fn options_are_taken_by_name(rt: HostRuntime) -> Result<(), Fail> {
+    let document = "\
+1.1 parse version 0
+fail 1 rule 1 link 0 1
+linkage 2 unused 0 cost 1.000 length 3
+word 0 x x - C,B 1.000
+word 1 y y C - 0.000
+word 2 z z B - 0.000
+link 0 1 C 0 0
+link 0 2 B 1 0
+page shown 1 examined 2 next 3 more
+journal 0
+done
+";
+    let alloc = rt.alloc();
+    let dictionary = "x: (A+ & B+) or [C+ & B+] or [[E+ & B+]]; y: A- or C- or E-; z: B-;";
+    let mut files = dictionary_of(alloc, dictionary.as_bytes())?;
+    files.add("k", b"none: A { B };")?;
+    files.add("s=1", b"parse x y z\n")?;
+    let words = words_of(alloc, "run|--examine=0070|--want|01|d|k|s=1")?;
+    expect(&rt, alloc, files, &words, Status::Done, document, "")
+}
+
 // Wants that nothing is written but this line where the knowledge and the script are these.
 fn refused<R: Abort + Threads + Sync>(
     rt: &R,
