@@ -1,9 +1,12 @@
 -- The sessions before they begin, one for each script.
-use Rattle.std.proofs.Common.{◌≡◌, ℕ, zero, suc, ◌+◌, ◌≤◌, List, [], ◌∷◌, length, map, All, refl, ap, sym, subst, ◌∙◌, arith}
+use Rattle.std.proofs.Common.{◌≡◌, ℕ, zero, suc, ◌+◌, ◌≤◌, List, [], ◌∷◌, length, map, count_by, All, refl, ap, sym, subst, ◌∙◌, arith}
 use Rattle.std.specs.List.{range_with_len}
+use Rattle.std.proofs.lemmas.List.{length-map}
+use Rattle.std.proofs.lemmas.List.FromFn.{length-map-range_with_len}
 use Rattle.std.proofs.lemmas.List.Elements.{All-nil, All-cons}
 use Rattle.lg_log.specs.Passes.{LogId, Standing, at_start}
-use Rattle.lg_script.specs.Commands.{CommandView}
+use Rattle.lg_script.specs.Commands.{CommandView, is_edit}
+use Rattle.lg_script.specs.EditNumbers.{edit_counts}
 use Rattle.lg_session.specs.declared.job.Job.{Job}
 use Rattle.lg_session.specs.Rows.{IsFresh, jobs_from}
 
@@ -24,7 +27,13 @@ module _ (log : LogId) (scripts : List (List CommandView)) where
             (omega arith, refl) rest.fresh;
       }
 
-  pub all_begin : (passes : List Standing) (jobs : List Job) (n : ℕ) → n ≡ length scripts → passes ≡ map (λ session. at_start log (session ∷ [])) (range_with_len 0 n) → jobs ≡ jobs_from 0 passes
-      → Begin log scripts 0 (length scripts) jobs
-  all_begin passes jobs n all made is = subst (λ (l : List Job). Begin log scripts 0 (length scripts) l)
-      (ap (λ (k : ℕ). jobs_from 0 (map (λ session. at_start log (session ∷ [])) (range_with_len 0 k))) (sym all) ∙ ap (jobs_from 0) (sym made) ∙ sym is) (begin 0 (length scripts) (omega arith))
+  module _ (counts : List ℕ) (passes : List Standing) (are : counts ≡ edit_counts scripts) (made : passes ≡ map (λ session. at_start log (session ∷ [])) (range_with_len 0 (length counts))) where
+    many : length counts ≡ length scripts
+    many = ap length are ∙ length-map scripts (count_by is_edit)
+
+    pub a_pass_each : length passes ≡ length scripts
+    a_pass_each = ap length made ∙ length-map-range_with_len (λ session. at_start log (session ∷ [])) 0 (length counts) ∙ many
+
+    pub all_begin : (jobs : List Job) → jobs ≡ jobs_from 0 passes → Begin log scripts 0 (length scripts) jobs
+    all_begin jobs is = subst (λ (l : List Job). Begin log scripts 0 (length scripts) l)
+        (ap (λ (k : ℕ). jobs_from 0 (map (λ session. at_start log (session ∷ [])) (range_with_len 0 k))) (sym many) ∙ ap (jobs_from 0) (sym made) ∙ sym is) (begin 0 (length scripts) (omega arith))

@@ -1,14 +1,15 @@
 -- What rows of sessions have come to, each session with its answers.
-use Rattle.std.specs.Prelude.{◌≡◌, ℕ, ◌+◌, ◌<◌, ◌==◌, List, [], ◌∷◌, length, map, filter, slice_index_or}
+use Rattle.std.specs.Prelude.{◌≡◌, ℕ, ◌+◌, ◌<◌, ◌==◌, List, [], ◌∷◌, length, map, filter, All, slice_index_or}
 use Rattle.std.specs.List.{enumerate_from}
 use Rattle.lg_gram.specs.declared.reply.Reply.{Reply}
 use Rattle.lg_dict.specs.Dictionary.{Dictionary}
 use Rattle.lg_log.specs.Passes.{LogId, Standing, HasAllOf, at_start}
 use Rattle.lg_script.specs.declared.command.Command.{Command}
 use Rattle.lg_script.specs.Commands.{CommandView}
+use Rattle.lg_script.specs.EditNumbers.{edit_counts}
 use Rattle.lg_script.specs.Histories.{published_by}
 use Rattle.lg_session.specs.declared.job.Job.{Job}
-use Rattle.lg_script.specs.Codes.{places_of}
+use Rattle.lg_script.specs.Codes.{places_of, AreScripts}
 use Rattle.lg_session.specs.Engines.{Meaning}
 use Rattle.lg_session.specs.Legal.{Run, IsLegalSession, script_views}
 
@@ -54,6 +55,13 @@ pub record AreDone (g : Ground) (log : LogId) (sessions : List ℕ) (pass : Stan
 -- a session that has not begun: its script is there, and its pass has seen nothing and carries it alone
 abbrev pub IsFresh : LogId → List (List CommandView) → Job → Type 0
 IsFresh log scripts job = (job.session < length scripts) × (job.pass ≡ at_start log (job.session ∷ []))
+
+-- some of the sessions of these scripts, which have not begun, and their log
+abbrev pub MayRun : LogId → List (List CommandView) → List Job → Type 0
+MayRun log scripts jobs = (0 < length jobs) × AreScripts scripts × (log.counts ≡ edit_counts scripts) × All (IsFresh log scripts) jobs
+
+abbrev pub numbers_of : List Job → List ℕ
+numbers_of jobs = map (λ job. job.session) jobs
 
 -- sessions that have not begun, numbered from this number on, each with its pass
 abbrev pub jobs_from : ℕ → List Standing → List Job
