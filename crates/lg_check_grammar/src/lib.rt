@@ -1,8 +1,6 @@
-//! Tests of the grammar, the dictionary, the listers and the answers: outside values, and calls that succeed.
+//! Tests of the grammar, the dictionary and the slow lister: outside values, and calls that succeed.
 #![tactic(auto)]
 
-#[cfg(test)]
-mod answer;
 #[cfg(test)]
 mod dict;
 #[cfg(test)]
