@@ -76,7 +76,7 @@ all_short positions x is c =
 pub list_short : (positions : List (List Disjunct)) (lists : List (List Connector)) (n : ℕ) → IsProblem positions → AreListsOf positions lists → n < length lists → length (get_or lists n []) ≤ SIDE
 list_short positions lists n is are l = all_short positions (get_or lists n []) is ((are.same (get_or lists n [])).0 (Contains-get_or lists n [] l))
 
-within_rows : (positions : List (List Disjunct)) (word number : ℕ) → number < length (get_or positions word []) → word < length positions
+pub within_rows : (positions : List (List Disjunct)) (word number : ℕ) → number < length (get_or positions word []) → word < length positions
 within_rows positions word number l =
     elim (cases_lt word (length positions)) [
       | inl p ↦ p

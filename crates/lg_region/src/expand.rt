@@ -29,8 +29,10 @@ pub fn expand_key<L>(
     ensures step { steps.new ≡ steps.old + 1 }
 {
     steps.tick();
+    lists.are_numbered();
+    lists.keep_limits();
     let items = alternatives(alloc, lists, key)?;
-    Ok(Alts::of(items))
+    Alts::of(alloc, &items)
 }
 
 fn alternatives(alloc: Global, lists: &Lists<'_>, key: Key) -> Result<Vec<Alt>, NoMemory>
