@@ -1,26 +1,25 @@
 -- The alternatives of a key, word by word.
-use Rattle.std.proofs.Common.{◌≡◌, ◌≢◌, ◌↔◌, ℕ, zero, suc, ◌+◌, ◌-◌, ◌<◌, ◌≤◌, Bool, true, false, cond, List, [], ◌∷◌, ◌++◌, length, get_or, refl, sym, ◌∙◌, ap, subst, Option, Some, None, IsTrue, ◌⊎◌, inl, inr, arith, append_assoc, IsSome}
+use Rattle.std.proofs.Common.{◌≡◌, ◌≢◌, ◌↔◌, ℕ, suc, ◌+◌, ◌-◌, ◌<◌, ◌≤◌, List, [], ◌∷◌, ◌++◌, length, get_or, refl, sym, ◌∙◌, ap, subst, Option, Some, None, ◌⊎◌, inl, inr, arith, append_assoc, IsSome}
 use Rattle.std.specs.List.{flat_map, range_with_len}
 use Rattle.std.proofs.lemmas.Bool.{cases_lt}
-use Rattle.std.proofs.lemmas.Option.{same_Some, slice_get_within}
+use Rattle.std.proofs.lemmas.Option.{slice_get_within}
 use Rattle.lg_gram.specs.Connectors.{Connector}
 use Rattle.lg_gram.specs.declared.disjunct.Disjunct.{Disjunct}
 use Rattle.lg_region.specs.Parts.{Region}
 use Rattle.lg_region.specs.Cuts.{IsCutAt}
-use Rattle.lg_region.specs.Whole.{First, IsFirst}
+use Rattle.lg_region.specs.Whole.{First}
 use Rattle.lg_region.specs.Fronts.{AreListsOf, Numbering, list_of}
-use Rattle.lg_region.specs.Keys.{region_of_numbers, IsKeyOf, IsDisjunctAt, IsFirstOf, IsAltOfRegion, IsAltOfWhole}
+use Rattle.lg_region.specs.Keys.{region_of_numbers, IsDisjunctAt, IsAltOfRegion, IsAltOfWhole}
 use Rattle.lg_region.specs.Numbered.{HasSides}
 use Rattle.lg_region.specs.Ways.{AreExactly, AddsExactly}
 use Rattle.lg_region.specs.Groups.{region_of_gap, StandsIn, StandsBefore, AddsFirst, HaveLeft, IsGroup}
 use Rattle.lg_region.specs.declared.key.Joint.{Joint}
 use Rattle.lg_region.specs.declared.key.Key.{Key}
-use Rattle.lg_region.specs.declared.key.Key.TheVariants.{Whole, Region as Between}
+use Rattle.lg_region.specs.declared.key.Key.TheVariants.{Region as Between}
 use Rattle.lg_region.specs.declared.alternative.Alt.{Alt}
 use Rattle.lg_region.specs.declared.alternative.Alt.TheVariants.{AllNull, Split as At}
 use Rattle.lg_region.specs.declared.numbering.Sides.{Sides}
 use Rattle.lg_region.specs.declared.group.Gap.{Gap}
-use Rattle.lg_region.specs.declared.group.Group.{Group}
 use Rattle.lg_region.proofs.Numbers.{apart, one_key, get_contains}
 use Rattle.lg_region.proofs.Once.{exactly_as, exactly_none, exactly_one, exactly_append, adds_none}
 use Rattle.lg_region.proofs.Splitting.{some_number}

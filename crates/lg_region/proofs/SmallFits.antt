@@ -1,16 +1,13 @@
 -- Each alternative of a key has room in few bytes.
-use Rattle.std.proofs.Common.{◌≡◌, ℕ, zero, suc, ◌+◌, ◌-◌, ◌<◌, ◌≤◌, Bool, true, false, cond, List, [], ◌∷◌, length, get_or, map, refl, sym, ◌∙◌, ap, subst, Option, None, Some, arith}
-use Rattle.std.specs.List.{slice_get}
-use Rattle.std.proofs.lemmas.Option.{slice_get_within, get_or_from_slice_get}
+use Rattle.std.proofs.Common.{◌≡◌, ℕ, zero, suc, ◌≤◌, Bool, true, false, List, [], ◌∷◌, length, get_or, map, refl, sym, ◌∙◌, ap, subst, Option, None, Some, arith}
+use Rattle.std.proofs.lemmas.Option.{slice_get_within}
 use Rattle.std.proofs.lemmas.List.Elements.{All-contains, Contains-get_or}
 use Rattle.lg_gram.specs.Connectors.{Connector}
-use Rattle.lg_gram.specs.Limits.{SIDE, POSITIONS}
 use Rattle.lg_gram.specs.Problems.{IsProblem, IsPosition, FitsProblem}
 use Rattle.lg_gram.specs.declared.disjunct.Disjunct.{Disjunct}
-use Rattle.lg_region.specs.Cuts.{IsCutAt, Split, IsCut, IsValid}
-use Rattle.lg_region.specs.Whole.{First}
+use Rattle.lg_region.specs.Cuts.{IsCutAt}
 use Rattle.lg_region.specs.Fronts.{AreListsOf, list_of}
-use Rattle.lg_region.specs.Keys.{region_of_numbers, IsValidKey, IsAltOf, IsDisjunctAt, kept}
+use Rattle.lg_region.specs.Keys.{IsValidKey, IsAltOf, IsDisjunctAt, kept}
 use Rattle.lg_region.specs.Small.{IsSmall, IsSmallJoint}
 use Rattle.lg_region.specs.declared.key.Joint.{Joint}
 use Rattle.lg_region.specs.declared.key.Key.{Key}
@@ -68,8 +65,7 @@ alt_small positions lists (Between l r ll rl k) (At w n tl tr (Some (Between a b
     let ea = ap (λ z. z.left) e in let eb = ap (λ z. z.right) e in let em = ap (λ z. z.nulls) e in
     let fa = ap (λ z. z.left) f in let fb = ap (λ z. z.right) f in let fm = ap (λ z. z.nulls) f in
     let x = i.cut.ends_left.0 in let y = i.cut.ends_left.1 in let x' = i.cut.ends_right.0 in let y' = i.cut.ends_right.1 in
-    let fl = i.cut.few_left in let fr = i.cut.few_right in
-    (
+    let fl = i.cut.few_left in let fr = i.cut.few_right in (
       omega arith,
       subst (λ z. IsSmallJoint z) i.joint_left (joint_small c.to_left (list_of lists ll) c.disjunct.left c.lkey.llist c.lkey.rlist i.cut.at_left sl fits.left),
       subst (λ z. IsSmallJoint z) i.joint_right (joint_small c.to_right c.disjunct.right (list_of lists rl) c.rkey.llist c.rkey.rlist i.cut.at_right fits.right sr),

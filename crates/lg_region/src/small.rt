@@ -108,25 +108,29 @@ impl Small {
         else {
             return Small::AllNull;
         };
-        let Some(Key::Region {
-            left,
-            right,
-            llist,
-            rlist,
-            nulls,
-        }) = rkey
-        else {
-            return Small::AllNull;
-        };
-        let behind = SmallRegion::of(left, right, llist, rlist, nulls);
-        match lkey {
-            Some(Key::Region {
+        let Some(
+            Key::Region {
                 left,
                 right,
                 llist,
                 rlist,
                 nulls,
-            }) => Small::Cut {
+            },
+        ) = rkey
+        else {
+            return Small::AllNull;
+        };
+        let behind = SmallRegion::of(left, right, llist, rlist, nulls);
+        match lkey {
+            Some(
+                Key::Region {
+                    left,
+                    right,
+                    llist,
+                    rlist,
+                    nulls,
+                },
+            ) => Small::Cut {
                 word: word as u8,
                 disjunct,
                 to_left: SmallJoint::of(to_left),

@@ -1,4 +1,4 @@
-use Rattle.std.proofs.Common.{◌≡◌, ◌↔◌, ◌∙◌, List, Contains, sym, subst}
+use Rattle.std.proofs.Common.{◌↔◌, ◌∙◌, Contains, sym, subst}
 use Rattle.lg_region.specs.Fronts.{AreOnce}
 use Rattle.lg_region.specs.Keys.{IsAltOf}
 use Rattle.lg_region.specs.declared.alternative.Alt.{Alt}
@@ -8,8 +8,8 @@ use Rattle.lg_region.proofs.expand.expand_key.Goals as goal
 
 pub of-requires : goal.of-requires
 of-requires g c = λ a h.
-  alt_small c.args.lists.now.positions c.args.lists.now.lists c.args.key a c.keep_limits.ensures c.are_numbered.ensures c.requires.key
-  ((c.in_ok-items.ensures.each a).0 (subst (λ z. Contains z a) c.deref.ensures.value h))
+    alt_small c.args.lists.now.positions c.args.lists.now.lists c.args.key a c.keep_limits.ensures c.are_numbered.ensures c.requires.key
+    ((c.in_ok-items.ensures.each a).0 (subst (λ z. Contains z a) c.deref.ensures.value h))
 
 pub returns-clause-exactly : goal.returns-clause-exactly
 returns-clause-exactly g c =

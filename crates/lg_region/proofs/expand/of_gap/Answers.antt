@@ -1,7 +1,7 @@
-use Rattle.std.proofs.Common.{◌≡◌, ◌+◌, true, false, refl}
+use Rattle.std.proofs.Common.{◌+◌}
 use Rattle.lg_region.specs.Groups.{region_of_gap}
 use Rattle.lg_region.specs.Keys.{IsAltOfRegion}
-use Rattle.lg_region.proofs.Expanding.{all_words, empty_gap, exactly_word, gap_start, region_lies, region_names}
+use Rattle.lg_region.proofs.Expanding.{all_words, exactly_word, gap_start, region_lies, region_names}
 use Rattle.lg_region.proofs.expand.of_gap.Goals as goal
 
 pub loop-word-init : goal.loop-word-init

@@ -1,4 +1,4 @@
-use Rattle.std.proofs.Common.{◌≤◌, length, get_or, [], arith}
+use Rattle.std.proofs.Common.{arith}
 use Rattle.lg_region.specs.Groups.{region_of_gap}
 use Rattle.lg_region.specs.Keys.{IsAltOfRegion}
 use Rattle.lg_region.proofs.Expanding.{adds_numbers, adds_start, run_group}
