@@ -1,5 +1,5 @@
 -- A list with a known end is met.
-use Rattle.std.proofs.Common.{◌≡◌, ◌≢◌, ℕ, zero, suc, ◌+◌, ◌<◌, ◌≤◌, Bool, true, false, not, cond, if◌then◌else◌, ◌&&◌, ◌==◌, true≢false, List, [], ◌∷◌, ◌++◌, length, get_or, refl, sym, ◌∙◌, ap, subst, Some, None, inl, inr, Contains, arith, length-append, append-nil, add-one, map, Bor}
+use Rattle.std.proofs.Common.{◌≡◌, ◌≢◌, ℕ, zero, suc, ◌+◌, ◌<◌, ◌≤◌, Bool, true, false, not, cond, if◌then◌else◌, ◌&&◌, ◌==◌, true≢false, List, [], ◌∷◌, ◌++◌, length, get_or, refl, sym, ◌∙◌, ap, subst, Some, inl, inr, Contains, arith, length-append, append-nil, add-one, map, Bor}
 use Rattle.std.proofs.lemmas.List.{map-append}
 use Rattle.std.specs.Bool.{Decides}
 use Rattle.std.specs.Cmp.{booleans_Decides}
@@ -11,11 +11,11 @@ use Rattle.std.proofs.lemmas.List.{get_or_append_left}
 use Rattle.std.proofs.lemmas.Option.{same_Some, slice_get-get_or, slice_get_within, get_or_from_slice_get}
 use Rattle.std.proofs.lemmas.Slice.Eq.{slice_eq-Decides}
 use Rattle.lg_gram.specs.Connectors.{Connector, connector_eq}
-use Rattle.lg_region.specs.Fronts.{AreFirstMet, AreOnce, list_of}
-use Rattle.lg_region.specs.Numbered.{IsTailOf, AreTailsOf, AreNumbered, IsNumberOf, Admits}
+use Rattle.lg_region.specs.Fronts.{AreOnce, list_of}
+use Rattle.lg_region.specs.Numbered.{IsTailOf, AreTailsOf, Admits}
 use Rattle.lg_region.specs.declared.numbering.Tail.{Tail}
 use Rattle.lg_region.proofs.Numbers.{contains_get, get_contains}
-use Rattle.lg_region.proofs.Firsts.{push_cases, get_left, get_end, met_again, met_new}
+use Rattle.lg_region.proofs.Firsts.{push_cases, get_end, met_again, met_new}
 
 bytes_Decides : (xs ys : List ℕ) → Decides (pointwise ◌==◌ xs ys) (xs ≡ ys)
 bytes_Decides xs ys = slice_eq-Decides Decides-eqb xs ys _ refl

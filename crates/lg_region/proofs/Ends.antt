@@ -1,5 +1,5 @@
 -- What is kept of lists tells their ends, and the lists of disjuncts.
-use Rattle.std.proofs.Common.{◌≡◌, ◌≢◌, ℕ, zero, suc, ◌+◌, ◌-◌, ◌<◌, ◌≤◌, ◌^◌, List, [], ◌∷◌, ◌++◌, length, take, get_or, map, refl, sym, ◌∙◌, ap, subst, Some, ◌⊎◌, inl, inr, Contains, arith, length-append}
+use Rattle.std.proofs.Common.{◌≡◌, ℕ, suc, ◌+◌, ◌-◌, ◌<◌, ◌≤◌, List, [], ◌∷◌, ◌++◌, length, take, get_or, map, refl, sym, ◌∙◌, ap, subst, Some, inl, inr, Contains, arith, length-append}
 use Rattle.std.specs.List.{AllZip, flat_map, range_with_len, slice_get}
 use Rattle.std.proofs.lemmas.Bool.{cases_lt}
 use Rattle.std.proofs.lemmas.List.{get_or-map, take_at, get_or_past}
@@ -12,14 +12,13 @@ use Rattle.lg_gram.specs.Problems.{IsProblem, IsPosition, FitsProblem}
 use Rattle.lg_gram.specs.declared.disjunct.Disjunct.{Disjunct}
 use Rattle.lg_region.specs.Fronts.{fronts, fronts_of, all_fronts, AreListsOf, list_of}
 use Rattle.lg_region.specs.Keys.{IsDisjunctAt}
-use Rattle.lg_region.specs.Numbered.{IsTailOf, AreTailsOf, HasSides, AreSidesOf}
+use Rattle.lg_region.specs.Numbered.{AreTailsOf, HasSides, AreSidesOf}
 use Rattle.lg_region.specs.Ways.{IsEndOf}
 use Rattle.lg_region.specs.declared.numbering.Tail.{Tail}
 use Rattle.lg_region.specs.declared.numbering.Sides.{Sides}
-use Rattle.lg_region.specs.declared.ways.End.{End}
 use Rattle.lg_region.proofs.Elements.{zip_at, zip_length}
 use Rattle.lg_region.proofs.Valid.{take_short}
-use Rattle.lg_region.proofs.Numbers.{map_out, flat_out, range_out, get_contains}
+use Rattle.lg_region.proofs.Numbers.{map_out, flat_out, range_out}
 
 -- an element that was read, of a list that is seen through a function
 pub map_at : {X Y : Type 0} (g : X → Y) (xs : List X) (n : ℕ) (x : X) (d : Y) → n < length xs → x ≡ get_or xs n x → get_or (map g xs) n d ≡ g x
@@ -76,7 +75,7 @@ all_short positions x is c =
 pub list_short : (positions : List (List Disjunct)) (lists : List (List Connector)) (n : ℕ) → IsProblem positions → AreListsOf positions lists → n < length lists → length (get_or lists n []) ≤ SIDE
 list_short positions lists n is are l = all_short positions (get_or lists n []) is ((are.same (get_or lists n [])).0 (Contains-get_or lists n [] l))
 
-within_rows : (positions : List (List Disjunct)) (word number : ℕ) → number < length (get_or positions word []) → word < length positions
+pub within_rows : (positions : List (List Disjunct)) (word number : ℕ) → number < length (get_or positions word []) → word < length positions
 within_rows positions word number l =
     elim (cases_lt word (length positions)) [
       | inl p ↦ p

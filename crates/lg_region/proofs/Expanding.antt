@@ -1,25 +1,25 @@
 -- The alternatives of a key, word by word.
-use Rattle.std.proofs.Common.{◌≡◌, ◌≢◌, ◌↔◌, ℕ, zero, suc, ◌+◌, ◌-◌, ◌<◌, ◌≤◌, Bool, true, false, cond, List, [], ◌∷◌, ◌++◌, length, get_or, refl, sym, ◌∙◌, ap, subst, Option, Some, None, IsTrue, ◌⊎◌, inl, inr, arith, append_assoc}
+use Rattle.std.proofs.Common.{◌≡◌, ◌≢◌, ◌↔◌, ℕ, suc, ◌+◌, ◌-◌, ◌<◌, ◌≤◌, List, [], ◌∷◌, ◌++◌, length, get_or, refl, sym, ◌∙◌, ap, subst, Option, Some, None, ◌⊎◌, inl, inr, arith, append_assoc, IsSome}
 use Rattle.std.specs.List.{flat_map, range_with_len}
 use Rattle.std.proofs.lemmas.Bool.{cases_lt}
-use Rattle.std.proofs.lemmas.Option.{same_Some, slice_get_within}
+use Rattle.std.proofs.lemmas.Option.{slice_get_within}
 use Rattle.lg_gram.specs.Connectors.{Connector}
 use Rattle.lg_gram.specs.declared.disjunct.Disjunct.{Disjunct}
 use Rattle.lg_region.specs.Parts.{Region}
-use Rattle.lg_region.specs.Whole.{First, IsFirst}
+use Rattle.lg_region.specs.Cuts.{IsCutAt}
+use Rattle.lg_region.specs.Whole.{First}
 use Rattle.lg_region.specs.Fronts.{AreListsOf, Numbering, list_of}
-use Rattle.lg_region.specs.Keys.{region_of_numbers, IsKeyOf, IsDisjunctAt, IsFirstOf, IsAltOfRegion, IsAltOfWhole}
+use Rattle.lg_region.specs.Keys.{region_of_numbers, IsDisjunctAt, IsAltOfRegion, IsAltOfWhole}
 use Rattle.lg_region.specs.Numbered.{HasSides}
 use Rattle.lg_region.specs.Ways.{AreExactly, AddsExactly}
-use Rattle.lg_region.specs.Groups.{region_of_gap, StandsIn, StandsBefore, AddsFirst, IsGroup}
+use Rattle.lg_region.specs.Groups.{region_of_gap, StandsIn, StandsBefore, AddsFirst, HaveLeft, IsGroup}
 use Rattle.lg_region.specs.declared.key.Joint.{Joint}
 use Rattle.lg_region.specs.declared.key.Key.{Key}
-use Rattle.lg_region.specs.declared.key.Key.TheVariants.{Whole, Region as Between}
+use Rattle.lg_region.specs.declared.key.Key.TheVariants.{Region as Between}
 use Rattle.lg_region.specs.declared.alternative.Alt.{Alt}
 use Rattle.lg_region.specs.declared.alternative.Alt.TheVariants.{AllNull, Split as At}
 use Rattle.lg_region.specs.declared.numbering.Sides.{Sides}
 use Rattle.lg_region.specs.declared.group.Gap.{Gap}
-use Rattle.lg_region.specs.declared.group.Group.{Group}
 use Rattle.lg_region.proofs.Numbers.{apart, one_key, get_contains}
 use Rattle.lg_region.proofs.Once.{exactly_as, exactly_none, exactly_one, exactly_append, adds_none}
 use Rattle.lg_region.proofs.Splitting.{some_number}
@@ -41,29 +41,29 @@ adds_then a b c P Q R p q d e = record {
   exactly = exactly_as (p.more ++ q.more) (λ x. P x ⊎ Q x) R e (exactly_append p.more q.more P Q p.exactly q.exactly d);
 }
 
-in_split : (word n : ℕ) (a : Alt) → StandsIn word 0 (n + 1) a → StandsIn word 0 n a ⊎ StandsIn word n (n + 1) a
-in_split word n AllNull s = absurd s
-in_split word n (At w number tl tr lk rk) s = let l = s.2 in elim (cases_lt number n) [ inl h ↦ inl (s.0, s.1, h) | inr h ↦ inr (s.0, h, s.2) ]
+in_split : (word n m : ℕ) (a : Alt) → StandsIn word 0 m a → StandsIn word 0 n a ⊎ StandsIn word n m a
+in_split word n m AllNull s = absurd s
+in_split word n m (At w number tl tr lk rk) s = let l = s.2 in elim (cases_lt number n) [ inl h ↦ inl (s.0, s.1, h) | inr h ↦ inr (s.0, h, s.2) ]
 
-in_first : (word n : ℕ) (a : Alt) → StandsIn word 0 n a → StandsIn word 0 (n + 1) a
-in_first word n AllNull s = absurd s
-in_first word n (At w number tl tr lk rk) s = let l = s.2 in (s.0, s.1, omega arith)
+in_first : (word n m : ℕ) (a : Alt) → n ≤ m → StandsIn word 0 n a → StandsIn word 0 m a
+in_first word n m AllNull h s = absurd s
+in_first word n m (At w number tl tr lk rk) h s = let l = s.2 in (s.0, s.1, omega arith)
 
-in_second : (word n : ℕ) (a : Alt) → StandsIn word n (n + 1) a → StandsIn word 0 (n + 1) a
-in_second word n AllNull s = absurd s
-in_second word n (At w number tl tr lk rk) s = (s.0, omega arith, s.2)
+in_second : (word n m : ℕ) (a : Alt) → StandsIn word n m a → StandsIn word 0 m a
+in_second word n m AllNull s = absurd s
+in_second word n m (At w number tl tr lk rk) s = (s.0, omega arith, s.2)
 
-in_apart : (word n : ℕ) (a : Alt) → StandsIn word 0 n a → StandsIn word n (n + 1) a → ⊥
-in_apart word n AllNull s t = absurd s
-in_apart word n (At w number tl tr lk rk) s t = let l = s.2 in let m = t.1 in omega arith
+in_apart : (word n m : ℕ) (a : Alt) → StandsIn word 0 n a → StandsIn word n m a → ⊥
+in_apart word n m AllNull s t = absurd s
+in_apart word n m (At w number tl tr lk rk) s t = let l = s.2 in let k = t.1 in omega arith
 
--- one more disjunct of a word
-pub adds_number : (I : Alt → Type 0) (word n : ℕ) (a b c : List Alt) → AddsExactly a b (λ x. I x × StandsIn word 0 n x) → AddsExactly b c (λ x. I x × StandsIn word n (n + 1) x) → AddsExactly a c (λ x. I x × StandsIn word 0 (n + 1) x)
-adds_number I word n a b c p q =
-    adds_then a b c (λ x. I x × StandsIn word 0 n x) (λ x. I x × StandsIn word n (n + 1) x) (λ x. I x × StandsIn word 0 (n + 1) x) p q (λ x s t. in_apart word n x s.1 t.1)
+-- more disjuncts of a word
+pub adds_numbers : (I : Alt → Type 0) (word n m : ℕ) (a b c : List Alt) → n ≤ m → AddsExactly a b (λ x. I x × StandsIn word 0 n x) → AddsExactly b c (λ x. I x × StandsIn word n m x) → AddsExactly a c (λ x. I x × StandsIn word 0 m x)
+adds_numbers I word n m a b c h p q =
+    adds_then a b c (λ x. I x × StandsIn word 0 n x) (λ x. I x × StandsIn word n m x) (λ x. I x × StandsIn word 0 m x) p q (λ x s t. in_apart word n m x s.1 t.1)
     (λ x. (
-      λ h. elim h [ inl s ↦ (s.0, in_first word n x s.1) | inr s ↦ (s.0, in_second word n x s.1) ],
-      λ (i, s). elim (in_split word n x s) [ inl t ↦ inl (i, t) | inr t ↦ inr (i, t) ],
+      λ g. elim g [ inl s ↦ (s.0, in_first word n m x h s.1) | inr s ↦ (s.0, in_second word n m x s.1) ],
+      λ (i, s). elim (in_split word n m x s) [ inl t ↦ inl (i, t) | inr t ↦ inr (i, t) ],
     ))
 
 none_in : (word : ℕ) (a : Alt) → StandsIn word 0 0 a → ⊥
@@ -158,36 +158,55 @@ start_none from to I out lies n e =
     let P : Alt → Type 0 = λ x. I x × StandsBefore from x in
     subst (λ z. AreExactly z P) (sym e) (exactly_none P (λ x (i, s). n (subst I (sym (first_words from to I lies x i s)) i)))
 
--- no word of a region need be linked, in numbers
-null_is : (positions : List (List Disjunct)) (lists : List (List Connector)) (gap : Gap) → AreListsOf positions lists → gap.llist ≤ length lists → gap.rlist ≤ length lists
-    → ((gap.llist ≡ 0) × (gap.rlist ≡ 0) × (gap.nulls ≡ gap.right - suc gap.left)) ↔ IsAltOfRegion positions lists (region_of_gap lists gap) AllNull
-null_is positions lists gap are l r = (
-  λ (a, b, c). (ap (list_of lists) a, ap (list_of lists) b, c),
-  λ (a, b, c). (apart positions lists are gap.llist 0 l (omega arith) a, apart positions lists are gap.rlist 0 r (omega arith) b, c),
-)
+cases_eq : (m n : ℕ) → (m ≡ n) ⊎ (m ≢ n)
+cases_eq m n = elim (cases_lt m n) [ inl h ↦ inr (omega arith) | inr h ↦ elim (cases_lt n m) [ inl k ↦ inr (omega arith) | inr k ↦ inl (omega arith) ] ]
 
-pub gap_start : (positions : List (List Disjunct)) (lists : List (List Connector)) (gap : Gap) (may : Bool) (out : List Alt) → AreListsOf positions lists → gap.llist ≤ length lists → gap.rlist ≤ length lists
-    → (IsTrue may ↔ ((gap.llist ≡ 0) × (gap.rlist ≡ 0) × (gap.nulls ≡ gap.right - suc gap.left))) → out ≡ cond may (AllNull ∷ []) []
-    → AreExactly out (λ a. IsAltOfRegion positions lists (region_of_gap lists gap) a × StandsBefore (gap.left + 1) a)
-gap_start positions lists gap true out are l r t e =
-    let k = region_of_gap lists gap in
-    start_null (gap.left + 1) gap.right (IsAltOfRegion positions lists k) out (region_lies positions lists k) ((null_is positions lists gap are l r).0 (t.0 refl)) e
-gap_start positions lists gap false out are l r t e =
-    let k = region_of_gap lists gap in
-    start_none (gap.left + 1) gap.right (IsAltOfRegion positions lists k) out (region_lies positions lists k) (λ i. let f = t.1 ((null_is positions lists gap are l r).1 i) in absurd cc) e
+no_far_joint : (o : Option Joint) (near far near' far' : List Connector) → far ≡ [] → IsCutAt o near far near' far' → IsSome o → ⊥
+no_far_joint None near far near' far' e c s = absurd cc
+no_far_joint (Some j) near far near' far' e c s = let a = c.1.0 in let b = ap (λ z. length z) e in omega arith
 
--- one disjunct is a group
-pub lone_group : (numbers : Numbering) (gap : Gap) (word number : ℕ) (s : Sides) → gap.left < word → word < gap.right → number < length (get_or numbers.positions word []) → ((d : Disjunct) → IsDisjunctAt numbers.positions word number d → HasSides numbers.lists d s)
-    → IsGroup numbers gap (record { word = word; left = s.left; from = number; to = number + 1 })
-lone_group numbers gap word number s after before l sides =
-    let d = some_number numbers.positions word number l in
-    record {
-      after = after;
-      before = before;
-      listed = omega arith;
-      known = (sides d.0 d.1).left.known;
-      left = λ n e from to at. let q : n ≡ number = omega arith in (sides e (subst (λ z. IsDisjunctAt numbers.positions word z e) q at)).left.list;
-    }
+-- between two empty lists no word is linked
+empty_is_null : (positions : List (List Disjunct)) (lists : List (List Connector)) (gap : Gap) → gap.llist ≡ 0 → gap.rlist ≡ 0 → (a : Alt) → IsAltOfRegion positions lists (region_of_gap lists gap) a → AllNull ≡ a
+empty_is_null positions lists gap l r AllNull i = refl
+empty_is_null positions lists gap l r (At w number tl tr None rk) i = absurd i
+empty_is_null positions lists gap l r (At w number tl tr (Some lk) None) i = absurd i
+empty_is_null positions lists gap l r (At w number tl tr (Some lk) (Some rk)) (c, i) =
+    absurd (no_far_joint c.to_right c.disjunct.right (list_of lists gap.rlist) c.rkey.llist c.rkey.rlist (ap (list_of lists) r) i.cut.at_right (i.cut.by_rlist (ap (list_of lists) l)))
+
+pub empty_gap : (positions : List (List Disjunct)) (lists : List (List Connector)) (gap : Gap) (out : List Alt) → gap.llist ≡ 0 → gap.rlist ≡ 0 → (gap.nulls ≡ gap.right - suc gap.left → out ≡ AllNull ∷ []) → (gap.nulls ≢ gap.right - suc gap.left → out ≡ [])
+    → AreExactly out (IsAltOfRegion positions lists (region_of_gap lists gap))
+empty_gap positions lists gap out l r full short =
+    let P = IsAltOfRegion positions lists (region_of_gap lists gap) in
+    let n = gap.right - suc gap.left in
+    elim (cases_eq gap.nulls n) [
+      | inl e ↦ subst (λ z. AreExactly z P) (sym (full e)) (exactly_as (AllNull ∷ []) (λ x. AllNull ≡ x) P (λ x. (λ q. subst P q (ap (list_of lists) l, ap (list_of lists) r, e), empty_is_null positions lists gap l r x)) (exactly_one AllNull))
+      | inr e ↦ subst (λ z. AreExactly z P) (sym (short e)) (exactly_none P (λ x i. e (subst P (sym (empty_is_null positions lists gap l r x i)) i).2))
+    ]
+
+-- where a list is left to be joined, some word is linked
+pub gap_start : (positions : List (List Disjunct)) (lists : List (List Connector)) (gap : Gap) (out : List Alt) → AreListsOf positions lists → gap.llist ≤ length lists → gap.rlist ≤ length lists
+    → ((gap.llist ≡ 0) × (gap.rlist ≡ 0) → ⊥) → out ≡ [] → AreExactly out (λ a. IsAltOfRegion positions lists (region_of_gap lists gap) a × StandsBefore (gap.left + 1) a)
+gap_start positions lists gap out are l r some e =
+    let k = region_of_gap lists gap in
+    start_none (gap.left + 1) gap.right (IsAltOfRegion positions lists k) out (region_lies positions lists k)
+    (λ (a, b, c). some (apart positions lists are gap.llist 0 l (omega arith) a, apart positions lists are gap.rlist 0 r (omega arith) b)) e
+
+-- the first disjunct of a run, and one more
+pub left_first : (numbers : Numbering) (word number : ℕ) (s : Sides) → ((d : Disjunct) → IsDisjunctAt numbers.positions word number d → HasSides numbers.lists d s) → HaveLeft numbers word s.left number (number + 1)
+left_first numbers word number s sides n d from to at = let q : n ≡ number = omega arith in (sides d (subst (λ z. IsDisjunctAt numbers.positions word z d) q at)).left.list
+
+pub left_more : (numbers : Numbering) (word left from to : ℕ) (s : Sides) → HaveLeft numbers word left from to → s.left ≡ left → ((d : Disjunct) → IsDisjunctAt numbers.positions word to d → HasSides numbers.lists d s) → HaveLeft numbers word left from (to + 1)
+left_more numbers word left from to s so e sides n d f t at =
+    elim (cases_lt n to) [
+      | inl h ↦ so n d f h at
+      | inr h ↦ (let q : n ≡ to = omega arith in ap (list_of numbers.lists) (sym e) ∙ (sides d (subst (λ z. IsDisjunctAt numbers.positions word z d) q at)).left.list)
+    ]
+
+pub run_group : (numbers : Numbering) (gap : Gap) (word from to : ℕ) (s : Sides) → gap.left < word → word < gap.right → from < length (get_or numbers.positions word []) → to ≤ length (get_or numbers.positions word []) → ((d : Disjunct) → IsDisjunctAt numbers.positions word from d → HasSides numbers.lists d s)
+    → HaveLeft numbers word s.left from to → IsGroup numbers gap (record { word = word; left = s.left; from = from; to = to })
+run_group numbers gap word from to s after before l listed sides same =
+    let d = some_number numbers.positions word from l in
+    record { after = after; before = before; listed = listed; known = (sides d.0 d.1).left.known; left = same }
 
 -- the whole sentence with all words unlinked
 all_unlinked : (positions : List (List Disjunct)) (lists : List (List Connector)) (nulls : ℕ) → nulls ≡ length positions → (a : Alt) → IsAltOfWhole positions lists nulls a → AllNull ≡ a

@@ -1,7 +1,6 @@
 -- The ways on of two lists.
-use Rattle.std.proofs.Common.{◌≡◌, ◌↔◌, ℕ, zero, suc, ◌+◌, ◌<◌, ◌≤◌, Bool, true, false, cond, List, [], ◌∷◌, ◌++◌, length, take, map, refl, sym, ◌∙◌, ap, subst, Option, Some, None, IsSome, ◌⊎◌, inl, inr, Contains, arith, length-append}
-use Rattle.std.specs.List.{flat_map, slice_get}
-use Rattle.std.proofs.lemmas.Bool.{cases_Bool}
+use Rattle.std.proofs.Common.{◌≡◌, ℕ, ◌≤◌, Bool, true, false, cond, List, [], ◌∷◌, ◌++◌, length, take, refl, sym, ◌∙◌, ap, subst, Option, Some, None, IsSome, ◌⊎◌, inl, inr, Contains, arith}
+use Rattle.std.specs.List.{slice_get}
 use Rattle.std.proofs.lemmas.Option.{same_Some}
 use Rattle.lg_gram.specs.Connectors.{Connector, Match}
 use Rattle.lg_gram.specs.declared.disjunct.Disjunct.{Disjunct}
@@ -14,7 +13,7 @@ use Rattle.lg_region.specs.declared.ways.End.{End}
 use Rattle.lg_region.proofs.Elements.{contains_here, contains_later, contains_cases, contains_none}
 use Rattle.lg_region.proofs.Valid.{take_short}
 use Rattle.lg_region.proofs.Numbers.{apart}
-use Rattle.lg_region.proofs.Once.{once_one, once_cons, exactly_as, exactly_one, exactly_append, exactly_product, adds_none}
+use Rattle.lg_region.proofs.Once.{once_one, once_cons, exactly_as, exactly_one, exactly_append, exactly_product}
 
 -- a number with which a list goes on behind a joint
 abbrev pub GoesOnTo : List (List Connector) → ℕ → ℕ → ℕ → Type 0

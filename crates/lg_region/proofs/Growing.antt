@@ -1,14 +1,13 @@
 -- The numbers while more lists are met.
 use Rattle.std.proofs.Common.{◌≡◌, ℕ, zero, suc, ◌+◌, ◌*◌, ◌<◌, ◌≤◌, ◌^◌, List, [], ◌∷◌, ◌++◌, length, take, get_or, map, refl, sym, ◌∙◌, ap, subst, arith, append_assoc, append-nil, length-append, add-one}
-use Rattle.std.specs.List.{All, AllByRecursion, AllZip, flat_map, range_with_len, sum_by}
-use Rattle.std.proofs.lemmas.List.{take_more, take_at, take_all, take-append-le, map-append, length-map}
+use Rattle.std.specs.List.{AllByRecursion, AllZip, flat_map, range_with_len, sum_by}
+use Rattle.std.proofs.lemmas.List.{take_more, take_all, take-append-le, map-append, length-map}
 use Rattle.std.proofs.lemmas.List.Elements.{recursion_from_All}
 use Rattle.std.proofs.lemmas.List.FromFn.{length-range_with_len}
 use Rattle.std.proofs.lemmas.Grind.{flat_map-append}
 use Rattle.std.proofs.lemmas.List.Folds.{length-flat_map-take}
 use Rattle.std.proofs.lemmas.List.Sums.{sum_by-cons}
 use Rattle.lg_gram.specs.Connectors.{Connector}
-use Rattle.lg_gram.specs.Limits.{SIDE, DISJUNCTS}
 use Rattle.lg_gram.specs.Problems.{IsProblem, IsPosition, FitsProblem}
 use Rattle.lg_gram.specs.declared.disjunct.Disjunct.{Disjunct}
 use Rattle.lg_region.specs.Fronts.{fronts, fronts_of, all_fronts, list_of}

@@ -1,12 +1,12 @@
 -- What the numbering keeps, for its methods.
-use Rattle.std.proofs.Common.{◌≡◌, ◌≢◌, ℕ, zero, suc, ◌-◌, ◌<◌, ◌≤◌, List, [], length, get_or, map, refl, sym, ◌∙◌, ap, subst, Some, Vec, Global, Bor, arith}
+use Rattle.std.proofs.Common.{◌≡◌, ◌≢◌, ℕ, suc, ◌-◌, ◌<◌, ◌≤◌, List, [], length, get_or, map, sym, ◌∙◌, ap, subst, Some, Vec, Global, Bor, arith}
 use Rattle.std.specs.List.{slice_get}
 use Rattle.std.proofs.lemmas.List.{length-map}
 use Rattle.std.proofs.lemmas.Option.{slice_get_within}
 use Rattle.lg_gram.specs.Connectors.{Connector}
 use Rattle.lg_gram.specs.Limits.{SIDE}
 use Rattle.lg_gram.specs.declared.disjunct.Disjunct.{Disjunct}
-use Rattle.lg_region.specs.Fronts.{Numbering, list_of}
+use Rattle.lg_region.specs.Fronts.{Numbering}
 use Rattle.lg_region.specs.Keys.{IsDisjunctAt}
 use Rattle.lg_region.specs.Kept.{IsKept, lists_in, numbering}
 use Rattle.lg_region.specs.Numbered.{HasSides}

@@ -1,6 +1,5 @@
 -- Elements whose flag is true, moved to the front in place.
-use Rattle.std.proofs.Common.{◌≡◌, ℕ, zero, suc, ◌+◌, ◌<◌, ◌≤◌, Bool, true, false, cond, List, [], ◌∷◌, ◌++◌, length, get_or, set, take, drop, refl, sym, ◌∙◌, ap, subst, arith, append-nil, add-one, length-set, get_or-set_other}
-use Rattle.std.proofs.lemmas.Bool.{cases_Bool}
+use Rattle.std.proofs.Common.{◌≡◌, ℕ, zero, suc, ◌+◌, ◌<◌, ◌≤◌, Bool, true, false, cond, List, [], ◌∷◌, ◌++◌, length, get_or, set, take, refl, sym, ◌∙◌, ap, arith, append-nil, add-one, length-set, get_or-set_other}
 use Rattle.std.proofs.lemmas.List.{take_more_set, take_all}
 use Rattle.lg_region.specs.Keys.{kept}
 

@@ -27,3 +27,4 @@ pub mod Going
 pub mod Splitting
 pub mod Expanding
 pub mod Keeps
+pub mod SmallFits

@@ -7,7 +7,7 @@ use Rattle.lg_gram.specs.Rules.{chosen_at, IsLinked, Belongs}
 use Rattle.lg_gram.specs.declared.disjunct.Disjunct.{Disjunct}
 use Rattle.lg_region.specs.Parts.{Region, IsPart, Under, UnderWhole, part_of}
 use Rattle.lg_region.specs.Cuts.{IsEmpty, IsValid, Spells, Alternative, IsAlternative, SpelledBy, all_null, split}
-use Rattle.lg_region.specs.Whole.{First, WholeAlternative, nothing, first, IsWholeAlternative, WholeSpelledBy}
+use Rattle.lg_region.specs.Whole.{WholeAlternative, nothing, first, IsWholeAlternative, WholeSpelledBy}
 use Rattle.lg_region.specs.Laws.{HasLinkage, KeysHave, WholeKeyHas}
 use Rattle.lg_region.proofs.Elements.{contains_none}
 use Rattle.lg_region.proofs.Empty.{region_complete, region_sound, none_of}

@@ -1,8 +1,8 @@
 -- Lists that have the values of a predicate, each once.
-use Rattle.std.proofs.Common.{◌≡◌, ◌↔◌, ℕ, zero, suc, ◌+◌, ◌<◌, ◌≤◌, List, [], ◌∷◌, ◌++◌, length, map, refl, sym, ◌∙◌, ap, subst, Some, None, ◌⊎◌, inl, inr, Contains, arith, append-nil, Result, Ok, Err, OnOk, Bool, cond}
+use Rattle.std.proofs.Common.{◌≡◌, ◌↔◌, ℕ, zero, suc, ◌+◌, ◌<◌, ◌≤◌, List, [], ◌∷◌, ◌++◌, length, map, refl, sym, ◌∙◌, subst, Some, ◌⊎◌, inl, inr, Contains, arith, append-nil, Result, Ok, Err, OnOk, IfOk, Bool, cond}
 use Rattle.std.specs.List.{flat_map, range_with_len, slice_get}
 use Rattle.std.proofs.lemmas.List.Elements.{Contains-append_left, Contains-append_right, Contains-append_cases}
-use Rattle.std.proofs.lemmas.Option.{same_Some, slice_get_within}
+use Rattle.std.proofs.lemmas.Option.{slice_get_within}
 use Rattle.lg_region.specs.Fronts.{AreOnce}
 use Rattle.lg_region.specs.Ways.{AreExactly, AddsExactly}
 use Rattle.lg_region.proofs.Elements.{contains_here, contains_none, contains_cases}
@@ -105,3 +105,7 @@ on_ok (Err e) p f = tt
 -- what a list begins with where a test is known
 pub started : {X : Type 0} {xs : List X} (may b : Bool) (x : X) → may ≡ b → xs ≡ cond b (x ∷ []) [] → xs ≡ cond may (x ∷ []) []
 started {X} {xs} may b x e h = rw e h
+
+pub if_ok : {T E : Type 0} (r : Result T E) {P Q : T → Type 0} → IfOk r P → ((x : T) → P x → Q x) → IfOk r Q
+if_ok (Ok x) p f = f x p
+if_ok (Err e) p f = tt

@@ -1,20 +1,18 @@
 -- The alternatives of a region at one word, from the ways on of both sides.
-use Rattle.std.proofs.Common.{◌≡◌, ◌≢◌, ◌↔◌, ℕ, zero, suc, ◌+◌, ◌-◌, ◌<◌, ◌≤◌, min, Bool, true, false, not, ◌==◌, List, [], ◌∷◌, ◌++◌, length, map, get_or, refl, sym, ◌∙◌, ap, subst, Option, Some, None, IsSome, ◌⊎◌, inl, inr, Contains, arith, append-nil}
+use Rattle.std.proofs.Common.{◌≡◌, ◌≢◌, ℕ, zero, suc, ◌+◌, ◌-◌, ◌<◌, ◌≤◌, min, Bool, false, not, ◌==◌, List, [], ◌∷◌, ◌++◌, length, map, get_or, refl, sym, ◌∙◌, ap, subst, Option, Some, None, IsSome, ◌⊎◌, inl, inr, Contains, arith, append-nil}
 use Rattle.std.specs.List.{flat_map, range_with_len, slice_get}
-use Rattle.std.proofs.lemmas.Bool.{cases_lt, cases_Bool}
+use Rattle.std.proofs.lemmas.Bool.{cases_lt}
 use Rattle.std.proofs.lemmas.Bool.Decides.{nat_tests}
 use Rattle.std.proofs.lemmas.Option.{same_Some}
 use Rattle.lg_gram.specs.Connectors.{Connector}
 use Rattle.lg_gram.specs.declared.disjunct.Disjunct.{Disjunct}
-use Rattle.lg_region.specs.Parts.{Region}
 use Rattle.lg_region.specs.Cuts.{IsCutAt, Split, IsCut}
 use Rattle.lg_region.specs.Fronts.{AreListsOf, Numbering, list_of}
-use Rattle.lg_region.specs.Keys.{region_of_numbers, IsKeyOf, IsDisjunctAt, IsSplitOf, IsAltOfRegion}
+use Rattle.lg_region.specs.Keys.{region_of_numbers, IsDisjunctAt, IsSplitOf, IsAltOfRegion}
 use Rattle.lg_region.specs.Numbered.{HasSides}
-use Rattle.lg_region.specs.Ways.{AreExactly, AddsExactly, IsWayOf}
-use Rattle.lg_region.specs.Groups.{region_of_gap, IsKnownGap, IsGroup, IsRightOf, right_of, split_of, splits_with, StandsIn, AddsIn}
+use Rattle.lg_region.specs.Ways.{AreExactly, IsWayOf}
+use Rattle.lg_region.specs.Groups.{region_of_gap, IsGroup, IsRightOf, right_of, split_of, splits_with, StandsIn, AddsIn}
 use Rattle.lg_region.specs.declared.key.Joint.{Joint}
-use Rattle.lg_region.specs.declared.key.Key.{Key}
 use Rattle.lg_region.specs.declared.key.Key.TheVariants.{Whole, Region as Between}
 use Rattle.lg_region.specs.declared.alternative.Alt.{Alt}
 use Rattle.lg_region.specs.declared.alternative.Alt.TheVariants.{AllNull, Split as At}

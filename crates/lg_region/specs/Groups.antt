@@ -1,6 +1,6 @@
 -- Alternatives of a region by groups of disjuncts of one word that have the same left list.
-use Rattle.std.specs.Prelude.{◌≡◌, ℕ, suc, ◌+◌, ◌-◌, ◌<◌, ◌≤◌, true, false, min, List, [], ◌∷◌, length, map, Option, Some, IsSome, slice_index_or, ◌⊎◌}
-use Rattle.std.specs.List.{flat_map, range_with_len}
+use Rattle.std.specs.Prelude.{◌≡◌, ℕ, ◌-◌, ◌<◌, ◌≤◌, List, [], length, map, Some, IsSome, slice_index_or}
+use Rattle.std.specs.List.{flat_map}
 use Rattle.lg_gram.specs.Connectors.{Connector}
 use Rattle.lg_gram.specs.declared.disjunct.Disjunct.{Disjunct}
 use Rattle.lg_region.specs.Parts.{Region}
@@ -24,13 +24,18 @@ pub record IsKnownGap (lists : List (List Connector)) (gap : Gap) : Type 0 where
   pub llist : gap.llist ≤ length lists
   pub rlist : gap.rlist ≤ length lists
 
+-- disjuncts of a word, from one number up to another, have the left list of a number
+abbrev pub HaveLeft : Numbering → ℕ → ℕ → ℕ → ℕ → Type 0
+HaveLeft numbers word left from to =
+    (number : ℕ) (d : Disjunct) → from ≤ number → number < to → IsDisjunctAt numbers.positions word number d → list_of numbers.lists left ≡ d.left
+
 -- a word inside the gap, and disjuncts of it, from one number up to another, which have the left list of a number
 pub record IsGroup (numbers : Numbering) (gap : Gap) (group : Group) : Type 0 where
   pub after : gap.left < group.word
   pub before : group.word < gap.right
   pub listed : group.to ≤ length (slice_index_or numbers.positions group.word [])
   pub known : group.left ≤ length numbers.lists
-  pub left : (number : ℕ) (d : Disjunct) → group.from ≤ number → number < group.to → IsDisjunctAt numbers.positions group.word number d → list_of numbers.lists group.left ≡ d.left
+  pub left : HaveLeft numbers group.word group.left group.from group.to
 
 -- a disjunct of the group, and a way on of its right list and the right list of the gap
 pub record IsRightOf (numbers : Numbering) (gap : Gap) (group : Group) (r : Right) : Type 0 where

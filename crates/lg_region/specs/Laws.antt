@@ -6,7 +6,7 @@ use Rattle.lg_gram.specs.declared.disjunct.Disjunct.{Disjunct}
 use Rattle.lg_region.specs.Parts.{Region, Under, UnderWhole, part_of}
 use Rattle.lg_region.specs.Cuts.{Alternative, all_null, split, Split, IsAlternative, IsCut, Spells, SpelledBy, IsValid}
 use Rattle.lg_region.specs.Whole.{First, IsFirst, SpellsFirst, WholeAlternative, nothing, first, IsWholeAlternative, WholeSpelledBy}
-use Rattle.lg_region.specs.Fronts.{AreListsOf, list_of}
+use Rattle.lg_region.specs.Fronts.{list_of}
 use Rattle.lg_region.specs.Keys.{IsKeyOf, IsValidKey, IsAltOf}
 use Rattle.lg_region.specs.declared.key.Key.{Key}
 use Rattle.lg_region.specs.declared.alternative.Alt.{Alt}

@@ -8,3 +8,4 @@ pub mod Numbered
 pub mod Kept
 pub mod Ways
 pub mod Groups
+pub mod Small

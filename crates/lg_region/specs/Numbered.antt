@@ -1,5 +1,5 @@
 -- What is kept of each list: its last connector and the number of the rest; and the numbers of the lists of each disjunct.
-use Rattle.std.specs.Prelude.{◌≡◌, ℕ, suc, ◌+◌, ◌<◌, ◌≤◌, List, [], ◌∷◌, ◌++◌, length, Some, slice_get, slice_index_or}
+use Rattle.std.specs.Prelude.{◌≡◌, ℕ, suc, ◌+◌, ◌<◌, ◌≤◌, List, [], ◌∷◌, ◌++◌, length, Some, slice_get}
 use Rattle.std.specs.List.{AllZip}
 use Rattle.lg_gram.specs.Connectors.{Connector}
 use Rattle.lg_gram.specs.declared.disjunct.Disjunct.{Disjunct}

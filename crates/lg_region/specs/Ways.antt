@@ -1,5 +1,5 @@
 -- The lists of two ends before and after a joint between them, in numbers.
-use Rattle.std.specs.Prelude.{◌≡◌, ◌↔◌, ℕ, suc, ◌≤◌, Bool, cond, false, List, [], ◌∷◌, ◌++◌, length, take, map, Option, Some, IsSome, slice_get}
+use Rattle.std.specs.Prelude.{◌≡◌, ◌↔◌, ℕ, suc, ◌≤◌, Bool, cond, false, List, [], ◌∷◌, ◌++◌, length, take, map, Some, IsSome, slice_get}
 use Rattle.std.specs.List.{Contains, flat_map}
 use Rattle.lg_gram.specs.Connectors.{Connector}
 use Rattle.lg_region.specs.Cuts.{IsCutAt}

@@ -1,8 +1,13 @@
 //! Alternatives of a key.
-ghost use Rattle.std.specs.Prelude.{◌≡◌, ◌<◌, ◌↔◌, IsTrue, [], length, Some, slice_get};
+ghost use Rattle.std.specs.Prelude.{◌≡◌, ◌<◌, ◌↔◌, IsTrue, [], length, Some, slice_get, IfOk, Contains};
 ghost use Rattle.lg_region.specs.Keys.{kept};
+ghost use Rattle.lg_region.specs.Small.{IsSmall};
+ghost use Rattle.lg_region.specs.declared.alternative.Alt.{Alt};
 
 use crate::key::{Joint, Key};
+use crate::small::Small;
+use lg_base::NoMemory;
+use std::alloc::Global;
 use std::marker::Model;
 
 /// One way to cut what a key stands for: nothing is linked, or a word is, with the disjunct of that number, from 0, in its
@@ -22,10 +27,10 @@ pub enum Alt {
     },
 }
 
-/// Alternatives. Contracts see their list.
+/// Alternatives, each in 36 bytes. Contracts see their list.
 #[derive(Debug, Drop)]
 pub struct Alts {
-    items: Vec<Alt>,
+    items: Vec<Small>,
 }
 
 impl Model for Alts {
@@ -34,15 +39,23 @@ impl Model for Alts {
 
     ghost Value = { List Seen };
 
-    ghost view = { λ a. a.items.items };
+    ghost use Rattle.std.specs.Prelude.{map};
+    ghost use Rattle.lg_region.specs.Small.{full};
+
+    ghost view = { λ a. map full a.items.items };
 }
 
 impl Alts {
     /// The list of these alternatives.
-    pub(crate) fn of(items: Vec<Alt>) -> Alts
-        ensures { result ≡ items.items }
+    pub(crate) fn of(alloc: Global, alts: &[Alt]) -> Result<Alts, NoMemory>
+        requires { (a : Alt) → Contains alts.now a → IsSmall a }
+        ensures { IfOk result (λ list. list ≡ alts.now) }
     {
-        Alts { items }
+        let mut items = Vec::new(alloc);
+        for alt in alts {
+            items.push(Small::of(*alt))?;
+        }
+        Ok(Alts { items })
     }
 
     /// How many there are.
@@ -64,7 +77,7 @@ impl Alts {
         requires { index < length self.now }
         ensures { slice_get self.now index ≡ Some result }
     {
-        self.items[index]
+        self.items[index].full()
     }
 
     /// Those whose flag is true, in order. No memory.

@@ -1,9 +1,9 @@
 //! The alternatives of a key.
-ghost use Rattle.std.specs.Prelude.{◌≡◌, ◌↔◌, ◌+◌, ◌-◌, ◌<◌, ◌≤◌, ◌^◌, suc, [], length, slice_index_or, IfOk, IsTrue, OnOk, Contains};
+ghost use Rattle.std.specs.Prelude.{◌≡◌, ◌≢◌, ◌↔◌, ◌∷◌, ◌+◌, ◌-◌, ◌<◌, ◌≤◌, ◌^◌, suc, [], length, slice_index_or, IfOk, IsTrue, OnOk, Contains};
 ghost use Rattle.lg_region.specs.Fronts.{AreOnce};
 ghost use Rattle.lg_region.specs.Keys.{IsValidKey, IsAltOf, IsAltOfRegion, IsAltOfWhole};
 ghost use Rattle.lg_region.specs.Ways.{AreExactly, AddsExactly};
-ghost use Rattle.lg_region.specs.Groups.{AddsIn, AddsFirst, IsKnownGap, region_of_gap};
+ghost use Rattle.lg_region.specs.Groups.{AddsIn, AddsFirst, HaveLeft, IsKnownGap, region_of_gap};
 ghost use Rattle.lg_region.specs.declared.alternative.Alt.{Alt};
 
 use crate::alternative::{Alt, Alts};
@@ -29,8 +29,10 @@ pub fn expand_key<L>(
     ensures step { steps.new ≡ steps.old + 1 }
 {
     steps.tick();
+    lists.are_numbered();
+    lists.keep_limits();
     let items = alternatives(alloc, lists, key)?;
-    Ok(Alts::of(items))
+    Alts::of(alloc, &items)
 }
 
 fn alternatives(alloc: Global, lists: &Lists<'_>, key: Key) -> Result<Vec<Alt>, NoMemory>
@@ -66,22 +68,34 @@ fn of_gap(alloc: Global, lists: &Lists<'_>, gap: &Gap) -> Result<Vec<Alt>, NoMem
     ensures { IfOk result (λ items. AreExactly items.items (IsAltOfRegion lists.entry.now.positions lists.entry.now.lists (region_of_gap lists.entry.now.lists gap.now))) }
 {
     lists.are_numbered();
-    let mut out = Vec::new(alloc);
-    if may_be_empty(gap) {
-        out.push(Alt::AllNull)?;
+    if has_no_list(gap) {
+        return of_empty_gap(alloc, gap);
     }
+    let mut out = Vec::new(alloc);
     for word in gap.left + 1..gap.right {
         push_word(alloc, lists, gap, word, &mut out)?;
     }
     Ok(out)
 }
 
-// Whether no word of the region need be linked.
-fn may_be_empty(gap: &Gap) -> bool
-    requires { gap.now.left < gap.now.right }
-    ensures { IsTrue result ↔ ((gap.now.llist ≡ 0) × (gap.now.rlist ≡ 0) × (gap.now.nulls ≡ gap.now.right - suc gap.now.left)) }
+// Whether nothing is left to be joined at either end.
+fn has_no_list(gap: &Gap) -> bool
+    ensures { IsTrue result ↔ ((gap.now.llist ≡ 0) × (gap.now.rlist ≡ 0)) }
 {
-    gap.llist == 0 && gap.rlist == 0 && gap.nulls == gap.right - gap.left - 1
+    gap.llist == 0 && gap.rlist == 0
+}
+
+// Between two empty lists nothing is linked.
+fn of_empty_gap(alloc: Global, gap: &Gap) -> Result<Vec<Alt>, NoMemory>
+    requires { gap.now.left < gap.now.right }
+    ensures full { IfOk result (λ items. gap.now.nulls ≡ gap.now.right - suc gap.now.left → items.items ≡ Alt.AllNull ∷ []) }
+    ensures short { IfOk result (λ items. gap.now.nulls ≢ gap.now.right - suc gap.now.left → items.items ≡ []) }
+{
+    let mut out = Vec::new(alloc);
+    if gap.nulls == gap.right - gap.left - 1 {
+        out.push(Alt::AllNull)?;
+    }
+    Ok(out)
 }
 
 // Adds those that cut the region at a word.
@@ -98,17 +112,39 @@ fn push_word(
     requires within { gap.now.right ≤ length lists.now.positions }
     ensures { OnOk result (AddsIn lists.entry.now gap.now word 0 (length (slice_index_or lists.entry.now.positions word [])) out.old.items out.new.items) }
 {
-    for number in 0..lists.count(word) {
-        let sides = lists.sides(word, number);
+    let count = lists.count(word);
+    let mut from = 0;
+    while from < count {
+        let left = lists.sides(word, from).left;
+        let to = run_end(lists, word, from, left);
         let group = Group {
             word,
-            left: sides.left,
-            from: number,
-            to: number + 1,
+            left,
+            from,
+            to,
         };
         push_group(alloc, lists, gap, &group, out)?;
+        from = to;
     }
     Ok(())
+}
+
+// Up to which number the disjuncts of a word have the left list of this one.
+fn run_end(lists: &Lists<'_>, word: u32, from: u32, left: u32) -> u32
+    requires within { word < length lists.now.positions }
+    requires listed { from < length (slice_index_or lists.now.positions word []) }
+    requires first { HaveLeft lists.now word left from (from + 1) }
+    ensures later { from < result }
+    ensures listed { result ≤ length (slice_index_or lists.now.positions word []) }
+    ensures same { HaveLeft lists.now word left from result }
+{
+    let count = lists.count(word);
+    for to in from + 1..count {
+        if lists.sides(word, to).left != left {
+            return to;
+        }
+    }
+    count
 }
 
 // The alternatives of the whole sentence.

@@ -11,6 +11,7 @@ pub mod key;
 pub mod law;
 pub mod lists;
 mod numbering;
+mod small;
 mod ways;
 
 pub use alternative::{Alt, Alts};

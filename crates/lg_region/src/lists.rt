@@ -1,5 +1,6 @@
 //! Numbers of the lists of a problem.
 ghost use Rattle.std.specs.Prelude.{◌≡◌, ◌<◌, ◌≤◌, [], length, slice_index_or, MatchOption, IfOk};
+ghost use Rattle.lg_gram.specs.Problems.{IsProblem};
 ghost use Rattle.lg_gram.specs.declared.disjunct.Disjunct.{Disjunct};
 ghost use Rattle.lg_region.specs.Fronts.{AreListsOf, list_of};
 ghost use Rattle.lg_region.specs.Keys.{IsDisjunctAt};
@@ -77,6 +78,13 @@ impl<'a> Lists<'a> {
     /// The lists are numbered as said above. The function does nothing: a caller whose proof needs the fact calls it.
     pub fn are_numbered(&self)
         ensures { AreListsOf self.now.positions self.now.lists }
+    {
+        let _fronts = &self.fronts;
+    }
+
+    /// The problem keeps the limits of problems. The function does nothing: a caller whose proof needs the fact calls it.
+    pub fn keep_limits(&self)
+        ensures { IsProblem self.now.positions }
     {
         let _fronts = &self.fronts;
     }

@@ -1,4 +1,3 @@
-use Rattle.std.proofs.Common.{◌<◌}
 use Rattle.lg_region.specs.Groups.{region_of_gap, StandsBefore}
 use Rattle.lg_region.specs.Keys.{IsAltOfRegion}
 use Rattle.lg_region.specs.Ways.{AreExactly}

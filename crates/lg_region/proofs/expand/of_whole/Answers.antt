@@ -1,6 +1,6 @@
 use Rattle.std.proofs.Common.{◌+◌, ◌∙◌, sym}
 use Rattle.lg_region.specs.Keys.{IsAltOfWhole}
-use Rattle.lg_region.proofs.Expanding.{all_words, exactly_word, start_none, whole_lies, whole_names, whole_null}
+use Rattle.lg_region.proofs.Expanding.{all_words, exactly_word, start_none, whole_lies, whole_names}
 use Rattle.lg_region.proofs.expand.of_whole.Goals as goal
 
 pub loop-word-init : goal.loop-word-init

@@ -1,4 +1,4 @@
-use Rattle.std.proofs.Common.{◌≡◌, ◌++◌, ◌∷◌, [], ◌-◌, ◌∙◌, ap}
+use Rattle.std.proofs.Common.{◌++◌, ◌∷◌, [], ◌-◌, ◌∙◌, ap}
 use Rattle.lg_region.proofs.Expanding.{first_of, no_first, one_first}
 use Rattle.lg_region.proofs.expand.push_first.Goals as goal
 

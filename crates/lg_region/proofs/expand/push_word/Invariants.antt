@@ -1,5 +1,12 @@
+use Rattle.std.proofs.Common.{◌-◌, ◌≤◌}
 use Rattle.lg_region.specs.Groups.{AddsIn}
 use Rattle.lg_region.proofs.expand.push_word.Given as goal
 
-abbrev pub invariant-loop-number : goal.invariant-loop-number
-invariant-loop-number l = AddsIn l.lists l.gap l.word 0 l.number l.fn.out.items l.out.items
+abbrev pub invariant-loop-from : goal.invariant-loop-from
+invariant-loop-from l = record {
+  within : l.from ≤ l.count;
+  added : AddsIn l.lists l.gap l.word 0 l.from l.fn.out.items l.out.items;
+}
+
+abbrev pub decreases-loop-from : goal.decreases-loop-from
+decreases-loop-from l = l.count - l.from

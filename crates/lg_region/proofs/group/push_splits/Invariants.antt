@@ -1,5 +1,5 @@
 -- what is left gives the rest
-use Rattle.std.proofs.Common.{◌≡◌, ◌++◌, map, drop}
+use Rattle.std.proofs.Common.{◌≡◌, ◌++◌, drop}
 use Rattle.lg_region.specs.Groups.{splits_with}
 use Rattle.lg_region.proofs.group.push_splits.Given as goal
 

@@ -1,5 +1,4 @@
-use Rattle.std.proofs.Common.{◌≡◌, ◌++◌, ◌∷◌, [], List, length, map, cond, sym, ◌∙◌, ap, Bor, arith}
-use Rattle.std.proofs.lemmas.Grind.{common_steps}
+use Rattle.std.proofs.Common.{◌≡◌, ◌++◌, ◌∷◌, [], List, length, map, cond, sym, ◌∙◌, ap, Bor}
 use Rattle.std.proofs.lemmas.List.{length-map}
 use Rattle.lg_gram.specs.Connectors.{Connector}
 use Rattle.lg_region.proofs.Admitting.{admits, pushed, unpushed}

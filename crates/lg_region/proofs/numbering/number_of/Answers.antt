@@ -1,4 +1,4 @@
-use Rattle.std.proofs.Common.{◌≡◌, ◌+◌, ◌<◌, ◌≤◌, List, length, map, refl, sym, ◌∙◌, Bor, arith}
+use Rattle.std.proofs.Common.{List, map, refl, sym, ◌∙◌, Bor, arith}
 use Rattle.std.proofs.lemmas.List.{length-map}
 use Rattle.lg_gram.specs.Connectors.{Connector}
 use Rattle.lg_region.proofs.Growing.{partly_none, partly_more, partly_all, room_in}

@@ -1,4 +1,4 @@
-use Rattle.std.proofs.Common.{◌≡◌, ◌+◌, ◌<◌, ◌≤◌, List, ◌∷◌, [], ◌++◌, length, map, refl, sym, ◌∙◌, ap, Vec, Global, Bor, arith, length-append}
+use Rattle.std.proofs.Common.{List, ◌∷◌, [], map, ◌∙◌, ap, Vec, Global, Bor, arith}
 use Rattle.std.specs.List.{flat_map}
 use Rattle.std.proofs.lemmas.List.{length-map, map-append}
 use Rattle.lg_gram.specs.Connectors.{Connector}

@@ -1,4 +1,4 @@
-use Rattle.std.proofs.Common.{◌≡◌, ◌+◌, ◌<◌, ◌≤◌, List, length, map, refl, sym, ◌∙◌, Bor, arith, length-append}
+use Rattle.std.proofs.Common.{List, map, sym, ◌∙◌, Bor, arith, length-append}
 use Rattle.std.proofs.lemmas.List.{length-map}
 use Rattle.lg_gram.specs.Connectors.{Connector}
 use Rattle.lg_region.specs.Fronts.{fronts, fronts_of}

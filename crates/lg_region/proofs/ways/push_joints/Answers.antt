@@ -1,4 +1,4 @@
-use Rattle.std.proofs.Common.{◌≡◌, refl, true, false}
+use Rattle.std.proofs.Common.{refl, false}
 use Rattle.lg_region.proofs.Going.{adds_joined, no_near, no_far, no_match}
 use Rattle.lg_region.proofs.Once.{adds_none, on_ok}
 use Rattle.lg_region.specs.Ways.{IsWayOf}

@@ -1,4 +1,4 @@
-use Rattle.std.proofs.Common.{◌≡◌, ◌++◌, ◌∷◌, [], List, Option, None, cond, true, false, refl, sym, ◌∙◌, ap}
+use Rattle.std.proofs.Common.{◌≡◌, ◌++◌, ◌∷◌, [], None, cond, true, false, ◌∙◌, ap}
 use Rattle.lg_region.specs.declared.ways.Way.{Way}
 use Rattle.lg_region.proofs.Going.{ways_are}
 use Rattle.lg_region.proofs.Once.{started}

@@ -1,4 +1,4 @@
-use Rattle.std.proofs.Common.{◌≡◌, ℕ, suc, ◌-◌, ◌<◌, ◌≤◌, length, sym, subst, arith}
+use Rattle.std.proofs.Common.{◌-◌, length, sym, subst, arith}
 use Rattle.lg_region.specs.Ways.{IsEndOf}
 use Rattle.lg_region.proofs.Keeping.{kept_end, pred_of}
 use Rattle.lg_region.proofs.lists.Lists.end.Goals as goal

@@ -1,6 +1,5 @@
-use Rattle.std.proofs.Common.{◌≡◌, List, map, subst}
+use Rattle.std.proofs.Common.{map, subst}
 use Rattle.lg_region.specs.Fronts.{AreListsOf}
-use Rattle.lg_region.specs.Kept.{IsKept}
 use Rattle.lg_region.specs.Numbered.{AreSidesOf}
 use Rattle.lg_region.proofs.lists.Lists.of.Goals as goal
 
