@@ -206,3 +206,7 @@ some_as (Some x) P Q f h = f x h
 -- what is known of the last key stays right
 pub last_kept : (n : Numbering) (old new : Entries) (last : Last) → ((k : Key) → Contains (keys_of old) k → Contains (keys_of new) k) → IsLast n old last → IsLast n new last
 last_kept n old new last more is = record { live = is.live; there = some_as last.key (Contains (keys_of old)) (Contains (keys_of new)) more is.there }
+
+pub both_ok : {T E : Type 0} (r : Result T E) (P Q R : T → Type 0) → ((x : T) → P x → Q x → R x) → IfOk r P → IfOk r Q → IfOk r R
+both_ok (Ok x) P Q R f p q = f x p q
+both_ok (Err e) P Q R f p q = tt

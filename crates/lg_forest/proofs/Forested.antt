@@ -10,6 +10,7 @@ use Rattle.lg_gram.specs.Connectors.{Connector}
 use Rattle.lg_gram.specs.Linkages.{Linkage, unlinked}
 use Rattle.lg_gram.specs.declared.disjunct.Disjunct.{Disjunct}
 use Rattle.lg_region.specs.Fronts.{Numbering}
+use Rattle.lg_region.specs.Parts.{UnderWhole}
 use Rattle.lg_region.specs.Keys.{IsValidKey, IsAltOf, IsAltOfWhole}
 use Rattle.lg_region.specs.declared.key.Key.{Key}
 use Rattle.lg_region.specs.declared.key.Key.TheVariants.{Whole, Region as Between}
@@ -21,7 +22,7 @@ use Rattle.lg_forest.specs.Demands.Reaches.{itself, onward}
 use Rattle.lg_forest.specs.Forests.{Forest, IsForest, IsLive}
 use Rattle.lg_forest.specs.Search.{KeysAreDecided}
 use Rattle.lg_forest.specs.Drafts.{Draft, UnderKey, AreDraftsOf, IsSpelled, LinkagesAreSpelled, HasAlt}
-use Rattle.lg_forest.proofs.Once.{contains_map, contains_at}
+use Rattle.lg_forest.proofs.Once.{contains_map, contains_at, contains_none}
 use Rattle.lg_forest.proofs.Asked.{next_narrow}
 use Rattle.lg_forest.proofs.Drafted.{drafts_then, drafts_as}
 
@@ -115,3 +116,10 @@ drafts_all positions from forest is d laws k alts i ps at end x =
     (λ g h. let l = ((is.alts k alts at).exactly h.0).0 (subst (λ z. Contains z h.0) e h.1) in (laws.under k g v).1 (h.0, l.0, l.1, h.2))
     (λ g u. let r = (laws.under k g v).0 u in (r.0, subst (λ z. Contains z r.0) (sym e) (((is.alts k alts at).exactly r.0).1 (r.1, r.2)), r.3))
     x
+
+-- where the whole sentence is not in the forest, it has no linkage
+pub whole_none : (positions : List (List Disjunct)) (from : ℕ) (forest : Forest) (is : IsForest positions from forest) (k : Key) → k ≡ Whole forest.unused → (Contains (keys_of forest.entries) k → ⊥) → AreDraftsOf positions (UnderWhole positions forest.unused) []
+whole_none positions from forest is k e none = record {
+  each = λ p h. absurd (contains_none p h);
+  all = λ g u. absurd (none (subst (λ z. Contains (keys_of forest.entries) z) (sym e) ((is.nodes (Whole forest.unused)).1 ((forest.unused, is.ends, omega arith, itself (Whole forest.unused)), (g, u)))));
+}

@@ -9,3 +9,5 @@ pub mod Solved
 pub mod Drafted
 pub mod Spelled
 pub mod Forested
+pub mod GoodLinkage
+pub mod SameLinkage

@@ -1,6 +1,9 @@
 -- Lists in which no value stands twice.
-use Rattle.std.proofs.Common.{◌≡◌, ℕ, zero, suc, ◌<◌, ◌⊎◌, inl, inr, refl, sym, ap, ◌∙◌, subst, Bool, true, false, true≢false, List, [], ◌∷◌, map, length, Option, Some, None, Contains, slice_get, get_or, arith}
+use Rattle.std.proofs.Common.{◌≡◌, ℕ, zero, suc, ◌+◌, ◌<◌, ◌≤◌, ◌⊎◌, inl, inr, refl, sym, ap, ◌∙◌, subst, Bool, true, false, true≢false, List, [], ◌∷◌, ◌++◌, take, map, length, Option, Some, None, Contains, slice_get, get_or, arith}
 use Rattle.std.proofs.lemmas.Bool.{cases_Bool}
+use Rattle.std.proofs.lemmas.List.{take_all}
+use Rattle.std.proofs.lemmas.List.Elements.{Contains-push_cases}
+use Rattle.std.proofs.Math.Seq.{take-suc}
 use Rattle.std.specs.List.{filter, IsDistinct, AllByRecursion}
 use Rattle.std.proofs.lemmas.Option.{slice_get_within, get_or_from_slice_get, slice_get-get_or}
 use Rattle.lg_region.specs.Fronts.{AreOnce}
@@ -87,3 +90,13 @@ pub once_from_distinct : {X : Type 0} (eq : X → X → Bool) (same : (x y : X) 
 unfolding IsDistinct
 once_from_distinct eq same [] all = once_none
 once_from_distinct eq same (x ∷ xs) all = once_cons x xs (not_among eq same x xs all.0) (once_from_distinct eq same xs all.1)
+
+-- what holds of the elements before a place, and of the one there
+pub each_more : {X : Type 0} (P : X → Type 0) (xs : List X) (i : ℕ) (d x : X) → i < length xs → x ≡ get_or xs i d → ((y : X) → Contains (take i xs) y → P y) → P x → (y : X) → Contains (take (i + 1) xs) y → P y
+each_more P xs i d x lt at before here y has =
+    let next : i + 1 ≡ suc i = omega arith in
+    let e : take (i + 1) xs ≡ take i xs ++ x ∷ [] = ap (λ z. take z xs) next ∙ take-suc xs i d lt ∙ ap (λ z. take i xs ++ z ∷ []) (sym at) in
+    elim (Contains-push_cases (take i xs) x y (subst (λ z. Contains z y) e has)) [ inl a ↦ before y a | inr f ↦ subst P f here ]
+
+pub each_all : {X : Type 0} (P : X → Type 0) (xs : List X) (i : ℕ) → length xs ≤ i → ((y : X) → Contains (take i xs) y → P y) → (y : X) → Contains xs y → P y
+each_all P xs i end before y has = before y (subst (λ z. Contains z y) (sym (take_all i xs end)) has)

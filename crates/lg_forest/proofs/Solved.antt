@@ -57,21 +57,23 @@ demanded n from to old table empty asked k = (
 
 -- the part of the table that is live is the forest
 pub is_forest : (n : Numbering) (positions : List (List Disjunct)) (from to : ℕ) (old table : List (Key × List Alt)) (forest : Forest)
-    → n.positions ≡ positions → KeysAreDecided n → AreListsOf positions n.lists → old ≡ [] → Asked n (IsWholeFrom from (suc to)) old table
+    → from ≤ to → n.positions ≡ positions → KeysAreDecided n → AreListsOf positions n.lists → old ≡ [] → Asked n (IsWholeFrom from (suc to)) old table
     → ((k : Key) (alts : List Alt) → Contains forest.entries (k, alts) ↔ (Contains table (k, alts) × (alts ≢ []))) → AreOnce (keys_of forest.entries) → forest.unused ≡ to → IsForest positions from forest
-is_forest n positions from to old table forest same d first empty asked live once unused =
+is_forest n positions from to old table forest le same d first empty asked live once unused =
     subst (λ z. IsForest z from forest) same (record {
+      ends = subst (λ z. from ≤ z) (sym unused) le;
       lists = n.lists;
       numbered = subst (λ z. AreListsOf z n.lists) (sym same) first;
       nodes = λ k. (
-        (λ h. let e = contains_key forest.entries k h in let t = (live k e.0).0 e.1 in
-            (subst (λ z. IsDemanded n.positions n.lists from z k) (sym unused) ((demanded n from to old table empty asked k).0 (contains_map (λ (p : Key × List Alt). p.0) table (k, e.0) t.0)),
-            has k e.0 (asked.is_table.live k e.0 t.0) (asked.is_table.valid k (contains_map (λ (p : Key × List Alt). p.0) table (k, e.0) t.0)) t.1)),
+        (λ h. let e = contains_key forest.entries k h in let t = (live k e.0).0 e.1 in (
+          subst (λ z. IsDemanded n.positions n.lists from z k) (sym unused) ((demanded n from to old table empty asked k).0 (contains_map (λ (p : Key × List Alt). p.0) table (k, e.0) t.0)),
+          has k e.0 (asked.is_table.live k e.0 t.0) (asked.is_table.valid k (contains_map (λ (p : Key × List Alt). p.0) table (k, e.0) t.0)) t.1,
+        )),
         (λ h. let in_table = (demanded n from to old table empty asked k).1 (subst (λ z. IsDemanded n.positions n.lists from z k) unused h.0) in
             let e = contains_key table k in_table in
             let a = (d.decides k (asked.is_table.valid k in_table)).0 h.1 in
             contains_map (λ (p : Key × List Alt). p.0) forest.entries (k, e.0)
-                ((live k e.0).1 (e.1, λ none. contains_none a.0 (subst (λ z. Contains z a.0) none (((asked.is_table.live k e.0 e.1).exactly a.0).1 (a.1, a.2)))))),
+            ((live k e.0).1 (e.1, λ none. contains_none a.0 (subst (λ z. Contains z a.0) none (((asked.is_table.live k e.0 e.1).exactly a.0).1 (a.1, a.2)))))),
       );
       once = once;
       alts = λ k alts h. asked.is_table.live k alts ((live k alts).0 h).0;

@@ -109,10 +109,11 @@ module _ (positions : List (List Disjunct)) (lists : List (List Connector)) (reg
             let d = first_draft positions lists nulls word number rkey joints m.0 c s.0 is (λ l j. (none l).0 j) s.1 (subst (λ z. IsDraftOf positions m.0 z) (sym s.2) b.2) in
             (s.0, (c, is, s.1), subst (λ z. IsDraftOf positions z s.0) (ap (λ z. joined u joints z m.0) e ∙ m.2) d);
         all = λ g (c', is', s).
-            let b = drafts.all (part_of c'.word (length positions) g) ((key_under positions lists rkey c'.rkey (part_of c'.word (length positions) g) is'.behind).0 s.right) in
-            (joined u joints empty b.0,
-            flat_contains (λ p. map (joined u joints p) qs) ps empty (joined u joints empty b.0) (subst (λ z. Contains z empty) (sym one) (contains_here empty [])) (contains_map (joined u joints empty) qs b.0 b.1),
-            first_draft positions lists nulls word number rkey joints b.0 c' g is' (λ l j. (none l).0 j) s b.2);
+            let b = drafts.all (part_of c'.word (length positions) g) ((key_under positions lists rkey c'.rkey (part_of c'.word (length positions) g) is'.behind).0 s.right) in (
+              joined u joints empty b.0,
+              flat_contains (λ p. map (joined u joints p) qs) ps empty (joined u joints empty b.0) (subst (λ z. Contains z empty) (sym one) (contains_here empty [])) (contains_map (joined u joints empty) qs b.0 b.1),
+              first_draft positions lists nulls word number rkey joints b.0 c' g is' (λ l j. (none l).0 j) s b.2,
+            );
       }
 
   made_split : (k : Region) (word number : ℕ) (to_left to_right : Option Joint) (lkey rkey : Key) (joints : List Link) (ps qs : List Draft) (c : Split) → IsValid positions k → IsSplitOf positions lists k word number to_left to_right lkey rkey c
@@ -130,10 +131,11 @@ module _ (positions : List (List Disjunct)) (lists : List (List Connector)) (reg
             (s.0, (c, is, s.1), subst (λ z. IsDraftOf positions z s.0) m.2 d);
         all = λ g (c', is', s).
             let a = lefts.all (part_of k.left c'.word g) ((key_under positions lists lkey c'.lkey (part_of k.left c'.word g) is'.before).0 s.left) in
-            let b = rights.all (part_of c'.word k.right g) ((key_under positions lists rkey c'.rkey (part_of c'.word k.right g) is'.behind).0 s.right) in
-            (joined u joints a.0 b.0,
-            flat_contains (λ p. map (joined u joints p) qs) ps a.0 (joined u joints a.0 b.0) a.1 (contains_map (joined u joints a.0) qs b.0 b.1),
-            split_draft positions lists k word number to_left to_right lkey rkey joints a.0 b.0 c' g is' joint s a.2 b.2);
+            let b = rights.all (part_of c'.word k.right g) ((key_under positions lists rkey c'.rkey (part_of c'.word k.right g) is'.behind).0 s.right) in (
+              joined u joints a.0 b.0,
+              flat_contains (λ p. map (joined u joints p) qs) ps a.0 (joined u joints a.0 b.0) a.1 (contains_map (joined u joints a.0) qs b.0 b.1),
+              split_draft positions lists k word number to_left to_right lkey rkey joints a.0 b.0 c' g is' joint s a.2 b.2,
+            );
       }
 
   pub made : (k : Key) (word number : ℕ) (to_left to_right : Option Joint) (lkey rkey : Option Key) (joints : List Link) (ps qs : List Draft) → IsValidKey positions lists k → IsAltOf positions lists k (At word number to_left to_right lkey rkey)

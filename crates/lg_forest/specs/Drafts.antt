@@ -85,3 +85,8 @@ pub record LinkagesAreSpelled (positions : List (List Disjunct)) (lists : List (
   pub made : (k : Key) (word number : ℕ) (to_left to_right : Option Joint) (lkey rkey : Option Key) (joints : List Link) (ps qs : List Draft) → IsValidKey positions lists k → IsAltOf positions lists k (At word number to_left to_right lkey rkey)
       → ((l : Link) → Contains joints l ↔ IsJointOf k word to_left to_right l) → AreDraftsOfPart positions lists lkey ps → AreDraftsOfPart positions lists rkey qs
       → AreDraftsOf positions (IsSpelled positions lists k (At word number to_left to_right lkey rkey)) (flat_map (λ p. map (joined (record { word = word; disjunct = number }) joints p) qs) ps)
+
+-- each linkage is the only one of some draft, and the linkage of each draft is there
+pub record HaveDrafts (positions : List (List Disjunct)) (drafts : List Draft) (linkages : List Linkage) : Type 0 where
+  pub each : (g : Linkage) → Contains linkages g → (p : Draft) × Contains drafts p × ((h : Linkage) → IsDraftOf positions p h → g ≡ h)
+  pub all : (p : Draft) (g : Linkage) → Contains drafts p → IsDraftOf positions p g → Contains linkages g

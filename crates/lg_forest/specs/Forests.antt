@@ -1,5 +1,5 @@
 -- Forests: the demanded keys that have a linkage, and of each the alternatives whose keys have one.
-use Rattle.std.specs.Prelude.{◌≡◌, ◌↔◌, ℕ, List, length, IfSome}
+use Rattle.std.specs.Prelude.{◌≡◌, ◌↔◌, ℕ, ◌≤◌, List, length, IfSome}
 use Rattle.std.specs.List.{Contains}
 use Rattle.std.specs.Map.{keys_of}
 use Rattle.lg_gram.specs.Connectors.{Connector}
@@ -28,6 +28,7 @@ pub record Forest : Type 0 where
 -- The forest of a problem, asked for with `from` unlinked words and more, until the whole sentence has a linkage: exactly the
 -- demanded keys that have a linkage, each once, and with each its live alternatives.
 pub record IsForest (positions : List (List Disjunct)) (from : ℕ) (forest : Forest) : Type 0 where
+  pub ends : from ≤ forest.unused
   pub lists : List (List Connector)
   pub numbered : AreListsOf positions lists
   pub nodes : (k : Key) → Contains (keys_of forest.entries) k ↔ (IsDemanded positions lists from forest.unused k × HasLinkageUnder positions lists k)

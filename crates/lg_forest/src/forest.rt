@@ -80,11 +80,7 @@ impl Forest {
 /// The forest of a problem with as few unlinked words as a linkage can have.
 ///
 /// Each demanded key is one step: those of the whole sentence with no unlinked word, with one, and so on up to that number.
-pub fn solve<L>(
-    alloc: Global,
-    problem: &Problem,
-    steps: &mut Steps<L>,
-) -> Result<Forest, NoMemory>
+pub fn solve<L>(alloc: Global, problem: &Problem, steps: &mut Steps<L>) -> Result<Forest, NoMemory>
     requires room { steps.old < 2 ^ 126 }
     ensures forest { IfOk result (IsForest problem.now 0) }
     ensures fewest { IfOk result (λ forest. IsFewest problem.now forest.unused) }

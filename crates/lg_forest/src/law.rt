@@ -7,7 +7,8 @@ ghost use Rattle.lg_forest.specs.Drafts.{LinkagesAreSpelled};
 ghost use Rattle.lg_forest.specs.Search.{KeysAreDecided};
 
 use lg_region::law::{
-    alternatives_decide, cuts_are_valid, numbers_tell_lists_apart, parts_make_linkages, regions_are_cut_once, sentences_are_cut_once,
+    alternatives_decide, cuts_are_valid, numbers_tell_lists_apart, parts_make_linkages,
+    regions_are_cut_once, sentences_are_cut_once,
 };
 
 /// A key has a linkage exactly where one of its alternatives is live, and the keys of its alternatives are narrower.

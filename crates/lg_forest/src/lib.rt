@@ -4,8 +4,10 @@
 mod draft;
 pub mod forest;
 mod law;
+mod linkages;
 mod search;
-mod spell;
+pub mod spell;
 mod table;
 
 pub use forest::{Forest, solve, solve_at};
+pub use spell::spell_all;

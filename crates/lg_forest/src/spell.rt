@@ -1,7 +1,9 @@
 //! The linkages that a forest stands for, spelled out.
 ghost use Rattle.std.specs.Prelude.{◌≡◌, ◌↔◌, ◌∷◌, [], ◌⊎◌, ℕ, IfOk, OnOk, IfSome, Contains};
 ghost use Rattle.std.specs.Map.{keys_of};
+ghost use Rattle.lg_gram.specs.Levels.{IsLevel};
 ghost use Rattle.lg_gram.specs.declared.linkage.Link.{Link};
+ghost use Rattle.lg_region.specs.Parts.{UnderWhole};
 ghost use Rattle.lg_region.specs.Cuts.{IsJoint};
 ghost use Rattle.lg_forest.specs.Forests.{IsForest};
 ghost use Rattle.lg_forest.specs.Drafts.{AreDraftsOf, AreDraftsOfPart, UnderKey, IsSpelled, IsJointOf, HasAlt, empty};
@@ -9,8 +11,9 @@ ghost use Rattle.lg_forest.specs.Drafts.{AreDraftsOf, AreDraftsOfPart, UnderKey,
 use crate::draft::{Draft, Use, join_all};
 use crate::forest::Forest;
 use crate::law::{keys_are_decided, linkages_are_spelled};
+use crate::linkages::linkages_of;
 use lg_base::NoMemory;
-use lg_gram::{Link, Problem};
+use lg_gram::{Link, Linkage, Problem, in_order};
 use lg_region::{Alt, Joint, Key};
 use std::alloc::Global;
 
@@ -137,4 +140,39 @@ fn add_joint(
         })?;
     }
     Ok(())
+}
+
+/// All good linkages with as many unlinked words as the forest has, in order, each once: for tests, and until the ranked
+/// listing comes. Time and memory grow in proportion to the linkages of all keys.
+pub fn spell_all(
+    alloc: Global,
+    problem: &Problem,
+    forest: &Forest,
+) -> Result<Vec<Linkage>, NoMemory>
+    requires { (from : ℕ) × IsForest problem.now from forest.now }
+    ensures { IfOk result (λ list. IsLevel problem.now forest.now.unused list.items) }
+{
+    // the call tells that the positions are those of a problem
+    let _positions = problem.positions();
+    let drafts = drafts_of_whole(alloc, problem, forest)?;
+    let linkages = linkages_of(alloc, problem, drafts.as_slice())?;
+    in_order(linkages)
+}
+
+// Drafts of the good linkages with as many unlinked words as the forest has.
+fn drafts_of_whole(
+    alloc: Global,
+    problem: &Problem,
+    forest: &Forest,
+) -> Result<Vec<Draft>, NoMemory>
+    requires { (from : ℕ) × IsForest problem.now from forest.now }
+    ensures { IfOk result (λ all. AreDraftsOf problem.now (UnderWhole problem.now forest.now.unused) all.items) }
+{
+    let key = Key::Whole {
+        nulls: forest.unused(),
+    };
+    match forest.alts(&key) {
+        None => Ok(Vec::new(alloc)),
+        Some(_) => drafts_under(alloc, problem, forest, key),
+    }
 }

@@ -12,7 +12,7 @@ use Rattle.lg_forest.proofs.forest.solve_at.Goals as goal
 pub returns-clause-forest : goal.returns-clause-forest
 returns-clause-forest g c =
     let n = c.in_ok-lists.lists in
-    is_forest n c.args.problem.now c.args.nulls c.args.nulls c.new-table.result c.visit.new.table c.of-2.result c.in_ok-lists.ensures.positions
+    is_forest n c.args.problem.now c.args.nulls c.args.nulls c.new-table.result c.visit.new.table c.of-2.result (omega arith) c.in_ok-lists.ensures.positions
     (c.keys_are_decided.ensures n.positions n.lists (subst (λ z. AreListsOf z n.lists) (sym c.in_ok-lists.ensures.positions) c.in_ok-lists.ensures.lists)) c.in_ok-lists.ensures.lists c.new-table.ensures (asked_one n c.args.nulls c.new-table.result c.visit.new.table c.in_ok-visit.ensures.asked) c.of-2.ensures.live c.of-2.ensures.once c.of-2.ensures.unused
 
 pub returns-clause-steps : goal.returns-clause-steps

@@ -27,12 +27,12 @@ explore-loop-index-preserved g t c =
     let before = c.loop-index.invariant.steps in
     let after = c.in_ok-live.ensures.steps in
     record {
-  asked = asked_more n c.alts.inside.items.items c.loop-index.index (c.loop-index.index + 1) c.get.result c.args.table.now c.loop-index.table c.is_live.new.table at (omega arith) c.loop-index.invariant.asked c.in_ok-live.ensures.asked;
-  flags = subst (λ z. Flags (IsLive n.positions n.lists) (take (c.loop-index.index + 1) c.alts.inside.items.items) z) (sym c.in_ok-push.ensures.items)
-      (flags_more (IsLive n.positions n.lists) c.alts.inside.items.items c.loop-index.index (c.loop-index.index + 1) c.get.result c.loop-index.flags.items c.in_ok-live.live at (omega arith) c.loop-index.invariant.flags c.in_ok-live.ensures.live);
-  last = c.in_ok-live.ensures.last;
-  steps = omega arith;
-}
+      asked = asked_more n c.alts.inside.items.items c.loop-index.index (c.loop-index.index + 1) c.get.result c.args.table.now c.loop-index.table c.is_live.new.table at (omega arith) c.loop-index.invariant.asked c.in_ok-live.ensures.asked;
+      flags = subst (λ z. Flags (IsLive n.positions n.lists) (take (c.loop-index.index + 1) c.alts.inside.items.items) z) (sym c.in_ok-push.ensures.items)
+          (flags_more (IsLive n.positions n.lists) c.alts.inside.items.items c.loop-index.index (c.loop-index.index + 1) c.get.result c.loop-index.flags.items c.in_ok-live.live at (omega arith) c.loop-index.invariant.flags c.in_ok-live.ensures.live);
+      last = c.in_ok-live.ensures.last;
+      steps = omega arith;
+    }
 
 pub explore-keep-requires : goal.explore-keep-requires
 explore-keep-requires g t c =
@@ -57,16 +57,16 @@ is_live-returns-then-branch-clause-live g t c =
     let n = c.args.lists.now in
     subst (λ z. IfOk c.visit_part.result (λ live. IsTrue live ↔ IsLive n.positions n.lists z)) (sym c.in-Split.is)
     (ok_as c.visit_part.result (λ found. IsTrue found ↔ IfSome c.in-Split.rkey (HasLinkageUnder n.positions n.lists)) (λ live. IsTrue live ↔ IsLive n.positions n.lists (At c.in-Split.word c.in-Split.disjunct c.in-Split.to_left c.in-Split.to_right c.in-Split.lkey c.in-Split.rkey))
-        (λ found h. ((λ yes. record { left = c.in_ok-visit_left-in-Split.ensures.found.0 c.if-branch.true; right = h.0 yes }), (λ live. h.1 live.right)))
-        c.visit_part.ensures.found)
+    (λ found h. ((λ yes. record { left = c.in_ok-visit_left-in-Split.ensures.found.0 c.if-branch.true; right = h.0 yes }), (λ live. h.1 live.right)))
+    c.visit_part.ensures.found)
 
 pub is_live-returns-then-branch-clause-asked : goal.is_live-returns-then-branch-clause-asked
 is_live-returns-then-branch-clause-asked g t c =
     let n = c.args.lists.now in
     subst (λ z. OnOk c.visit_part.result (Asked n (AsksOf n z) c.args.table.now c.visit_part.new.table)) (sym c.in-Split.is)
     (on_ok_as c.visit_part.result (Asked n (λ k. c.in-Split.rkey ≡ Some k) c.visit_left.new.table c.visit_part.new.table) (Asked n (AsksOf n (At c.in-Split.word c.in-Split.disjunct c.in-Split.to_left c.in-Split.to_right c.in-Split.lkey c.in-Split.rkey)) c.args.table.now c.visit_part.new.table)
-        (λ y. asked_both n (At c.in-Split.word c.in-Split.disjunct c.in-Split.to_left c.in-Split.to_right c.in-Split.lkey c.in-Split.rkey) c.args.table.now c.visit_left.new.table c.visit_part.new.table (c.in_ok-visit_left-in-Split.ensures.found.0 c.if-branch.true) c.in_ok-visit_left-in-Split.ensures.asked y)
-        c.visit_part.ensures.asked)
+    (λ y. asked_both n (At c.in-Split.word c.in-Split.disjunct c.in-Split.to_left c.in-Split.to_right c.in-Split.lkey c.in-Split.rkey) c.args.table.now c.visit_left.new.table c.visit_part.new.table (c.in_ok-visit_left-in-Split.ensures.found.0 c.if-branch.true) c.in_ok-visit_left-in-Split.ensures.asked y)
+    c.visit_part.ensures.asked)
 
 pub is_live-returns-then-branch-clause-last : goal.is_live-returns-then-branch-clause-last
 is_live-returns-then-branch-clause-last g t c =
@@ -87,7 +87,7 @@ is_live-returns-else-branch-clause-asked g t c =
     let n = c.args.lists.now in
     subst (λ z. Asked n (AsksOf n z) c.args.table.now c.visit_left.new.table) (sym c.in-Split.is)
     (asked_left n (At c.in-Split.word c.in-Split.disjunct c.in-Split.to_left c.in-Split.to_right c.in-Split.lkey c.in-Split.rkey) c.args.table.now c.visit_left.new.table
-        (λ live. true≢false (sym (c.in_ok-visit_left-in-Split.ensures.found.1 live) ∙ c.if-branch.false)) c.in_ok-visit_left-in-Split.ensures.asked)
+    (λ live. true≢false (sym (c.in_ok-visit_left-in-Split.ensures.found.1 live) ∙ c.if-branch.false)) c.in_ok-visit_left-in-Split.ensures.asked)
 
 pub visit-returns-in-Some-clause-found : goal.visit-returns-in-Some-clause-found
 visit-returns-in-Some-clause-found g t c =

@@ -44,12 +44,12 @@ drafts_of-returns-in_ok-rights-in-Split t c = λ from is.
     let valid = forest_valid positions from c.args.forest.now is decided c.args.key (alt_in c.args.forest.now c.args.key c.args.alt c.requires.alt) in
     let alt = (alt_of positions from c.args.forest.now is c.args.key c.args.alt c.requires.alt).0 in
     let all_made = laws.made c.args.key s.word s.disjunct s.to_left s.to_right s.lkey s.rkey c.in_ok-joints-in-Split.joints.items c.in_ok-lefts-in-Split.lefts.items c.in_ok-rights-in-Split.rights.items valid
-            (subst (λ z. IsAltOf positions is.lists c.args.key z) s.is alt) c.in_ok-joints-in-Split.ensures (c.in_ok-lefts-in-Split.ensures from is) (c.in_ok-rights-in-Split.ensures from is) in
+    (subst (λ z. IsAltOf positions is.lists c.args.key z) s.is alt) c.in_ok-joints-in-Split.ensures (c.in_ok-lefts-in-Split.ensures from is) (c.in_ok-rights-in-Split.ensures from is) in
     let u : Use = record { word = s.word; disjunct = s.disjunct } in
     ok_as c.join_all.result (λ all. all.items ≡ flat_map (λ (p : Draft). map (joined u c.deref-in-Split-2.result.now p) c.deref-in-Split.result.now) c.deref.result.now) (λ all. AreDraftsOf positions (IsSpelled positions is.lists c.args.key c.args.alt) all.items)
     (λ all e. subst (λ z. AreDraftsOf positions (IsSpelled positions is.lists c.args.key z) all.items) (sym s.is)
-        (subst (λ z. AreDraftsOf positions (IsSpelled positions is.lists c.args.key (At s.word s.disjunct s.to_left s.to_right s.lkey s.rkey)) z)
-            (sym (e ∙ λ i. flat_map (λ (p : Draft). map (joined u (c.deref-in-Split-2.ensures.value i) p) (c.deref-in-Split.ensures.value i)) (c.deref.ensures.value i))) all_made))
+    (subst (λ z. AreDraftsOf positions (IsSpelled positions is.lists c.args.key (At s.word s.disjunct s.to_left s.to_right s.lkey s.rkey)) z)
+    (sym (e ∙ λ i. flat_map (λ (p : Draft). map (joined u (c.deref-in-Split-2.ensures.value i) p) (c.deref-in-Split.ensures.value i)) (c.deref.ensures.value i))) all_made))
     c.join_all.ensures
 
 pub drafts_of_part-returns-in-Some : goal.drafts_of_part-returns-in-Some

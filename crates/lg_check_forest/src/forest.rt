@@ -1,0 +1,66 @@
+//! What a forest has and spells.
+use crate::problems::{made, problem};
+use lg_base::Steps;
+use lg_forest::{solve, solve_at, spell_all};
+use lg_gram::{Linkage, Problem};
+use lg_rules::{PLAIN_POSITIONS, plain_list};
+use std::alloc::Global;
+use std::test::Fail;
+
+// `Mary ran`: the two keys of the whole sentence and of its one word pair, and the two parts between and behind.
+#[test]
+fn mary_ran(rt: HostRuntime) -> Result<(), Fail> {
+    let alloc = rt.alloc();
+    let problem = problem(alloc, &["S|o", "s"])?;
+    let mut steps = Steps::start();
+    let forest = solve(alloc, &problem, &mut steps)?;
+    assert_eq!(rt; forest.unused(), 0);
+    assert_eq!(rt; forest.nodes(), 4);
+    assert_eq!(rt; steps.count(), 4);
+    let list = spell_all(alloc, &problem, &forest)?;
+    assert_eq!(rt; list.len(), 1);
+    Ok(())
+}
+
+#[test]
+fn all_words_unlinked(rt: HostRuntime) -> Result<(), Fail> {
+    let alloc = rt.alloc();
+    let problem = problem(alloc, &["a", "B"])?;
+    let mut steps = Steps::start();
+    let forest = solve_at(alloc, &problem, 2, &mut steps)?;
+    assert_eq!(rt; forest.nodes(), 1);
+    let list = spell_all(alloc, &problem, &forest)?;
+    assert_eq!(rt; list.len(), 1);
+    Ok(())
+}
+
+fn are_same(a: &[Linkage], b: &[Linkage]) -> bool {
+    a.len() == b.len()
+        && a.iter()
+            .zip(b)
+            .all(|(g, h)| g.chosen() == h.chosen() && g.links() == h.links())
+}
+
+fn spelled(alloc: Global, problem: &Problem) -> Result<Vec<Linkage>, Fail> {
+    let mut steps = Steps::start();
+    let forest = solve(alloc, problem, &mut steps)?;
+    Ok(spell_all(alloc, problem, &forest)?)
+}
+
+fn agrees(alloc: Global, seed: u32) -> Result<bool, Fail> {
+    let problem = made(alloc, seed)?;
+    if problem.positions().len() > PLAIN_POSITIONS {
+        return Err("too many positions")?;
+    }
+    let list = spelled(alloc, &problem)?;
+    let plain = plain_list(alloc, &problem)?;
+    Ok(are_same(list.as_slice(), plain.as_slice()))
+}
+
+#[test]
+fn as_the_slow_lister(rt: HostRuntime) -> Result<(), Fail> {
+    for seed in 0..500 {
+        assert!(rt; agrees(rt.alloc(), seed)?, "{seed}");
+    }
+    Ok(())
+}
