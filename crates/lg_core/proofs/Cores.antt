@@ -1,6 +1,5 @@
 -- States from which steps can be made stay such.
-use Rattle.std.proofs.Common.{◌≡◌, ◌≢◌, ℕ, zero, suc, ◌+◌, ◌≤◌, ◌<◌, ◌⊎◌, inl, inr, ⊎_elim, true, List, [], ◌∷◌, ◌++◌, length, replicate, take, Option, Some, None, IfSome, Result, Ok, Err, IfOk, OnOk, slice_get, slice_set, slice_index_or, refl, ap, sym, subst, ◌∙◌, arith, append-nil, length-append}
-use Rattle.std.proofs.Math.Seq.{take-length}
+use Rattle.std.proofs.Common.{◌≡◌, ℕ, zero, suc, ◌+◌, ◌≤◌, ◌<◌, ◌⊎◌, inl, inr, ⊎_elim, List, [], ◌∷◌, ◌++◌, length, replicate, Option, Some, None, IfSome, Result, Ok, Err, IfOk, OnOk, slice_get, slice_set, slice_index_or, refl, ap, sym, subst, ◌∙◌, arith, length-append}
 use Rattle.std.proofs.lemmas.List.{length-map, length-replicate, length-set, map-append}
 use Rattle.std.proofs.lemmas.Option.{none-some, same_Some, slice_get_within}
 use Rattle.lg_gram.specs.declared.reply.Place.{Place}
@@ -20,7 +19,7 @@ use Rattle.lg_core.specs.declared.state.Hold.{Hold}
 use Rattle.lg_script.specs.Codes.{place_of, places_of, AreScripts}
 use Rattle.lg_core.specs.Core as happens
 use Rattle.lg_core.specs.Core.{journal_of, newcomer, start_of, ended, published, next_place, next_code, note_of, IsNext, IsNextAtEnd, Happens, IsStep, IsActor, IsAccepted, AreActors, IsCore}
-use Rattle.lg_core.proofs.Places.{asked, Names, next_names}
+use Rattle.lg_core.proofs.Places.{asked, next_names}
 use Rattle.lg_core.proofs.Legal.{actors_set, version_more}
 
 -- ---- the start
@@ -101,16 +100,16 @@ module _ (scripts : List (List CommandView)) (base : Dictionary) (core : Core) (
       let same_long : length journal ≡ length core.history = length-map core.history (place_of scripts) in
       let grown : places_of scripts (core.history ++ code ∷ []) ≡ journal ++ place_of scripts code ∷ [] = map-append (place_of scripts) core.history (code ∷ []) in
       let stays : (n : ℕ) (e : EditView) → n ≤ length core.history → accept (version_of scripts base journal n) e ≡ None → accept (version_of scripts base (places_of scripts (core.history ++ code ∷ [])) n) e ≡ None =
-          (λ n e there h. subst (λ (d : Dictionary). accept d e ≡ None) (sym (ap (λ (j : List Place). version_of scripts base j n) grown ∙ version_more scripts base journal (place_of scripts code ∷ []) n (omega (arith, there, same_long)))) h) in
+      (λ n e there h. subst (λ (d : Dictionary). accept d e ≡ None) (sym (ap (λ (j : List Place). version_of scripts base j n) grown ∙ version_more scripts base journal (place_of scripts code ∷ []) n (omega (arith, there, same_long)))) h) in
       set_actor (core.history ++ code ∷ []) (record a { place = a.place + 1; seen = a.seen + 1 }) (omega (arith, long))
       (record { place = omega (arith, within scripts core s a (makes edit) end.next); seen = omega (arith, long, end.has_seen_all); mores = few_more a.held old.mores })
       (λ version c at. ⊎_elim
-        (λ (h : (version < length core.history) × (slice_get core.history version ≡ Some c)). let was = is.codes version c h.1 in
-            record { is_one = was.is_one; edit = was.edit; names = was.names; accepted = stays version was.edit (omega (arith, h.0)) was.accepted })
-        (λ (h : (version ≡ length core.history) × (code ≡ c)). subst (λ (z : ℕ × ℕ). IsAccepted scripts base (record { history = core.history ++ code ∷ []; actors = core.actors }) z.0 z.1)
-            (λ i. ((end.has_seen_all ∙ sym h.0) i, h.1 i))
-            (record { is_one = names.is_one; edit = edit; names = ap (command_at scripts) names.place ∙ end.next.asks_for; accepted = stays a.seen edit (omega (arith, end.has_seen_all)) accepted }))
-        (got_push core.history code version c at))
+      (λ (h : (version < length core.history) × (slice_get core.history version ≡ Some c)). let was = is.codes version c h.1 in
+      record { is_one = was.is_one; edit = was.edit; names = was.names; accepted = stays version was.edit (omega (arith, h.0)) was.accepted })
+      (λ (h : (version ≡ length core.history) × (code ≡ c)). subst (λ (z : ℕ × ℕ). IsAccepted scripts base (record { history = core.history ++ code ∷ []; actors = core.actors }) z.0 z.1)
+      (λ i. ((end.has_seen_all ∙ sym h.0) i, h.1 i))
+      (record { is_one = names.is_one; edit = edit; names = ap (command_at scripts) names.place ∙ end.next.asks_for; accepted = stays a.seen edit (omega (arith, end.has_seen_all)) accepted }))
+      (got_push core.history code version c at))
 
 module _ (have : EditsHaveCodes) (scripts : List (List CommandView)) (base : Dictionary) (good : AreScripts scripts) (core : Core) (is : IsCore scripts base core) where
   stays_core : (event : Event) (then : Core) (told : Option Note) → Happens scripts base core event then told → IsCore scripts base then

@@ -1,10 +1,8 @@
 -- Every step keeps a history and its notes legal, and so does every run.
-use Rattle.std.proofs.Common.{◌≡◌, ◌==◌, ℕ, zero, suc, ◌+◌, ◌-◌, ◌≤◌, Bool, true, false, cond, List, [], ◌∷◌, ◌++◌, length, map, filter, take, All, Option, Some, None, slice_get, replicate, refl, ap, sym, subst, ◌∙◌, arith, append-nil, length-append}
+use Rattle.std.proofs.Common.{◌≡◌, ◌==◌, ℕ, ◌+◌, ◌-◌, ◌≤◌, Bool, true, false, cond, List, [], ◌∷◌, ◌++◌, length, map, filter, All, Option, Some, None, refl, ap, sym, subst, ◌∙◌, arith, append-nil, length-append}
 use Rattle.std.specs.Option.{option_to_list}
-use Rattle.std.proofs.Math.Seq.{take-length}
 use Rattle.std.proofs.lemmas.List.{length-map, map-append}
 use Rattle.std.proofs.lemmas.List.Elements.{All-nil, All-cons}
-use Rattle.std.proofs.lemmas.Option.{none-some, same_Some}
 use Rattle.lg_gram.specs.declared.reply.Place.{Place}
 use Rattle.lg_dict.specs.Dictionary.{Dictionary}
 use Rattle.lg_edit.specs.Edits.{EditView, accept}
@@ -25,7 +23,7 @@ use Rattle.lg_core.specs.Core.{journal_of, newcomer, start_of, ended, published,
 use Rattle.lg_core.specs.Lawful as law
 use Rattle.lg_core.specs.Lawful.{notes_of, noted, is_published, is_listing, is_paged, is_fresh, rises, Leaves, Says, IsLegalCore, Runs, EveryRunIsLegal}
 use Rattle.lg_core.proofs.Cores.{at_start}
-use Rattle.lg_core.proofs.Places.{Names, next_names}
+use Rattle.lg_core.proofs.Places.{next_names}
 use Rattle.lg_core.proofs.Notes.{all_at, Holds, holds_same, holds_page, holds_new, holds_none, holds_at_start, rises_from}
 use Rattle.lg_core.proofs.Legal.{IsReached, HasCome, sees, noted_more, version_more, numbered_push}
 

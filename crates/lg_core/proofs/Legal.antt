@@ -1,29 +1,26 @@
 -- What a step makes of a legal history and its notes.
-use Rattle.std.proofs.Common.{◌≡◌, ◌≢◌, ◌==◌, ℕ, zero, suc, ◌+◌, ◌-◌, ◌≤◌, ◌<◌, ◌⊎◌, inl, inr, ⊎_elim, Bool, true, false, cond, List, [], ◌∷◌, ◌++◌, length, map, filter, take, All, AllPairs, Option, Some, None, slice_get, slice_set, replicate, refl, ap, ap₂, sym, subst, ◌∙◌, arith, append_assoc, append-nil, length-append, eq-eqb, ne_eqb, add-one}
-use Rattle.std.proofs.Math.Seq.{take-length}
+use Rattle.std.proofs.Common.{◌≡◌, ◌≢◌, ◌==◌, ℕ, zero, suc, ◌+◌, ◌-◌, ◌≤◌, ◌⊎◌, inl, inr, ⊎_elim, Bool, true, false, cond, List, [], ◌∷◌, ◌++◌, length, map, filter, All, AllPairs, Some, None, slice_get, slice_set, refl, ap, ap₂, sym, subst, ◌∙◌, arith, append-nil, length-append, add-one}
 use Rattle.std.proofs.lemmas.List.{take-append-le, length-map, map-append}
-use Rattle.std.proofs.lemmas.List.Elements.{filter-append, All-push, All-nil, All-append, All-cons, All-weaker, All-filter}
+use Rattle.std.proofs.lemmas.List.Elements.{filter-append, All-push, All-append, All-weaker, All-filter}
 use Rattle.std.proofs.lemmas.Bool.{cases_eq}
 use Rattle.std.proofs.lemmas.Option.{none-some}
 use Rattle.lg_gram.specs.declared.reply.Place.{Place}
 use Rattle.lg_dict.specs.Dictionary.{Dictionary}
-use Rattle.lg_edit.specs.Edits.{EditView, accept}
-use Rattle.lg_log.specs.Codes.{is_code, EditsHaveCodes}
+use Rattle.lg_edit.specs.Edits.{accept}
+use Rattle.lg_log.specs.Codes.{is_code}
 use Rattle.lg_token.specs.Bounds.{AreListed, IsBeyond}
-use Rattle.lg_script.specs.Commands.{CommandView, goes_on, makes, asks}
+use Rattle.lg_script.specs.Commands.{CommandView}
 use Rattle.lg_script.specs.EditNumbers.{edit_counts}
 use Rattle.lg_script.specs.Histories.{numbered, command_at, dictionary_after, version_of}
 use Rattle.lg_core.specs.declared.note.Note.{Note}
 use Rattle.lg_core.specs.declared.note.NoteKind.{NoteKind}
-use Rattle.lg_core.specs.declared.note.NoteKind.TheVariants.{Listed, Beyond, Paged, NoListing, Published, Refused, At}
 use Rattle.lg_core.specs.declared.state.Actor.{Actor}
 use Rattle.lg_core.specs.declared.state.Core.{Core}
-use Rattle.lg_core.specs.declared.state.Hold.{Hold}
-use Rattle.lg_script.specs.Codes.{place_of, places_of, AreScripts}
-use Rattle.lg_core.specs.Core.{journal_of, with_actor, ended, next_place, note_of, IsNext}
+use Rattle.lg_script.specs.Codes.{place_of, places_of}
+use Rattle.lg_core.specs.Core.{journal_of, with_actor, next_place, note_of}
 use Rattle.lg_core.specs.Lawful as law
 use Rattle.lg_core.specs.Lawful.{notes_of, noted, is_published, is_listing, is_paged, is_fresh, rises, Precedes, Leaves, Says, IsRight, IsLegalCore}
-use Rattle.lg_core.proofs.Notes.{split_last, all_at, pairs_push, own_more, others_same, Holds, rises_from}
+use Rattle.lg_core.proofs.Notes.{split_last, all_at, pairs_push, own_more, others_same, Holds}
 
 -- ---- versions as the history grows
 
@@ -143,9 +140,9 @@ module _ (scripts : List (List CommandView)) (base : Dictionary) (core : Core) (
       let kept_notes : List Note = notes_of t notes in
       let one : List Note = notes_of t (n ∷ []) in
       let left : filter (λ p. p.session == t) (places_of scripts history) ≡ filter (λ p. p.session == t) (journal_of scripts core) ++ filter (λ p. p.session == t) (places_of scripts more) =
-          ap (filter (λ p. p.session == t)) journal_more ∙ filter-append (λ p. p.session == t) (journal_of scripts core) (places_of scripts more) in
+      ap (filter (λ p. p.session == t)) journal_more ∙ filter-append (λ p. p.session == t) (journal_of scripts core) (places_of scripts more) in
       let right : filter (λ m. is_published m.kind) (notes_of t (notes ++ n ∷ [])) ≡ filter (λ m. is_published m.kind) kept_notes ++ filter (λ m. is_published m.kind) one =
-          ap (filter (λ m. is_published m.kind)) (filter-append (λ m. m.session == t) notes (n ∷ [])) ∙ filter-append (λ m. is_published m.kind) kept_notes one in
+      ap (filter (λ m. is_published m.kind)) (filter-append (λ m. m.session == t) notes (n ∷ [])) ∙ filter-append (λ m. is_published m.kind) kept_notes one in
       left ∙ ap₂ (λ (x y : List Place). x ++ y) old new ∙ sym (ap (map noted) right ∙ map-append noted (filter (λ m. is_published m.kind) kept_notes) (filter (λ m. is_published m.kind) one))
 
   rise_own : (is_fresh kind ≡ true → (old : ℕ) → old ≤ a.seen → rises kind old v) → (b : Bool) → is_fresh kind ≡ b → AllPairs Precedes (filter (λ m. is_fresh m.kind) here ++ cond b (n ∷ []) [])
@@ -157,7 +154,7 @@ module _ (scripts : List (List CommandView)) (base : Dictionary) (core : Core) (
   rise_more : (is_fresh kind ≡ true → (old : ℕ) → old ≤ a.seen → rises kind old v) → (t : ℕ) → (t ≡ s + 1) ⊎ (t ≢ s + 1) → AllPairs Precedes (filter (λ m. is_fresh m.kind) (notes_of t (notes ++ n ∷ [])))
   rise_more rise t (inl same) =
       let own : filter (λ m. is_fresh m.kind) (notes_of (s + 1) (notes ++ n ∷ [])) ≡ filter (λ m. is_fresh m.kind) here ++ cond (is_fresh kind) (n ∷ []) [] =
-          ap (filter (λ m. is_fresh m.kind)) (own_more (s + 1) notes n refl) ∙ filter-append (λ m. is_fresh m.kind) here (n ∷ []) in
+      ap (filter (λ m. is_fresh m.kind)) (own_more (s + 1) notes n refl) ∙ filter-append (λ m. is_fresh m.kind) here (n ∷ []) in
       subst (λ (t : ℕ). AllPairs Precedes (filter (λ m. is_fresh m.kind) (notes_of t (notes ++ n ∷ [])))) (sym same) (subst (AllPairs Precedes) (sym own) (rise_own rise (is_fresh kind) refl))
   rise_more rise t (inr apart) = subst (λ (l : List Note). AllPairs Precedes (filter (λ m. is_fresh m.kind) l)) (sym (others_same t notes n (λ e. apart (sym e)))) (reached.legal.rise t)
 
@@ -196,5 +193,5 @@ module _ (scripts : List (List CommandView)) (base : Dictionary) (core : Core) (
               held = held;
             }))
             (λ t c apart is. subst (λ (l : List Note). HasCome (length history) l c) (sym (others_same (t + 1) notes n (λ e. apart (omega (arith, e)))))
-                (come_later (length core.history) (length history) (notes_of (t + 1) notes) c (omega (arith, history_more)) (reached.actors t c is)));
+            (come_later (length core.history) (length history) (notes_of (t + 1) notes) c (omega (arith, history_more)) (reached.actors t c is)));
       }

@@ -1,11 +1,11 @@
 -- The edit that a code of the history names, and the dictionary after it.
-use Rattle.std.proofs.Common.{◌≡◌, ℕ, zero, suc, ◌+◌, ◌<◌, List, [], ◌∷◌, ◌++◌, length, map, take, get_or, All, Option, Some, None, slice_get, slice_index, slice_index_or, count_by, refl, ap, sym, subst, ◌∙◌, arith, add-one, cond, is_none, if◌then◌else◌}
+use Rattle.std.proofs.Common.{◌≡◌, ℕ, zero, suc, ◌+◌, ◌<◌, List, [], ◌∷◌, ◌++◌, length, map, take, get_or, All, Option, Some, None, slice_get, slice_index, slice_index_or, count_by, refl, ap, sym, subst, ◌∙◌, arith, add-one}
 use Rattle.std.specs.Option.{option_map}
 use Rattle.std.proofs.lemmas.List.{take_more, length-map}
 use Rattle.std.proofs.lemmas.Option.{none-some, same_Some, get_or_from_slice_get, slice_get_within, slice_get-map, slice_get-get_or}
 use Rattle.lg_gram.specs.declared.reply.Place.{Place}
 use Rattle.lg_dict.specs.Dictionary.{Dictionary}
-use Rattle.lg_edit.specs.Edits.{EditView, accept, after_edit, DefinesAsItMay, IsEditInBounds}
+use Rattle.lg_edit.specs.Edits.{EditView, accept, after_edit}
 use Rattle.lg_log.specs.Codes.{code_of, code_session, code_index}
 use Rattle.lg_script.specs.declared.command.Command.{Command}
 use Rattle.lg_script.specs.Bounds.{IsInBounds, AreInBounds}
@@ -14,7 +14,7 @@ use Rattle.lg_script.specs.EditNumbers.{edit_numbers, edit_counts}
 use Rattle.lg_script.specs.Histories.{numbered, command_in, command_at, after_command, dictionary_after, version_of}
 use Rattle.lg_core.specs.declared.state.Actor.{Actor}
 use Rattle.lg_core.specs.declared.state.Core.{Core}
-use Rattle.lg_script.specs.Codes.{place_of, places_of, AreScripts}
+use Rattle.lg_script.specs.Codes.{place_of, AreScripts}
 use Rattle.lg_core.specs.Core.{views_of, journal_of, next_code, IsNext, IsAccepted}
 use Rattle.lg_core.proofs.NextCommand.{item_at}
 use Rattle.lg_core.proofs.Outcomes.{same_edit}

@@ -1,5 +1,5 @@
 -- The notes of a session as they grow.
-use Rattle.std.proofs.Common.{◌≡◌, ◌≢◌, ◌==◌, ℕ, suc, ◌+◌, ◌≤◌, ◌<◌, ◌⊎◌, inl, inr, ⊎_elim, Bool, true, false, cond, List, [], ◌∷◌, ◌++◌, length, filter, count_by, All, AllPairs, Option, Some, None, refl, ap, sym, subst, ◌∙◌, arith, append_assoc, append-nil, length-append, eq-eqb, ne_eqb}
+use Rattle.std.proofs.Common.{◌≡◌, ◌≢◌, ◌==◌, ℕ, suc, ◌+◌, ◌≤◌, ◌⊎◌, inl, inr, ⊎_elim, Bool, true, false, cond, List, [], ◌∷◌, ◌++◌, length, count_by, All, AllPairs, Option, Some, None, refl, ap, sym, subst, ◌∙◌, arith, append_assoc, append-nil, length-append, eq-eqb, ne_eqb}
 use Rattle.std.proofs.lemmas.List.Elements.{filter-append, All-head, All-tail, All-push, All-nil, All-cons}
 use Rattle.std.proofs.lemmas.List.Kept.{AllPairs-cons}
 use Rattle.std.proofs.lemmas.List.Sums.{sum_by-append}
@@ -66,17 +66,17 @@ goes_on_by : (notes : List Note) (n : Note) (hold : Hold) → is_listing n.kind 
 goes_on_by notes n hold plain left =
     let one : 0 + cond (is_paged n.kind) 1 0 ≡ cond (is_paged n.kind) 1 0 = omega arith in
     let counted : count_by (λ m. is_paged m.kind) (left.after ++ n ∷ []) ≡ count_by (λ m. is_paged m.kind) left.after + cond (is_paged n.kind) 1 0 =
-        sum_by-append (λ m. cond (is_paged m.kind) 1 0) left.after (n ∷ []) ∙ ap (λ k. count_by (λ m. is_paged m.kind) left.after + k) one in record {
-  before = left.before;
-  note = left.note;
-  after = left.after ++ n ∷ [];
-  parts = ap (λ (l : List Note). l ++ n ∷ []) left.parts ∙ append_assoc left.before (left.note ∷ left.after) (n ∷ []);
-  listed = left.listed;
-  last = All-push (λ m. is_listing m.kind ≡ false) left.after n left.last plain;
-  version = left.version;
-  command = left.command;
-  mores = ap (λ k. k + cond (is_paged n.kind) 1 0) left.mores ∙ sym counted;
-}
+    sum_by-append (λ m. cond (is_paged m.kind) 1 0) left.after (n ∷ []) ∙ ap (λ k. count_by (λ m. is_paged m.kind) left.after + k) one in record {
+      before = left.before;
+      note = left.note;
+      after = left.after ++ n ∷ [];
+      parts = ap (λ (l : List Note). l ++ n ∷ []) left.parts ∙ append_assoc left.before (left.note ∷ left.after) (n ∷ []);
+      listed = left.listed;
+      last = All-push (λ m. is_listing m.kind ≡ false) left.after n left.last plain;
+      version = left.version;
+      command = left.command;
+      mores = ap (λ k. k + cond (is_paged n.kind) 1 0) left.mores ∙ sym counted;
+    }
 
 none_before : (notes : List Note) (n : Note) → is_listing n.kind ≡ false → ((hold : Hold) → Leaves notes hold → ⊥) → (hold : Hold) → Leaves (notes ++ n ∷ []) hold → ⊥
 none_before notes n plain none hold left =

@@ -1,5 +1,5 @@
 -- What each event comes to: the steps, read backwards.
-use Rattle.std.proofs.Common.{◌≡◌, ℕ, ◌+◌, ◌<◌, ◌≤◌, List, length, Option, Some, None, slice_get, refl, ap, sym, subst, ◌∙◌, arith}
+use Rattle.std.proofs.Common.{◌≡◌, ℕ, ◌+◌, ◌<◌, ◌≤◌, List, length, Option, Some, None, refl, ap, sym, subst, ◌∙◌, arith}
 use Rattle.std.proofs.lemmas.Option.{none-some, same_Some}
 use Rattle.lg_gram.specs.declared.edit.EditRefusal.{EditRefusal}
 use Rattle.lg_gram.specs.declared.listing.Bound.{Bound}
@@ -17,7 +17,6 @@ use Rattle.lg_core.specs.declared.event.Event.TheVariants.{Look, Learn, Publish,
 use Rattle.lg_core.specs.declared.look.Looked.{Looked}
 use Rattle.lg_core.specs.declared.look.Looked.TheVariants as looks
 use Rattle.lg_core.specs.declared.note.Note.{Note}
-use Rattle.lg_core.specs.declared.note.NoteKind.{NoteKind}
 use Rattle.lg_core.specs.declared.note.NoteKind.TheVariants.{Listed, Beyond, Paged, NoListing, Published, Refused, At}
 use Rattle.lg_core.specs.declared.state.Actor.{Actor}
 use Rattle.lg_core.specs.declared.state.Core.{Core}
@@ -243,4 +242,3 @@ view_more (commands.List first want text) is = absurd (cc is)
 view_more commands.More is = refl
 view_more (commands.Edit edit) is = absurd (cc is)
 view_more commands.Version is = absurd (cc is)
-

@@ -1,11 +1,10 @@
 -- The codes of edits, and the places that they name.
-use Rattle.std.proofs.Common.{◌≡◌, ℕ, zero, suc, ◌+◌, ◌<◌, ◌≤◌, ◌^◌, Bool, true, false, cond, List, [], ◌∷◌, length, map, filter, take, get_or, slice_index, slice_index_or, slice_get, count_by, All, Option, Some, None, refl, ap, sym, subst, ◌∙◌, arith, add-one}
+use Rattle.std.proofs.Common.{◌≡◌, ℕ, zero, suc, ◌+◌, ◌<◌, Bool, true, false, cond, List, [], ◌∷◌, length, map, filter, take, get_or, slice_index, slice_index_or, slice_get, count_by, Option, Some, None, refl, ap, ◌∙◌, arith, add-one}
 use Rattle.std.specs.List.{enumerate_from}
 use Rattle.std.proofs.lemmas.List.Sums.{sum_by-cons, count_by-le-length}
 use Rattle.std.proofs.lemmas.Option.{none-some, same_Some, get_or_from_slice_get, slice_get_within}
 use Rattle.lg_gram.specs.declared.reply.Place.{Place}
-use Rattle.lg_log.specs.Codes.{code_of, code_session, code_index, is_code, EditsHaveCodes}
-use Rattle.lg_script.specs.Bounds.{AreInBounds}
+use Rattle.lg_log.specs.Codes.{is_code, EditsHaveCodes}
 use Rattle.lg_script.specs.Commands.{CommandView, is_edit}
 use Rattle.lg_script.specs.EditNumbers.{edit_numbers, edit_counts}
 use Rattle.lg_script.specs.Histories.{command_in, command_at}

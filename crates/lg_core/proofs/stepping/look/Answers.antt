@@ -1,4 +1,4 @@
-use Rattle.std.proofs.Common.{◌≡◌, Some, None, refl, ap, subst, ◌∙◌}
+use Rattle.std.proofs.Common.{Some, None, refl, ap, subst, ◌∙◌}
 use Rattle.lg_script.specs.Commands.{command_view}
 use Rattle.lg_core.specs.declared.look.Looked.TheVariants.{Waits, Accepted, Ends}
 use Rattle.lg_core.specs.Core.{views_of, next_place, ended}

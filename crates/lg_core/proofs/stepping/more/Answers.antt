@@ -1,5 +1,5 @@
-use Rattle.std.proofs.Common.{◌≡◌, ◌≤◌, Option, Some, IfSome, refl, ap, subst, arith}
-use Rattle.lg_script.specs.Commands.{command_view, goes_on}
+use Rattle.std.proofs.Common.{◌≤◌, Option, Some, IfSome, refl, ap, subst, arith}
+use Rattle.lg_script.specs.Commands.{command_view}
 use Rattle.lg_core.specs.declared.event.Event.TheVariants.{More}
 use Rattle.lg_core.specs.declared.state.Hold.{Hold}
 use Rattle.lg_core.specs.Core as happens

@@ -1,6 +1,6 @@
-use Rattle.std.proofs.Common.{◌≡◌, ◌+◌, ◌<◌, List, length, Some, refl, ap, sym, subst, ◌∙◌, arith}
+use Rattle.std.proofs.Common.{◌<◌, List, length, Some, refl, ap, sym, subst, ◌∙◌, arith}
 use Rattle.lg_script.specs.declared.command.Command.{Command}
-use Rattle.lg_script.specs.Commands.{command_view, makes}
+use Rattle.lg_script.specs.Commands.{command_view}
 use Rattle.lg_core.specs.declared.event.Event.TheVariants.{Publish}
 use Rattle.lg_core.specs.declared.look.Looked.TheVariants.{Accepted}
 use Rattle.lg_core.specs.Core as happens
@@ -18,8 +18,11 @@ look_at_end-requires-clause-command c =
 
 pub returns-in_default-2 : goal.returns-in_default-2
 returns-in_default-2 c = record {
-  done = (refl, not_accepted (views_of c.args.scripts.now) c.args.base.now c.args.core.now c.args.session c.in-Some.actor (command_view c.in-Some.command.now) c.in_ok-look_at_end.field-0
-      c.in-Some.ensures c.in_ok-look_at_end.ensures c.in_default-2.not-Accepted);
+  done = (
+    refl,
+    not_accepted (views_of c.args.scripts.now) c.args.base.now c.args.core.now c.args.session c.in-Some.actor (command_view c.in-Some.command.now) c.in_ok-look_at_end.field-0
+        c.in-Some.ensures c.in_ok-look_at_end.ensures c.in_default-2.not-Accepted,
+  );
   unchanged = tt;
 }
 
@@ -52,7 +55,7 @@ returns-clause-done c =
     let edit = accepted_edit (seen_by views base core a) command (looks_seen views base core s a command Accepted c.in-Some.ensures so) in
     let end_ = subst (IsNextAtEnd views core s a) edit.1 c.in-Some.ensures in
     let code = code_is scripts c.items.result.now s a c.index-items-session.result c.edits_before-index.result c.code.result c.items.ensures
-        (session_there scripts core s a command c.in-Some.ensures.next) c.index-items-session.is c.edits_before-index.ensures.count c.code.ensures.code in
+    (session_there scripts core s a command c.in-Some.ensures.next) c.index-items-session.is c.edits_before-index.ensures.count c.code.ensures.code in
     let after = published_so core s a c.append.new.history c.version-seen.result c.code.result (next_code views s a) c.in_ok-append.ensures.appended code c.version-seen.ensures c.in-Some.ensures.has_seen_all in
     let told = note_so core s a c.append.new.history c.version-seen.result c.code.result (next_code views s a) c.in_ok-append.ensures.appended code c.version-seen.ensures c.in-Some.ensures.has_seen_all in
     as_it_is views base core (Publish s) c.end-note.new.self _ (Some c.end-note.result) _ (c.end-note.ensures.ended ∙ after, ap Some (c.end-note.ensures.note ∙ told))

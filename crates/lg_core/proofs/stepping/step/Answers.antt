@@ -1,4 +1,4 @@
-use Rattle.std.proofs.Common.{◌≡◌, sym, subst}
+use Rattle.std.proofs.Common.{sym, subst}
 use Rattle.lg_core.specs.declared.event.Event.{Event}
 use Rattle.lg_core.specs.declared.event.Event.TheVariants.{Look, Learn, Publish, More}
 use Rattle.lg_core.specs.Core.{views_of, IsStep}
