@@ -1,5 +1,6 @@
-use Rattle.std.proofs.Common.{◌≡◌, ◌↔◌, ◌+◌, ◌∙◌, true≢false, Option, subst, sym, ap, Some, IsTrue, IfOk, OnOk, IfSome, length, take, slice_get, Contains, arith, rules}
+use Rattle.std.proofs.Common.{◌≡◌, ◌↔◌, ◌+◌, ◌∙◌, true≢false, Option, subst, sym, ap, Some, IsTrue, IfOk, OnOk, IfSome, length, take, slice_get, Contains, map, arith, rules}
 use Rattle.lg_region.specs.Keys.{kept}
+use Rattle.lg_region.specs.Small.{full}
 use Rattle.lg_forest.specs.Demands.{HasLinkageUnder, left_key}
 use Rattle.lg_forest.specs.Forests.{IsLive, AreLive}
 use Rattle.lg_forest.specs.Search.{Asked, AsksOf, IsLast}
@@ -27,30 +28,30 @@ explore-loop-index-preserved g t c =
     let before = c.loop-index.invariant.steps in
     let after = c.in_ok-live.ensures.steps in
     record {
-      asked = asked_more n c.alts.inside.items.items c.loop-index.index (c.loop-index.index + 1) c.get.result c.args.table.now c.loop-index.table c.is_live.new.table at (omega arith) c.loop-index.invariant.asked c.in_ok-live.ensures.asked;
-      flags = subst (λ z. Flags (IsLive n.positions n.lists) (take (c.loop-index.index + 1) c.alts.inside.items.items) z) (sym c.in_ok-push.ensures.items)
-          (flags_more (IsLive n.positions n.lists) c.alts.inside.items.items c.loop-index.index (c.loop-index.index + 1) c.get.result c.loop-index.flags.items c.in_ok-live.live at (omega arith) c.loop-index.invariant.flags c.in_ok-live.ensures.live);
+      asked = asked_more n (map full c.alts.inside.items.items) c.loop-index.index (c.loop-index.index + 1) c.get.result c.args.table.now c.loop-index.table c.is_live.new.table at (omega arith) c.loop-index.invariant.asked c.in_ok-live.ensures.asked;
+      flags = subst (λ z. Flags (IsLive n.positions n.lists) (take (c.loop-index.index + 1) (map full c.alts.inside.items.items)) z) (sym c.in_ok-push.ensures.items)
+          (flags_more (IsLive n.positions n.lists) (map full c.alts.inside.items.items) c.loop-index.index (c.loop-index.index + 1) c.get.result c.loop-index.flags.items c.in_ok-live.live at (omega arith) c.loop-index.invariant.flags c.in_ok-live.ensures.live);
       last = c.in_ok-live.ensures.last;
       steps = omega arith;
     }
 
 pub explore-keep-requires : goal.explore-keep-requires
 explore-keep-requires g t c =
-    let all = all_flags c.args.lists.now c.in_ok-alts.alts c.alts.inside.items.items c.loop-index.index c.loop-index.flags.items c.alts.view_is (omega arith) c.loop-index.invariant.flags in
+    let all = all_flags c.args.lists.now c.in_ok-alts.alts (map full c.alts.inside.items.items) c.loop-index.index c.loop-index.flags.items c.alts.view_is (omega arith) c.loop-index.invariant.flags in
     ap length c.as_slice.ensures.value ∙ flags_long c.args.lists.now c.in_ok-alts.alts c.loop-index.flags.items all
 
 pub explore-returns-clause-live : goal.explore-returns-clause-live
 explore-returns-clause-live g t c =
     let n = c.args.lists.now in
-    let all = all_flags n c.in_ok-alts.alts c.alts.inside.items.items c.loop-index.index c.loop-index.flags.items c.alts.view_is (omega arith) c.loop-index.invariant.flags in
+    let all = all_flags n c.in_ok-alts.alts (map full c.alts.inside.items.items) c.loop-index.index c.loop-index.flags.items c.alts.view_is (omega arith) c.loop-index.invariant.flags in
     let live = kept_live n c.args.key c.in_ok-alts.alts c.loop-index.flags.items c.in_ok-alts.ensures.exactly c.in_ok-alts.ensures.once all in
     subst (λ z. AreLive n.positions n.lists c.args.key z) (sym (c.keep.ensures ∙ ap (kept c.in_ok-alts.alts) c.as_slice.ensures.value)) live
 
 pub explore-returns-clause-asked : goal.explore-returns-clause-asked
 explore-returns-clause-asked g t c =
     let e = ap length c.alts.view_is in
-    asked_all c.args.lists.now c.args.key c.alts.inside.items.items c.loop-index.index c.args.table.now c.loop-index.table
-    (exact c.args.lists.now c.args.key c.in_ok-alts.alts c.alts.inside.items.items c.alts.view_is c.in_ok-alts.ensures.exactly) (omega arith) c.loop-index.invariant.asked
+    asked_all c.args.lists.now c.args.key (map full c.alts.inside.items.items) c.loop-index.index c.args.table.now c.loop-index.table
+    (exact c.args.lists.now c.args.key c.in_ok-alts.alts (map full c.alts.inside.items.items) c.alts.view_is c.in_ok-alts.ensures.exactly) (omega arith) c.loop-index.invariant.asked
 
 pub is_live-returns-then-branch-clause-live : goal.is_live-returns-then-branch-clause-live
 is_live-returns-then-branch-clause-live g t c =

@@ -1,4 +1,5 @@
-use Rattle.std.proofs.Common.{◌+◌, ◌*◌, take}
+use Rattle.std.proofs.Common.{◌+◌, ◌*◌, take, map}
+use Rattle.lg_region.specs.Small.{full}
 use Rattle.lg_forest.specs.Forests.{IsLive}
 use Rattle.lg_forest.specs.Search.{Asked, IsLast, key_width, part_bound, alt_bound, IsCounted}
 use Rattle.lg_forest.proofs.Asked.{AsksBy}
@@ -23,8 +24,8 @@ decreases-visit_left g l = 5 * part_bound l.lists.now.positions l.key + 1
 -- what the alternatives so far ask for is in the table, and each has its flag
 abbrev pub invariant-explore-loop-index : goal.invariant-explore-loop-index
 invariant-explore-loop-index g l = record {
-  asked : Asked l.lists (AsksBy l.lists l.alts-inside.items.items l.index) l.fn.table l.table;
-  flags : Flags (IsLive l.lists.positions l.lists.lists) (take l.index l.alts-inside.items.items) l.flags.items;
+  asked : Asked l.lists (AsksBy l.lists (map full l.alts-inside.items.items) l.index) l.fn.table l.table;
+  flags : Flags (IsLive l.lists.positions l.lists.lists) (take l.index (map full l.alts-inside.items.items)) l.flags.items;
   last : IsLast l.lists l.table l.last;
   steps : IsCounted 1 l.fn.steps l.fn.table l.steps l.table;
 }
