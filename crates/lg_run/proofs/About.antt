@@ -25,7 +25,7 @@ only_name : (name : List ℕ) (names : Names) (x : List ℕ) → Contains (name 
 only_name name names x (zero, small, is) = (0, omega arith, is)
 only_name name names x (suc k, small, is) = absurd (omega (arith, small))
 
-later_name : (name : List ℕ) (names : Names) (x : List ℕ) → Contains names x → Contains (name ∷ names) x
+pub later_name : (name : List ℕ) (names : Names) (x : List ℕ) → Contains names x → Contains (name ∷ names) x
 later_name name names x (k, small, is) = (suc k, omega (arith, small), is)
 
 module _ (names more asked : Names) (wider : (x : List ℕ) → Contains names x → Contains more x) where
@@ -41,6 +41,14 @@ module _ (names more asked : Names) (wider : (x : List ℕ) → Contains names x
   result_more : {T : Type 0} (r : Result T Stop) → IfErr r (IsAbout names asked) → IfErr r (IsAbout more asked)
   result_more (Ok x) h = tt
   result_more (Err stop) h = about_more stop h
+
+one_name : (names : Names) (name : List ℕ) → Contains names name → (x : List ℕ) → Contains (name ∷ []) x → Contains names x
+one_name names name there x (zero, small, is) = subst (Contains names) is there
+one_name names name there x (suc k, small, is) = absurd (omega (arith, small))
+
+-- a stop that is about one of the names
+pub about_one : (names asked : Names) (name : List ℕ) (stop : Stop) → Contains names name → IsAbout (name ∷ []) asked stop → IsAbout names asked stop
+about_one names asked name stop there = about_more (name ∷ []) names asked (one_name names name there) stop
 
 -- a stop that is about the first name, or about a later one
 pub about_first : (name : List ℕ) (names asked : Names) (stop : Stop) → IsAbout (name ∷ []) asked stop → IsAbout (name ∷ names) asked stop

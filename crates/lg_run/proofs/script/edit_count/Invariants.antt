@@ -1,6 +1,6 @@
 use Rattle.std.proofs.Common.{◌≡◌, ◌≤◌, map, take, count_by}
 use Rattle.lg_script.specs.Commands.{command_view}
-use Rattle.lg_run.specs.Inputs.{is_edit}
+use Rattle.lg_script.specs.Commands.{is_edit}
 use Rattle.lg_run.proofs.script.edit_count.Given as goal
 
 abbrev pub invariant-loop-command : goal.invariant-loop-command
