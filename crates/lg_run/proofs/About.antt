@@ -3,15 +3,12 @@ use Rattle.std.proofs.Common.{◌≡◌, ℕ, zero, suc, List, [], ◌∷◌, Co
 use Rattle.lg_dictread.specs.declared.dict_error.DictError.{DictError}
 use Rattle.lg_dictread.specs.declared.dict_error.DictError.TheVariants as errors
 use Rattle.lg_dictread.specs.Telling.{IsCause}
-use Rattle.lg_run.specs.Inputs.{Given}
 use Rattle.lg_run.specs.Reads.{IsOfLast, IsAbout}
 use Rattle.lg_run.specs.Stops.{stop_status, stop_line}
 use Rattle.lg_run.specs.Answers.{IsRefusal, too_long, dictionary, knowledge, script, too_many_edits}
-use Rattle.lg_run.specs.declared.inputs.Inputs.{Inputs}
 use Rattle.lg_run.specs.declared.status.Status.TheVariants.{BadInput}
 use Rattle.lg_run.specs.declared.stop.Stop.{Stop}
 use Rattle.lg_run.specs.declared.stop.Stop.TheVariants.{Memory, Unreadable, TooLong, Dictionary, Knowledge, Script, TooManyEdits}
-use Rattle.lg_run.proofs.Givens.{Gives}
 
 -- ---- names
 
@@ -71,11 +68,6 @@ of_last before now asked (errors.TooManyNodes line n) h = tt
 of_last before now asked (errors.TooManyChoices line n) h = tt
 of_last before now asked (errors.SideTooLong line n) h = tt
 of_last before now asked (errors.DuplicateWord word n m) h = tt
-
--- memory is about no name
-pub given_about : (names asked : Names) (g : Given) (result : Result Inputs Stop) → Gives g result → IfErr result (IsAbout names asked)
-given_about names asked g (Ok inputs) is = tt
-given_about names asked g (Err stop) is = subst (IsAbout names asked) (sym is) tt
 
 -- ---- its line
 

@@ -10,7 +10,6 @@ pub mod EditSums
 pub mod ScriptLists
 pub mod Verdicts
 pub mod Told
-pub mod Givens
 pub mod Writing
 pub mod Printed
 pub mod Turned

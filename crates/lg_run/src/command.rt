@@ -121,7 +121,7 @@ fn two_and_more(words: &[String]) -> Option<(&str, &str, &[String])>
 
 // Whether each word is an operand.
 fn are_operands(words: &[String]) -> bool
-    ensures { result ≡ list_all is_operand (map string_bytes words.now) }
+    ensures { result ≡ list_all (λ word. is_operand (string_bytes word)) words.now }
 {
     words.iter().all(|word| is_operand(word))
 }
