@@ -10,3 +10,4 @@ pub mod SomeLine
 pub mod SomeCommand
 pub mod Some
 pub mod Bounds
+pub mod Numbers

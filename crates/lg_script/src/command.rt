@@ -1,7 +1,7 @@
 //! The commands of a script.
 
 ghost use Rattle.std.specs.Prelude.{◌≡◌};
-ghost use Rattle.lg_script.specs.Commands.{command_view};
+ghost use Rattle.lg_script.specs.Commands.{command_view, is_edit};
 ghost use Rattle.lg_script.specs.Kinds.{kind_of};
 
 use lg_base::Text;
@@ -25,6 +25,13 @@ pub enum Command {
 }
 
 impl Command {
+    /// Whether the command is an edit.
+    pub fn is_edit(&self) -> bool
+        ensures { result ≡ is_edit (command_view self.now) }
+    {
+        matches!(self, Command::Edit(_))
+    }
+
     /// The kind of the command.
     pub fn kind(&self) -> CommandKind
         ensures { result ≡ kind_of (command_view self.now) }

@@ -1,7 +1,10 @@
 pub mod Versions
 pub mod Carried
 pub mod Rest
-pub mod Alone
-pub mod Turned
-pub mod Reached
 pub mod OneScript
+pub mod Reached
+pub mod Rows
+pub mod Jobs
+pub mod Whole
+pub mod Named
+pub mod Learned

@@ -1,48 +1,52 @@
--- The only script: its commands, each at its place.
-use Rattle.std.proofs.Common.{◌≡◌, ℕ, suc, ◌+◌, ◌<◌, ◌^◌, List, [], ◌∷◌, length, map, drop, get_or, All, Some, refl, ap, sym, subst, ◌∙◌, arith, add-one}
+-- The commands of one of the scripts, each at its place.
+use Rattle.std.proofs.Common.{◌≡◌, ℕ, ◌+◌, ◌<◌, ◌^◌, List, [], ◌∷◌, length, map, drop, get_or, slice_index_or, Some, refl, ap, sym, ◌∙◌, arith, add-one}
 use Rattle.std.proofs.Math.Seq.{drop-cons}
-use Rattle.std.proofs.lemmas.List.{length-map, get_or-map}
-use Rattle.std.proofs.lemmas.List.Elements.{All-head}
+use Rattle.std.proofs.lemmas.List.{length-map, get_or-map, get_or_default}
 use Rattle.std.proofs.lemmas.Option.{slice_get_read}
+use Rattle.lg_gram.specs.declared.reply.Place.{Place}
 use Rattle.lg_script.specs.declared.command.Command.{Command}
-use Rattle.lg_script.specs.Bounds.{IsInBounds, AreInBounds}
-use Rattle.lg_script.specs.Commands.{CommandView, command_view}
-use Rattle.lg_script.specs.Histories.{command_at}
+use Rattle.lg_script.specs.Commands.{CommandView, command_view, asks}
+use Rattle.lg_script.specs.Histories.{command_at, command_in, numbered}
+use Rattle.lg_log.specs.Codes.{code_session, code_index}
+use Rattle.lg_script.specs.EditNumbers.{edit_numbers}
+use Rattle.lg_session.specs.Codes.{place_of, AreScripts}
 use Rattle.lg_session.specs.Legal.{script_views}
+use Rattle.lg_session.specs.Rows.{Ground, commands_of}
 
--- the only list is the first
-first : {A : Type 0} (xs : List A) (x : A) → length xs ≡ 1 → x ≡ get_or xs 0 x → xs ≡ x ∷ []
-first [] x one is = absurd (omega (arith, one))
-first (y ∷ []) x one is = ap (λ z. z ∷ []) (sym is)
-first (y ∷ z ∷ zs) x one is = absurd (omega (arith, one))
+module _ (g : Ground) (number : ℕ) (in_ : number < length g.scripts) where
+  pub few_commands : AreScripts g.scripts → length (commands_of g number) < 2 ^ 32
+  few_commands are = (are.each number [] in_).few
 
-pub views_are : (scripts seen : List (List Command)) (commands items : List Command) → length scripts ≡ 1 → seen ≡ scripts → commands ≡ get_or seen 0 commands → items ≡ commands
-    → script_views scripts ≡ map command_view items ∷ []
-views_are scripts seen commands items one same is items_are =
-    ap script_views (first scripts commands one (is ∙ ap (λ (l : List (List Command)). get_or l 0 commands) same)) ∙ ap (λ (l : List Command). map command_view l ∷ []) (sym items_are)
+  script_at : numbered g.scripts (number + 1) ≡ Some (commands_of g number)
+  script_at = rw add-one (slice_get_read g.scripts (length g.scripts) number (commands_of g number) refl in_ (get_or_default g.scripts number [] (commands_of g number) in_))
 
-module _ (scripts : List (List Command)) (items : List Command) (views : script_views scripts ≡ map command_view items ∷ []) (bounds : All AreInBounds (script_views scripts)) where
-  within : AreInBounds (map command_view items)
-  within = All-head AreInBounds (map command_view items) [] (subst (All AreInBounds) views bounds)
+  module _ (n : ℕ) (inside : n < length (commands_of g number)) where
+    -- the command after the first n
+    abbrev pub command_after : CommandView
+    command_after = slice_index_or (commands_of g number) n asks
 
-  pub few : length items < 2 ^ 32
-  few = omega (arith, within.few, length-map items command_view)
+    pub stands : command_at g.scripts (record { session = number + 1; command = n + 1 }) ≡ Some command_after
+    stands = ap (λ cs. command_in cs (n + 1)) script_at ∙ (rw add-one (slice_get_read (commands_of g number) (length (commands_of g number)) n command_after refl inside (get_or_default (commands_of g number) n asks command_after inside)))
 
-  module _ (n : ℕ) (command : Command) (in_ : n < length items) (is : command ≡ get_or items n command) where
-    inside : n < length (map command_view items)
-    inside = omega (arith, in_, length-map items command_view)
+    pub split : drop n (commands_of g number) ≡ command_after ∷ drop (n + 1) (commands_of g number)
+    split = rw add-one (drop-cons (commands_of g number) n asks inside)
 
-    same : command_view command ≡ get_or (map command_view items) n (command_view command)
-    same = ap command_view is ∙ sym (get_or-map command_view items n command (command_view command) in_)
+-- ---- a script in code
 
-    pub in_bounds : IsInBounds (command_view command)
-    in_bounds = subst IsInBounds (sym same) (within.each n (command_view command) inside)
+abbrev pub at_command : ℕ → ℕ → Place
+at_command session command = record { session = session; command = command }
 
-    pub split : drop n (map command_view items) ≡ command_view command ∷ drop (n + 1) (map command_view items)
-    split = rw add-one (drop-cons (map command_view items) n (command_view command) inside ∙ ap (λ (c : CommandView). c ∷ drop (suc n) (map command_view items)) (sym same))
+module _ (scripts seen : List (List Command)) (script : List Command) (number : ℕ) (in_ : number < length (script_views scripts)) (same : seen ≡ scripts) (found : script ≡ slice_index_or seen number script) where
+  pub script_is : slice_index_or (script_views scripts) number [] ≡ map command_view script
+  script_is = get_or-map (λ (l : List Command). map command_view l) scripts number script [] (omega (arith, in_, length-map scripts (λ (l : List Command). map command_view l)))
+      ∙ ap (λ (l : List Command). map command_view l) (ap (λ (l : List (List Command)). get_or l number script) (sym same) ∙ sym found)
 
-    at_one : (cs : List CommandView) (c : CommandView) → n < length cs → c ≡ get_or cs n c → command_at (cs ∷ []) (record { session = 1; command = n + 1 }) ≡ Some c
-    at_one cs c h e = rw add-one (slice_get_read cs (length cs) n c refl h e)
+  pub as_many : (items : List Command) → items ≡ script → length items ≡ length (slice_index_or (script_views scripts) number [])
+  as_many items are = ap length are ∙ sym (length-map script command_view) ∙ ap length (sym script_is)
 
-    pub stands : command_at (script_views scripts) (record { session = 1; command = n + 1 }) ≡ Some (command_view command)
-    stands = rw views (at_one (map command_view items) (command_view command) inside same)
+  pub place_is : (code index command : ℕ) → number ≡ code_session code → index ≡ code_index code → command ≡ slice_index_or (edit_numbers (map command_view script)) index 0
+      → at_command (number + 1) command ≡ place_of (script_views scripts) code
+  place_is code index command session index_is is =
+      let same : command ≡ (place_of (script_views scripts) code).command = is ∙ (λ i. slice_index_or (edit_numbers (sym script_is i)) (index_is i) 0)
+      ∙ ap (λ (k : ℕ). slice_index_or (edit_numbers (slice_index_or (script_views scripts) k [])) (code_index code) 0) session in
+      (λ i. at_command (session i + 1) (same i))

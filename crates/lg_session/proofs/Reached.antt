@@ -1,72 +1,133 @@
 -- How far the loop over a session's commands has come.
-use Rattle.std.proofs.Common.{◌≡◌, ℕ, ◌+◌, ◌*◌, List, [], ◌∷◌, ◌++◌, length, drop, All, Option, None, refl, ap, sym, subst, ◌∙◌, arith, append_assoc, append-nil, length-append}
+use Rattle.std.proofs.Common.{◌≡◌, ℕ, ◌+◌, ◌*◌, ◌<◌, ◌≤◌, ◌^◌, ◌==◌, false, List, [], ◌∷◌, ◌++◌, length, drop, Option, Some, None, IsSome, refl, ap, sym, subst, ◌∙◌, arith, append_assoc, append-nil, length-append}
+use mathlib.Core.List.{map-append}
+use Rattle.std.specs.List.{list_any}
 use Rattle.std.proofs.Math.Seq.{drop-length}
-use Rattle.std.proofs.lemmas.List.Elements.{All-nil, All-cons, All-append}
+use Rattle.std.proofs.lemmas.List.{length-map}
+use Rattle.std.proofs.lemmas.Bool.{or_parts}
+use Rattle.std.proofs.lemmas.Bool.Decides.{nat_tests}
 use Rattle.lg_gram.specs.declared.reply.Place.{Place}
 use Rattle.lg_gram.specs.declared.reply.Reply.{Reply}
-use Rattle.lg_gram.specs.declared.reply.Reply.TheVariants.{Listed, Beyond, Published, Refused, At, NoListing}
+use Rattle.lg_gram.specs.declared.reply.Reply.TheVariants.{At}
 use Rattle.lg_dict.specs.Dictionary.{Dictionary}
+use Rattle.lg_log.specs.Codes.{code_session, is_of}
+use Rattle.lg_log.specs.Passes.{LogId, Standing, at_start}
 use Rattle.lg_script.specs.Commands.{CommandView}
-use Rattle.lg_script.specs.Histories.{dictionary_after}
+use Rattle.lg_script.specs.Histories.{command_at, dictionary_after, fresh, version_of}
 use Rattle.lg_session.specs.declared.session.Session.{Session}
-use Rattle.lg_session.specs.Engines.{Meaning, Progress}
-use Rattle.lg_session.specs.Legal.{Holding, Run}
-use Rattle.lg_session.specs.Turns.{Story, run_in, HasCome, added, Turned}
-use Rattle.lg_session.proofs.Rest.{Rest, ended, own_added, answers_first}
-
-all_added : (p : Place) (r : Reply) → All (λ q. q.session ≡ p.session) (added p r)
-all_added p (Published n) = All-cons (λ (q : Place). q.session ≡ p.session) p [] refl (All-nil (λ (q : Place). q.session ≡ p.session))
-all_added p (Listed n tokens page stats) = All-nil (λ (q : Place). q.session ≡ p.session)
-all_added p (Beyond n bound) = All-nil (λ (q : Place). q.session ≡ p.session)
-all_added p (Refused n cause name) = All-nil (λ (q : Place). q.session ≡ p.session)
-all_added p (At n) = All-nil (λ (q : Place). q.session ≡ p.session)
-all_added p NoListing = All-nil (λ (q : Place). q.session ≡ p.session)
+use Rattle.lg_session.specs.Codes.{place_of, places_of}
+use Rattle.lg_session.specs.Engines.{Progress}
+use Rattle.lg_session.specs.Legal.{Holding, Run, AnswerIs}
+use Rattle.lg_session.specs.Rows.{Ground, run_on, commands_of, HasEnded}
+use Rattle.lg_session.specs.Turns.{Story, HasCome, HoldsSo, IsAt, MayGoOn, IsTimely, Turned, added, place_in}
+use Rattle.lg_session.proofs.OneScript.{command_after, stands, split}
+use Rattle.lg_session.proofs.Rest.{Rest, own_of, ended, answers_first, pairs_after}
 
 -- after so many commands
-abbrev pub story_at : List (List CommandView) → Dictionary → Option Holding → ℕ → Story
-story_at scripts base h n = record { scripts = scripts; base = base; holding = h; limit = 2000000 * n }
+abbrev pub story_at : Ground → Option Holding → ℕ → Story
+story_at g h n = record { scripts = g.scripts; base = g.base; holding = h; limit = 2000000 * n }
 
--- So many commands are answered, and whatever answers the rest from here answers all of them.
-pub record Reached {H : Type 0} (meaning : Meaning) (Stands : H → Dictionary → Progress → Type 0) (scripts : List (List CommandView)) (base : Dictionary)
-    (number : ℕ) (commands : List CommandView) (session : Session H) (replies : List Reply) (n : ℕ) : Type 0 where
+abbrev pub run_with : Ground → List Place → Run
+run_with g journal = record { meaning = g.meaning; scripts = g.scripts; base = g.base; journal = journal }
+
+-- So many commands of a session, numbered from 0, are answered, and whatever answers the rest from here answers all of them.
+pub record Reached {H : Type 0} (g : Ground) (Stands : H → Dictionary → Progress → Type 0) (log : LogId) (number : ℕ) (session : Session H) (replies : List Reply) (n : ℕ) : Type 0 where
+  pub at : IsAt log g.scripts session
+  pub same : session.session ≡ number
+  pub place : session.place ≡ n
   pub holding : Option Holding
-  pub come : HasCome Stands (story_at scripts base holding n) session
+  pub come : HasCome Stands (story_at g holding n) session
   pub many : length replies ≡ n
-  pub alone : All (λ p. p.session ≡ number) session.journal.items
-  pub gives : (final : List Place) (rs : List Reply) → Rest (run_in meaning (story_at scripts base holding n) final) number (n + 1) session.journal.items holding (drop n commands) rs
-      → Rest (run_in meaning (story_at scripts base holding n) final) number 1 [] None commands (replies ++ rs)
+  pub gives : (final : List Place) (rs : List Reply) → Rest (run_with g final) (number + 1) (n + 1) (places_of g.scripts session.pass.seen) holding (drop n (commands_of g number)) rs
+      → Rest (run_with g final) (number + 1) 1 [] None (commands_of g number) (replies ++ rs)
 
-module _ {H : Type 0} (meaning : Meaning) (Stands : H → Dictionary → Progress → Type 0) (scripts : List (List CommandView)) (base : Dictionary) (number : ℕ) (commands : List CommandView) where
-  pub none_reached : (session : Session H) → session.view ≡ base → session.journal.items ≡ [] → session.held ≡ None → Reached meaning Stands scripts base number commands session [] 0
-  none_reached session view journal held = record {
-    holding = None;
-    come = record { newest = view ∙ ap (dictionary_after scripts base) (sym journal); holds = rw held tt };
-    many = refl;
-    alone = rw journal (All-nil (λ (p : Place). p.session ≡ number));
-    gives = λ final rs rest. rw journal at rest;
-  }
-
-  pub one_reached : (session after : Session H) (replies : List Reply) (n : ℕ) (command : CommandView) (reply : Reply) (at : Reached meaning Stands scripts base number commands session replies n)
-      → drop n commands ≡ command ∷ drop (n + 1) commands → Turned meaning Stands (story_at scripts base at.holding n) session (record { session = number; command = n + 1 }) command (after, reply)
-      → Reached meaning Stands scripts base number commands after (replies ++ reply ∷ []) (n + 1)
-  one_reached session after replies n command reply at split turn =
-      let p : Place = record { session = number; command = n + 1 } in
-      let more : 2000000 * n + 2000000 ≡ 2000000 * (n + 1) = omega arith in record {
-        holding = turn.then;
-        come = subst (λ (k : ℕ). HasCome Stands (record { scripts = scripts; base = base; holding = turn.then; limit = k }) after) more turn.come;
-        many = omega (arith, length-append replies (reply ∷ []), at.many);
-        alone = rw turn.grown (All-append (λ (q : Place). q.session ≡ number) session.journal.items (added p reply) at.alone (all_added p reply));
-        gives = λ final rs rest.
-            let run : Run = run_in meaning (story_at scripts base None n) final in
-            let all = at.gives final (reply ∷ rs) (subst (λ (cs : List CommandView). Rest run number (n + 1) session.journal.items at.holding cs (reply ∷ rs)) (sym split)
-            (answers_first run number (n + 1) session.journal.items after.journal.items (added p reply) at.holding turn.then command (drop (n + 1) commands) reply rs turn.grown (own_added p reply) turn.answer turn.timely rest)) in
-            subst (λ (r : List Reply). Rest run number 1 [] None commands r) (sym (append_assoc replies (reply ∷ []) rs)) all;
+module _ {H : Type 0} (g : Ground) (Stands : H → Dictionary → Progress → Type 0) (log : LogId) (number : ℕ) where
+  pub none_reached : (session : Session H) → session.session ≡ number → session.place ≡ 0 → session.pass ≡ at_start log (number ∷ []) → session.view ≡ g.base → session.held ≡ None
+      → Reached g Stands log number session [] 0
+  none_reached session same place start view held =
+      let unseen : session.pass.seen ≡ [] = ap (λ (p : Standing). p.seen) start in record {
+        at = record {
+          same_log = ap (λ (p : Standing). p.log) start;
+          alone = ap (λ (p : Standing). p.sessions) start ∙ ap (λ (k : ℕ). k ∷ []) (sym same);
+          earlier = λ code has own. absurd (omega (arith, has.1, ap length unseen));
+        };
+        same = same;
+        place = place;
+        holding = None;
+        come = record { newest = view ∙ ap (λ (l : List ℕ). dictionary_after g.scripts g.base (places_of g.scripts l)) (sym unseen); holds = rw held tt };
+        many = refl;
+        gives = λ final rs rest. rw unseen at rest;
       }
 
-  pub all_reached : (session : Session H) (replies : List Reply) (n : ℕ) → n ≡ length commands → Reached meaning Stands scripts base number commands session replies n
-      → Rest (run_in meaning (story_at scripts base None 0) session.journal.items) number 1 [] None commands replies
-  all_reached session replies n all at =
-      let run : Run = run_in meaning (story_at scripts base None 0) session.journal.items in
-      let none : drop n commands ≡ [] = ap (λ (k : ℕ). drop k commands) all ∙ drop-length commands in
-      let last : Rest run number (n + 1) session.journal.items at.holding (drop n commands) [] = rw none (ended run number (n + 1) at.holding) in
-      subst (λ (r : List Reply). Rest run number 1 [] None commands r) (append-nil replies) (at.gives session.journal.items [] last)
+  may_go_on : (story : Story) (journal : List Place) (held : Option (ℕ × H)) (h : Option Holding) → story.limit ≤ 2 ^ 60 → HoldsSo Stands story journal held h → MayGoOn Stands held
+  may_go_on story journal None h low holds = tt
+  may_go_on story journal (Some held) None low holds = absurd holds
+  may_go_on story journal (Some held) (Some h) low holds = (version_of story.scripts story.base journal h.version, h.progress, holds.stands, omega (arith, low, holds.near))
+
+  module _ (session : Session H) (replies : List Reply) (n : ℕ) (reached : Reached g Stands log number session replies n) where
+    -- fewer than 2^32 commands, each with two million candidates at most
+    pub may_be_asked : n < 2 ^ 32 → MayGoOn Stands session.held
+    may_be_asked few = may_go_on (story_at g reached.holding n) (places_of g.scripts session.pass.seen) session.held reached.holding (omega (arith, few)) reached.come.holds
+
+    next_place : place_in session ≡ record { session = number + 1; command = n + 1 }
+    next_place = (λ i. record { session = reached.same i + 1; command = reached.place i + 1 })
+
+    module _ (in_ : number < length g.scripts) (inside : n < length (commands_of g number)) where
+      pub next_command : command_at g.scripts (place_in session) ≡ Some (command_after g number in_ n inside)
+      next_command = ap (command_at g.scripts) next_place ∙ stands g number in_ n inside
+
+      pub command_left : IsSome (command_at g.scripts (place_in session))
+      command_left = rw next_command refl
+
+      pub one_reached : (after : Session H) (reply : Reply) → IsAt log g.scripts after
+          → Turned g.meaning Stands (story_at g reached.holding n) session (command_after g number in_ n inside) (after, reply)
+          → Reached g Stands log number after (replies ++ reply ∷ []) (n + 1)
+      one_reached after reply at turn =
+          let p : Place = record { session = number + 1; command = n + 1 } in
+          let before : List Place = places_of g.scripts session.pass.seen in
+          let new : List Place = places_of g.scripts after.pass.seen in
+          let more : List Place = places_of g.scripts turn.grown.new in
+          let grows : new ≡ before ++ more = ap (places_of g.scripts) turn.grown.seen ∙ map-append (place_of g.scripts) session.pass.seen turn.grown.new in
+          let limit : 2000000 * n + 2000000 ≡ 2000000 * (n + 1) = omega arith in record {
+            at = at;
+            same = turn.same_session ∙ reached.same;
+            place = turn.next_place ∙ ap (λ (k : ℕ). k + 1) reached.place;
+            holding = turn.then;
+            come = subst (λ (k : ℕ). HasCome Stands (record { scripts = g.scripts; base = g.base; holding = turn.then; limit = k }) after) limit turn.come;
+            many = omega (arith, length-append replies (reply ∷ []), reached.many);
+            gives = λ final rs rest.
+                let run : Run = run_with g final in
+                let own : own_of (number + 1) more ≡ added p reply = subst (λ (q : Place). own_of q.session more ≡ added q reply) next_place turn.grown.own in
+                let answer = subst (λ (q : Place). AnswerIs (run_with g new) q reached.holding (command_after g number in_ n inside) reply turn.then) next_place turn.answer in
+                let timely = subst (λ (k : ℕ). IsTimely (command_after g number in_ n inside) reply k) (sym (length-map after.pass.seen (place_of g.scripts))) turn.timely in
+                let first = answers_first run (number + 1) (n + 1) before new more reached.holding turn.then (command_after g number in_ n inside) (drop (n + 1) (commands_of g number)) reply rs grows own answer timely rest in
+                let all = reached.gives final (reply ∷ rs) (subst (λ (cs : List CommandView). Rest run (number + 1) (n + 1) before reached.holding cs (reply ∷ rs)) (sym (split g number in_ n inside)) first) in
+                subst (λ (r : List Reply). Rest run (number + 1) 1 [] None (commands_of g number) r) (sym (append_assoc replies (reply ∷ []) rs)) all;
+          }
+
+  -- ---- the end
+
+  -- what follows is of other sessions
+  none_own : (codes : List ℕ) → list_any (is_of (number ∷ [])) codes ≡ false → own_of (number + 1) (places_of g.scripts codes) ≡ []
+  none_own [] none = refl
+  none_own (c ∷ cs) none =
+      let parts = or_parts (is_of (number ∷ []) c) (list_any (is_of (number ∷ [])) cs) none in
+      let other : (code_session c + 1) == (number + 1) ≡ false = grind (arith, nat_tests) in
+      rw other (none_own cs parts.1)
+
+  pub all_reached : (session : Session H) (replies : List Reply) (n : ℕ) → n ≡ length (commands_of g number) → Reached g Stands log number session replies n → HasEnded g session.pass.seen number replies
+  all_reached session replies n all reached history later =
+      let run : Run = run_on g history in
+      let before : List Place = places_of g.scripts session.pass.seen in
+      let more : List Place = places_of g.scripts later.rest in
+      let grows : run.journal ≡ before ++ more = ap (places_of g.scripts) later.begins ∙ map-append (place_of g.scripts) session.pass.seen later.rest in
+      let none : drop n (commands_of g number) ≡ [] = ap (λ (k : ℕ). drop k (commands_of g number)) all ∙ drop-length (commands_of g number) in
+      let last : Rest run (number + 1) (n + 1) before reached.holding (drop n (commands_of g number)) [] = rw none (ended run (number + 1) (n + 1) before more reached.holding grows (none_own later.rest later.none)) in
+      let rest = subst (λ (r : List Reply). Rest run (number + 1) 1 [] None (commands_of g number) r) (append-nil replies) (reached.gives run.journal [] last) in record {
+        legal = record {
+          in_time = record { there = rest.there; rise = pairs_after (At 0) (fresh (commands_of g number) replies) rest.rise };
+          answered = rest.answered;
+        };
+        whole = reached.many ∙ all;
+        own = ap (own_of (number + 1)) rest.grows ∙ rest.own;
+      }

@@ -1,5 +1,5 @@
 -- What is left of a session's answers gives the rest of what has to hold of them.
-use Rattle.std.proofs.Common.{◌≡◌, ℕ, suc, ◌+◌, ◌≤◌, ◌==◌, List, [], ◌∷◌, ◌++◌, length, map, filter, All, AllPairs, Option, refl, ap, sym, subst, ◌∙◌, arith, append_assoc, append-nil, length-append, eq-eqb}
+use Rattle.std.proofs.Common.{◌≡◌, ℕ, suc, ◌+◌, ◌≤◌, ◌==◌, List, [], ◌∷◌, ◌++◌, length, map, filter, All, AllPairs, Option, refl, ap, sym, subst, ◌∙◌, arith, append_assoc, length-append, eq-eqb}
 use Rattle.std.specs.List.{enumerate_from}
 use Rattle.std.proofs.lemmas.List.Sums.{length-filter, count_by-le-length}
 use Rattle.std.proofs.lemmas.List.Elements.{filter-append, All-cons, All-nil, All-weaker}
@@ -34,14 +34,14 @@ pub record Rest (run : Run) (session n : ℕ) (journal : List Place) (held : Opt
   pub rise : AllPairs Precedes (At (length journal) ∷ fresh commands replies)
   pub answered : Answered run session n held commands replies
 
--- nothing is left
-pub ended : (run : Run) (session n : ℕ) (held : Option Holding) → Rest run session n run.journal held [] []
-ended run session n held = record {
-  more = [];
-  grows = sym (append-nil run.journal);
-  own = refl;
+-- nothing is left but edits of others
+pub ended : (run : Run) (session n : ℕ) (journal more : List Place) (held : Option Holding) → run.journal ≡ journal ++ more → own_of session more ≡ [] → Rest run session n journal held [] []
+ended run session n journal more held grows others = record {
+  more = more;
+  grows = grows;
+  own = others;
   there = All-nil (λ r. reply_version r ≤ length run.journal);
-  rise = AllPairs-cons Precedes (At (length run.journal)) [] (All-nil (Precedes (At (length run.journal)))) (λ i j d a b. absurd (omega (arith, b)));
+  rise = AllPairs-cons Precedes (At (length journal)) [] (All-nil (Precedes (At (length journal)))) (λ i j d a b. absurd (omega (arith, b)));
   answered = so_far n held [];
 }
 

@@ -1,5 +1,5 @@
 -- The places of published edits, by their codes in the shared history.
-use Rattle.std.specs.Prelude.{◌≡◌, ℕ, ◌+◌, ◌≤◌, ◌<◌, List, [], length, map, sum, All, slice_index_or}
+use Rattle.std.specs.Prelude.{ℕ, ◌+◌, ◌≤◌, ◌<◌, List, [], length, map, sum, All, slice_index_or}
 use Rattle.lg_gram.specs.declared.reply.Place.{Place}
 use Rattle.lg_log.specs.Codes.{code_session, code_index}
 use Rattle.lg_script.specs.Bounds.{AreInBounds}

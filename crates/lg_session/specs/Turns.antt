@@ -3,13 +3,12 @@ use Rattle.std.specs.Prelude.{◌≡◌, ℕ, ◌+◌, ◌≤◌, ◌<◌, ◌^�
 use Rattle.std.specs.List.{Contains}
 use Rattle.lg_gram.specs.declared.reply.Place.{Place}
 use Rattle.lg_gram.specs.declared.reply.Reply.{Reply}
-use Rattle.lg_gram.specs.declared.reply.Reply.TheVariants.{Published, Refused}
+use Rattle.lg_gram.specs.declared.reply.Reply.TheVariants.{Published}
 use Rattle.lg_dict.specs.Dictionary.{Dictionary}
-use Rattle.lg_edit.specs.Edits.{EditView, accept, after_edit}
 use Rattle.lg_log.specs.Codes.{code_session}
 use Rattle.lg_log.specs.Passes.{LogId, Standing}
 use Rattle.lg_script.specs.Commands.{CommandView, goes_on}
-use Rattle.lg_script.specs.Histories.{dictionary_after, version_of, reply_version, unknown_name}
+use Rattle.lg_script.specs.Histories.{dictionary_after, version_of, reply_version}
 use Rattle.lg_session.specs.declared.session.Session.{Session}
 use Rattle.lg_session.specs.Codes.{place_of, places_of}
 use Rattle.lg_session.specs.Engines.{Meaning, Progress}

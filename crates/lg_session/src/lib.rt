@@ -3,11 +3,18 @@
 
 mod edits;
 pub mod engine;
+pub mod gate;
+mod halves;
+mod job;
+mod journal;
+mod learning;
 pub mod outcome;
 pub mod run;
-mod session;
-mod turn;
+pub mod session;
+pub mod turn;
 
 pub use engine::{Engine, Opening};
+pub use gate::{FreeGate, Gate};
 pub use outcome::Outcome;
 pub use run::run_sessions;
+pub use session::Session;

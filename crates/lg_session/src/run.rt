@@ -1,61 +1,74 @@
 //! Sessions, run over their scripts.
-ghost use Rattle.std.specs.Prelude.{◌≡◌, [], ◌∷◌, length, All, IfOk};
-ghost use Rattle.lg_script.specs.Bounds.{AreInBounds};
+ghost use Rattle.std.specs.Prelude.{◌≡◌, ◌≤◌, length, IfOk};
+ghost use Rattle.lg_script.specs.EditNumbers.{edit_counts};
+ghost use Rattle.lg_session.specs.Codes.{AreScripts};
 ghost use Rattle.lg_session.specs.Legal.{IsLegal, AnswersAll, script_views, run_of};
+ghost use Rattle.lg_session.specs.Rows.{jobs_from};
 
 use crate::engine::Engine;
+use crate::gate::Gate;
+use crate::halves::run_some;
+use crate::job::Job;
+use crate::journal::journal_of;
 use crate::outcome::Outcome;
-use crate::session::Session;
-use crate::turn::turn;
 use lg_base::NoMemory;
 use lg_dict::Dict;
-use lg_gram::{Place, Places, Replies, Reply, ReplyLists};
+use lg_gram::{Places, ReplyLists};
+use lg_log::{Log, Pass, code_laws};
 use lg_script::Scripts;
 use std::alloc::Global;
 use std::thread::Threads;
 
-/// Runs one session over the dictionary: answers each command of its script in order, and publishes each edit that the
-/// dictionary accepts.
+/// Runs sessions over the dictionary, a thread for each: a session answers each command of its script in order, and publishes each
+/// edit that the dictionary accepts. All sessions share the edits that are published, and the journal has them in their one order.
 ///
-/// There is exactly one script; it has fewer than 2^32 commands within their bounds, as `lg_script::read_script` gives them for
-/// texts of at most 67,108,864 bytes. The only error is running out of memory, and then nothing is answered.
-pub fn run_sessions<R: Threads + Sync, E: Engine>(
+/// There are 1 to 64 scripts with at most 100,000 edits together; each has fewer than 2^32 commands within their bounds, as
+/// `lg_script::read_script` gives them for texts of at most 67,108,864 bytes. The gate is called before each command. The only
+/// error is running out of memory, and then nothing is answered.
+pub fn run_sessions<R: Threads + Sync, E: Engine, G: Gate>(
     rt: &R,
     alloc: Global,
     base: &Dict,
     scripts: &Scripts,
     engine: &E,
+    gate: &G,
 ) -> Result<Outcome, NoMemory>
-    requires one { length scripts.now ≡ 1 }
-    requires bounds { All AreInBounds (script_views scripts.now) }
+    requires scripts { AreScripts (script_views scripts.now) }
     ensures legal { IfOk result (λ outcome. IsLegal (run_of (E.meaning engine.now) scripts.now base.now outcome.journal) outcome.replies) }
     ensures whole { IfOk result (λ outcome. AnswersAll (script_views scripts.now) outcome.replies) }
 {
-    let [commands] = scripts.items() else {
-        unreachable!()
-    };
-    let mut session = Session::of(alloc, base);
-    let mut replies = Vec::new(alloc);
-    for (index, command) in commands.items().iter().enumerate() {
-        let place = Place {
-            session: 1,
-            command: index as u32 + 1,
-        };
-        let (after, reply) = turn(rt, alloc, engine, session, place, command)?;
-        session = after;
-        replies.push(reply)?;
-    }
-    outcome_of(alloc, session.into_journal(), replies)
-}
-
-// The outcome of one session.
-fn outcome_of(alloc: Global, journal: Vec<Place>, replies: Vec<Reply>) -> Result<Outcome, NoMemory>
-    ensures { IfOk result (λ outcome. (outcome.journal ≡ journal.items) × (outcome.replies ≡ replies.items ∷ [])) }
-{
-    let mut lists = Vec::new(alloc);
-    lists.push(Replies::of(replies))?;
+    let counts = counts_of(alloc, scripts)?;
+    let (log, _idle, passes) = Log::make(alloc, counts.as_slice())?;
+    let jobs = jobs_of(alloc, passes)?;
+    let (pass, lists) = run_some(rt, alloc, base, scripts, engine, gate, &log, jobs)?;
+    code_laws();
+    let journal = journal_of(alloc, scripts, pass.seen())?;
     Ok(Outcome {
         journal: Places::of(journal),
         replies: ReplyLists::of(lists),
     })
+}
+
+// How many edits each script has.
+fn counts_of(alloc: Global, scripts: &Scripts) -> Result<Vec<u32>, NoMemory>
+    ensures { IfOk result (λ counts. counts.items ≡ edit_counts (script_views scripts.now)) }
+{
+    let mut counts = Vec::new(alloc);
+    for commands in scripts.items() {
+        counts.push(commands.edit_count())?;
+    }
+    Ok(counts)
+}
+
+// The sessions before they begin, by their passes in order.
+fn jobs_of(alloc: Global, passes: Vec<Pass>) -> Result<Vec<Job>, NoMemory>
+    requires { length passes.items ≤ 64 }
+    ensures { IfOk result (λ jobs. jobs.items ≡ jobs_from 0 passes.items) }
+{
+    let mut jobs = Vec::new(alloc);
+    for pass in passes {
+        let session = jobs.len() as u32;
+        jobs.push(Job { session, pass })?;
+    }
+    Ok(jobs)
 }

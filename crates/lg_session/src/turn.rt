@@ -1,60 +1,95 @@
 //! The turns of a session: a command and its answer.
-ghost use Rattle.std.specs.Prelude.{◌≡◌, Some, IfOk, IfSome};
-ghost use Rattle.lg_gram.specs.declared.reply.Place.{Place as Seen};
+ghost use Rattle.std.specs.Prelude.{◌≡◌, ◌+◌, true, Some, IfOk, IfSome, IsSome};
+ghost use Rattle.lg_edit.specs.Edits.{EditView, edit_view};
+ghost use Rattle.lg_log.specs.Codes.{is_code, code_session};
 ghost use Rattle.lg_script.specs.Bounds.{IsSentence, IsCount, IsInBounds};
-ghost use Rattle.lg_script.specs.Commands.{CommandView, command_view, goes_on};
+ghost use Rattle.lg_script.specs.Commands.{CommandView, command_view, goes_on, makes, asks};
+ghost use Rattle.lg_script.specs.EditNumbers.{edit_counts};
 ghost use Rattle.lg_script.specs.Histories.{command_at};
-ghost use Rattle.lg_session.specs.Legal.{AsksFor};
-ghost use Rattle.lg_session.specs.Turns.{Story, HasCome, MayGoOn, Turned};
+ghost use Rattle.lg_session.specs.Answering.{IsAnswered, IsMade, Answers};
+ghost use Rattle.lg_session.specs.Codes.{AreScripts, place_of};
+ghost use Rattle.lg_session.specs.Legal.{AsksFor, script_views};
+ghost use Rattle.lg_session.specs.Turns.{Story, HasCome, IsAt, MayGoOn, Turned, place_in};
 
-use crate::edits::make;
+use crate::edits::publish;
 use crate::engine::{Engine, Opening};
+use crate::learning::caught_up;
 use crate::session::Session;
 use lg_base::{NoMemory, Text};
-use lg_gram::{Place, Reply};
-use lg_script::Command;
+use lg_edit::Edit;
+use lg_gram::Reply;
+use lg_log::{Log, code};
+use lg_script::{Command, Scripts};
 use std::alloc::Global;
 use std::thread::Threads;
 
-/// Answers the command at a place of the scripts. The only error is running out of memory, and then the session is gone.
-pub(crate) fn turn<'a, R: Threads + Sync, E: Engine>(
+/// Answers the next command of a session. All but `more` look first until the end of the history was met. The only error is running
+/// out of memory, and then the session is gone.
+pub fn turn<'a, R: Threads + Sync, E: Engine>(
     rt: &R,
     alloc: Global,
+    scripts: &Scripts,
     engine: &E,
-    session: Session<'a, E::Held>,
-    place: Place,
-    command: &Command,
+    log: &Log,
+    state: Session<'a, E::Held>,
 ) -> Result<(Session<'a, E::Held>, Reply), NoMemory>
-    requires bounds { IsInBounds (command_view command.now) }
-    requires held { MayGoOn (E.stands engine.now) session.held }
-    ensures { (story : Story) → command_at story.scripts place ≡ Some (command_view command.now) → HasCome (E.stands engine.now) story session.entry
-        → IfOk result (Turned (E.meaning engine.now) (E.stands engine.now) story session.entry place (command_view command.now)) }
+    requires scripts { AreScripts (script_views scripts.now) }
+    requires log { log.now.counts ≡ edit_counts (script_views scripts.now) }
+    requires at { IsAt log.now (script_views scripts.now) state }
+    requires next { IsSome (command_at (script_views scripts.now) (place_in state)) }
+    requires held { MayGoOn (E.stands engine.now) state.held }
+    ensures at { IfOk result (λ r. IsAt log.now (script_views scripts.now) r.0) }
+    ensures turned { (story : Story) (command : CommandView) → story.scripts ≡ script_views scripts.now → command_at story.scripts (place_in state.entry) ≡ Some command → HasCome (E.stands engine.now) story state.entry
+        → IfOk result (Turned (E.meaning engine.now) (E.stands engine.now) story state.entry command) }
 {
-    match command {
-        Command::Parse(text) => open(rt, alloc, engine, session, text, 1, None),
+    let (mut session, reply) = answer(rt, alloc, scripts, engine, log, state)?;
+    session.place += 1;
+    Ok((session, reply))
+}
+
+// Answers the next command, and does not count it yet.
+fn answer<'a, R: Threads + Sync, E: Engine>(
+    rt: &R,
+    alloc: Global,
+    scripts: &Scripts,
+    engine: &E,
+    log: &Log,
+    state: Session<'a, E::Held>,
+) -> Result<(Session<'a, E::Held>, Reply), NoMemory>
+    requires scripts { AreScripts (script_views scripts.now) }
+    requires log { log.now.counts ≡ edit_counts (script_views scripts.now) }
+    requires at { IsAt log.now (script_views scripts.now) state }
+    requires next { IsSome (command_at (script_views scripts.now) (place_in state)) }
+    requires held { MayGoOn (E.stands engine.now) state.held }
+    ensures { (story : Story) → story.scripts ≡ script_views scripts.now → IfOk result (Answers (E.meaning engine.now) (E.stands engine.now) story state.entry) }
+{
+    match next_command(scripts, state.session, state.place) {
+        Command::Parse(text) => {
+            let state = caught_up(alloc, scripts, log, state)?;
+            open(rt, alloc, engine, state, text, 1, None)
+        }
         Command::List(first, want, text) => {
-            open(rt, alloc, engine, session, text, *first, Some(*want))
+            let state = caught_up(alloc, scripts, log, state)?;
+            open(rt, alloc, engine, state, text, *first, Some(*want))
         }
-        Command::More => go_on(alloc, engine, session),
-        Command::Edit(edit) => {
-            let Session {
-                mut view,
-                mut journal,
-                held,
-            } = session;
-            let reply = make(alloc, &mut view, &mut journal, place, edit)?;
-            let session = Session {
-                view,
-                journal,
-                held,
-            };
-            Ok((session, reply))
-        }
+        Command::More => go_on(alloc, engine, state),
+        Command::Edit(edit) => make(alloc, scripts, log, state, edit),
         Command::Version => {
-            let version = session.version();
-            Ok((session, Reply::At { version }))
+            let state = caught_up(alloc, scripts, log, state)?;
+            Ok(tell_version(engine, state))
         }
     }
+}
+
+// The command of a session after so many.
+fn next_command(scripts: &Scripts, session: u32, place: u32) -> &Command
+    requires scripts { AreScripts (script_views scripts.now) }
+    requires next { IsSome (command_at (script_views scripts.now) (record { session = session + 1; command = place + 1 })) }
+    ensures command { command_at (script_views scripts.now) (record { session = session + 1; command = place + 1 }) ≡ Some (command_view result.now) }
+    ensures bounds { IsInBounds (command_view result.now) }
+{
+    let commands = &scripts.items()[session as usize];
+    &commands.items()[place as usize]
 }
 
 // Lists a sentence by the dictionary as it is now. The listing is held, and past a bound none is.
@@ -62,7 +97,7 @@ fn open<'a, R: Threads + Sync, E: Engine>(
     rt: &R,
     alloc: Global,
     engine: &E,
-    mut session: Session<'a, E::Held>,
+    mut state: Session<'a, E::Held>,
     text: &Text,
     first: u64,
     want: Option<u64>,
@@ -70,11 +105,10 @@ fn open<'a, R: Threads + Sync, E: Engine>(
     requires text { IsSentence text.now }
     requires first { IsCount first }
     requires want { IfSome want IsCount }
-    ensures { (story : Story) (p : Seen) (command : CommandView) → AsksFor command text.now first want → HasCome (E.stands engine.now) story session.entry
-        → IfOk result (Turned (E.meaning engine.now) (E.stands engine.now) story session.entry p command) }
+    ensures { (command : CommandView) → AsksFor command text.now first want → IfOk result (IsAnswered (E.meaning engine.now) (E.stands engine.now) state.entry command) }
 {
-    let version = session.version();
-    let opening = engine.begin(rt, alloc, &session.view, text, first, want)?;
+    let version = state.pass.seen().len() as u64;
+    let opening = engine.begin(rt, alloc, &state.view, text, first, want)?;
     match opening {
         Opening::Listed {
             held,
@@ -82,60 +116,102 @@ fn open<'a, R: Threads + Sync, E: Engine>(
             page,
             stats,
         } => {
-            session.held = Some((version, held));
+            state.held = Some((version, held));
             let reply = Reply::Listed {
                 version,
                 tokens,
                 page,
                 stats: Some(stats),
             };
-            Ok((session, reply))
+            Ok((state, reply))
         }
         Opening::Beyond(bound) => {
-            session.held = None;
-            Ok((session, Reply::Beyond { version, bound }))
+            state.held = None;
+            Ok((state, Reply::Beyond { version, bound }))
         }
     }
 }
 
-// Goes on with the listing that is held, by the dictionary that it began with.
+// Goes on with the listing that is held, by the dictionary that it began with. It does not look.
 fn go_on<'a, E: Engine>(
     alloc: Global,
     engine: &E,
-    session: Session<'a, E::Held>,
+    mut state: Session<'a, E::Held>,
 ) -> Result<(Session<'a, E::Held>, Reply), NoMemory>
-    requires { MayGoOn (E.stands engine.now) session.held }
-    ensures { (story : Story) (p : Seen) → HasCome (E.stands engine.now) story session.entry
-        → IfOk result (Turned (E.meaning engine.now) (E.stands engine.now) story session.entry p goes_on) }
+    requires { MayGoOn (E.stands engine.now) state.held }
+    ensures { IfOk result (IsAnswered (E.meaning engine.now) (E.stands engine.now) state.entry goes_on) }
 {
-    let Session {
-        view,
-        journal,
-        held,
-    } = session;
-    match held {
+    match state.held {
         Some((version, held)) => {
             let (held, tokens, page) = engine.more(alloc, held)?;
-            let session = Session {
-                view,
-                journal,
-                held: Some((version, held)),
-            };
+            state.held = Some((version, held));
             let reply = Reply::Listed {
                 version,
                 tokens,
                 page,
                 stats: None,
             };
-            Ok((session, reply))
+            Ok((state, reply))
         }
         None => {
-            let session = Session {
-                view,
-                journal,
-                held: None,
-            };
-            Ok((session, Reply::NoListing))
+            state.held = None;
+            Ok((state, Reply::NoListing))
         }
     }
+}
+
+fn tell_version<'a, E: Engine>(
+    engine: &E,
+    state: Session<'a, E::Held>,
+) -> (Session<'a, E::Held>, Reply)
+    ensures { IsAnswered (E.meaning engine.now) (E.stands engine.now) state.entry asks result }
+{
+    let _ = engine;
+    let version = state.pass.seen().len() as u64;
+    (state, Reply::At { version })
+}
+
+// Publishes the edit at the session's place, or tells why it is refused.
+fn make<'a, H: Drop>(
+    alloc: Global,
+    scripts: &Scripts,
+    log: &Log,
+    state: Session<'a, H>,
+    edit: &Edit,
+) -> Result<(Session<'a, H>, Reply), NoMemory>
+    requires scripts { AreScripts (script_views scripts.now) }
+    requires counts { log.now.counts ≡ edit_counts (script_views scripts.now) }
+    requires at { IsAt log.now (script_views scripts.now) state }
+    requires next { command_at (script_views scripts.now) (place_in state) ≡ Some (makes (edit_view edit.now)) }
+    requires bounds { IsInBounds (makes (edit_view edit.now)) }
+    ensures { IfOk result (IsMade (script_views scripts.now) (edit_view edit.now) state.entry) }
+{
+    let Session {
+        session,
+        place,
+        mut pass,
+        mut view,
+        held,
+    } = state;
+    let code = code_at(scripts, session, place);
+    let reply = publish(alloc, scripts, log, &mut pass, &mut view, code, edit)?;
+    let state = Session {
+        session,
+        place,
+        pass,
+        view,
+        held,
+    };
+    Ok((state, reply))
+}
+
+// The code of the edit that comes after so many commands of a session.
+fn code_at(scripts: &Scripts, session: u32, place: u32) -> u64
+    requires scripts { AreScripts (script_views scripts.now) }
+    requires edit { (edit : EditView) × (command_at (script_views scripts.now) (record { session = session + 1; command = place + 1 }) ≡ Some (makes edit)) }
+    ensures code { is_code (edit_counts (script_views scripts.now)) result ≡ true }
+    ensures session { code_session result ≡ session }
+    ensures at { place_of (script_views scripts.now) result ≡ record { session = session + 1; command = place + 1 } }
+{
+    code(session, scripts.items()[session as usize].edits_before(place))
 }

@@ -1,75 +1,59 @@
-use Rattle.std.proofs.Common.{◌≡◌, [], ◌∷◌, length, map, ◌∙◌, arith}
+use Rattle.std.proofs.Common.{◌≡◌, ℕ, true, List, [], ◌∷◌, length, count_by, ap, subst, ◌∙◌, arith}
+use Rattle.std.specs.List.{list_all, range_with_len}
 use Rattle.std.proofs.lemmas.List.{length-map}
-use Rattle.std.proofs.lemmas.Result.{IfOk-weaker}
-use Rattle.lg_script.specs.Commands.{command_view}
-use Rattle.lg_session.specs.declared.outcome.Outcome.{Outcome}
-use Rattle.lg_session.specs.Legal.{IsLegal, AnswersAll, script_views, run_of}
-use Rattle.lg_session.proofs.Alone.{alone_as, all_answered}
-use Rattle.lg_session.proofs.OneScript.{views_are, few, in_bounds, split, stands}
-use Rattle.lg_session.proofs.Reached.{story_at, none_reached, one_reached, all_reached}
-use Rattle.lg_session.proofs.Turned.{may_go_on}
+use Rattle.std.proofs.lemmas.List.FromFn.{length-map-range_with_len}
+use Rattle.lg_gram.specs.declared.reply.Reply.{Reply}
+use Rattle.lg_log.specs.Codes.{is_code}
+use Rattle.lg_log.specs.Passes.{at_start}
+use Rattle.lg_script.specs.Commands.{is_edit}
+use Rattle.lg_script.specs.EditNumbers.{edit_counts}
+use Rattle.lg_session.specs.Codes.{places_of}
+use Rattle.lg_session.specs.Legal.{script_views}
+use Rattle.lg_session.specs.Rows.{Ground, ground_of, HaveEnded}
+use Rattle.lg_session.proofs.Jobs.{all_begin}
+use Rattle.lg_session.proofs.Whole.{all_answered, all_legal}
 use Rattle.lg_session.proofs.run.run_sessions.Goals as goal
 
-pub loop-index-init : goal.loop-index-init
-loop-index-init g c =
-    let made = c.of-session.ensures in
-    rw c.new-replies.ensures.items (none_reached (g.E.Engine.meaning c.args.engine.now) (g.E.Engine.stands c.args.engine.now) (script_views c.args.scripts.now) c.args.base.now 1
-    (map command_view c.items-command-items.result.now) c.of-session.result made.view made.journal made.held)
+pub jobs_of-requires : goal.jobs_of-requires
+jobs_of-requires g c =
+    let views = script_views c.args.scripts.now in
+    let many : length c.as_slice.result.now ≡ length views = ap length (c.as_slice.ensures.value ∙ c.in_ok-counts.ensures) ∙ length-map views (count_by is_edit) in
+    omega (arith, ap length c.in_ok-log.ensures.passes, length-map-range_with_len (λ session. at_start c.in_ok-log.log (session ∷ [])) 0 (length c.as_slice.result.now), many, c.requires.scripts.few)
 
-pub overflow_cast-place : goal.overflow_cast-place
-overflow_cast-place g c =
-    let views = views_are c.args.scripts.now c.items.result.now c.commands-item.result c.items-command-items.result.now c.requires.one c.items.ensures c.commands-item.is c.items-command-items.ensures in
-    omega (arith, few c.args.scripts.now c.items-command-items.result.now views c.requires.bounds, c.loop-index-test.true)
+pub run_some-requires-clause-some : goal.run_some-requires-clause-some
+run_some-requires-clause-some g c κs within =
+    let views = script_views c.args.scripts.now in
+    let many : length c.as_slice.result.now ≡ length views = ap length (c.as_slice.ensures.value ∙ c.in_ok-counts.ensures) ∙ length-map views (count_by is_edit) in
+    let begun = all_begin c.in_ok-log.log views c.in_ok-log.passes.items c.in_ok-jobs.jobs.items (length c.as_slice.result.now) many c.in_ok-log.ensures.passes c.in_ok-jobs.ensures in
+    omega (arith, c.in_ok-jobs.jobs.ok.0, begun.many, c.requires.scripts.some)
 
-pub overflow_add-place : goal.overflow_add-place
-overflow_add-place g c =
-    let views = views_are c.args.scripts.now c.items.result.now c.commands-item.result c.items-command-items.result.now c.requires.one c.items.ensures c.commands-item.is c.items-command-items.ensures in
-    omega (arith, few c.args.scripts.now c.items-command-items.result.now views c.requires.bounds, c.loop-index-test.true)
-
-pub turn-requires-clause-bounds : goal.turn-requires-clause-bounds
-turn-requires-clause-bounds g c = λ κs outlive.
-    let views = views_are c.args.scripts.now c.items.result.now c.commands-item.result c.items-command-items.result.now c.requires.one c.items.ensures c.commands-item.is c.items-command-items.ensures in
-    in_bounds c.args.scripts.now c.items-command-items.result.now views c.requires.bounds c.loop-index.index c.command-item.result c.loop-index-test.true c.command-item.is
-
--- fewer than 2^32 commands, each with two million candidates at most
-pub turn-requires-clause-held : goal.turn-requires-clause-held
-turn-requires-clause-held g c = λ κs outlive.
-    let views = views_are c.args.scripts.now c.items.result.now c.commands-item.result c.items-command-items.result.now c.requires.one c.items.ensures c.commands-item.is c.items-command-items.ensures in
-    let at = c.loop-index.invariant in
-    may_go_on (g.E.Engine.stands c.args.engine.now) (story_at (script_views c.args.scripts.now) c.args.base.now at.holding c.loop-index.index) c.loop-index.session.journal.items c.loop-index.session.held at.holding
-    (omega (arith, few c.args.scripts.now c.items-command-items.result.now views c.requires.bounds, c.loop-index-test.true)) at.come.holds
-
-pub loop-index-preserved : goal.loop-index-preserved
-loop-index-preserved g c =
-    let scripts = c.args.scripts.now in
-    let items = c.items-command-items.result.now in
-    let views = views_are scripts c.items.result.now c.commands-item.result items c.requires.one c.items.ensures c.commands-item.is c.items-command-items.ensures in
-    let at = c.loop-index.invariant in
-    let n = c.loop-index.index in
-    let here = stands scripts items views c.requires.bounds n c.command-item.result c.loop-index-test.true c.command-item.is in
-    let turned = c.in_ok-after.ensures (story_at (script_views scripts) c.args.base.now at.holding n) here at.come in
-    rw c.in_ok-push.ensures.items (one_reached (g.E.Engine.meaning c.args.engine.now) (g.E.Engine.stands c.args.engine.now) (script_views scripts) c.args.base.now 1 (map command_view items)
-    c.loop-index.session c.in_ok-after.after c.loop-index.replies.items n (command_view c.command-item.result) c.in_ok-after.reply at
-    (split scripts items views c.requires.bounds n c.command-item.result c.loop-index-test.true c.command-item.is) turned)
+pub run_some-requires-clause-fresh : goal.run_some-requires-clause-fresh
+run_some-requires-clause-fresh g c κs within =
+    let views = script_views c.args.scripts.now in
+    let many : length c.as_slice.result.now ≡ length views = ap length (c.as_slice.ensures.value ∙ c.in_ok-counts.ensures) ∙ length-map views (count_by is_edit) in
+    (all_begin c.in_ok-log.log views c.in_ok-log.passes.items c.in_ok-jobs.jobs.items (length c.as_slice.result.now) many c.in_ok-log.ensures.passes c.in_ok-jobs.ensures).fresh
 
 pub returns-clause-legal : goal.returns-clause-legal
 returns-clause-legal g c =
-    let scripts = c.args.scripts.now in
-    let items = c.items-command-items.result.now in
-    let replies = c.loop-index.replies.items in
-    let views = views_are scripts c.items.result.now c.commands-item.result items c.requires.one c.items.ensures c.commands-item.is c.items-command-items.ensures in
-    let all : c.loop-index.index ≡ length (map command_view items) = omega (arith, length-map items command_view) in
-    let rest = all_reached (g.E.Engine.meaning c.args.engine.now) (g.E.Engine.stands c.args.engine.now) (script_views scripts) c.args.base.now 1 (map command_view items) c.loop-index.session replies c.loop-index.index all c.loop-index.invariant in
-    IfOk-weaker c.outcome_of.result (λ (o : Outcome). (o.journal ≡ c.into_journal.result.items) × (o.replies ≡ replies ∷ []))
-    (λ (o : Outcome). IsLegal (run_of (g.E.Engine.meaning c.args.engine.now) scripts c.args.base.now o.journal) o.replies)
-    (λ o h. alone_as (run_of (g.E.Engine.meaning c.args.engine.now) scripts c.args.base.now c.loop-index.session.journal.items) (map command_view items) replies views c.loop-index.invariant.alone rest o.journal o.replies (h.0 ∙ (λ i. (c.into_journal.ensures i).items), h.1))
-    c.outcome_of.ensures
+    let ground : Ground = ground_of (g.E.Engine.meaning c.args.engine.now) c.args.scripts.now c.args.base.now in
+    let views = script_views c.args.scripts.now in
+    let seen : List ℕ = c.in_ok-pass.pass.seen in
+    let lists : List (List Reply) = c.in_ok-pass.lists.items in
+    let many : length c.as_slice.result.now ≡ length views = ap length (c.as_slice.ensures.value ∙ c.in_ok-counts.ensures) ∙ length-map views (count_by is_edit) in
+    let begun = all_begin c.in_ok-log.log views c.in_ok-log.passes.items c.in_ok-jobs.jobs.items (length c.as_slice.result.now) many c.in_ok-log.ensures.passes c.in_ok-jobs.ensures in
+    let ended : HaveEnded ground seen (range_with_len 0 (length views)) lists = subst (λ (l : List ℕ). HaveEnded ground seen l lists) begun.numbers c.in_ok-pass.ensures.ended in
+    let counts : c.in_ok-pass.pass.log.counts ≡ edit_counts views = ap (λ l. l.counts) c.in_ok-pass.ensures.same_log ∙ c.in_ok-log.ensures.log ∙ c.as_slice.ensures.value ∙ c.in_ok-counts.ensures in
+    let good : list_all (is_code (edit_counts views)) seen ≡ true = subst (λ (l : List ℕ). list_all (is_code l) seen ≡ true) counts c.seen.ensures.codes in
+    let journal : c.of.result ≡ places_of views seen = c.of.ensures ∙ c.in_ok-journal.ensures ∙ ap (places_of views) c.seen.ensures.seen in
+    rw (journal, c.of-2.ensures) (all_legal ground seen lists ended c.code_laws.ensures.codes good)
 
 pub returns-clause-whole : goal.returns-clause-whole
 returns-clause-whole g c =
-    let items = c.items-command-items.result.now in
-    let replies = c.loop-index.replies.items in
-    let views = views_are c.args.scripts.now c.items.result.now c.commands-item.result items c.requires.one c.items.ensures c.commands-item.is c.items-command-items.ensures in
-    let all : length replies ≡ length (map command_view items) = omega (arith, c.loop-index.invariant.many, length-map items command_view) in
-    IfOk-weaker c.outcome_of.result (λ (o : Outcome). (o.journal ≡ c.into_journal.result.items) × (o.replies ≡ replies ∷ [])) (λ (o : Outcome). AnswersAll (script_views c.args.scripts.now) o.replies)
-    (λ o h. rw (views, h.1) (all_answered (map command_view items) replies all)) c.outcome_of.ensures
+    let ground : Ground = ground_of (g.E.Engine.meaning c.args.engine.now) c.args.scripts.now c.args.base.now in
+    let views = script_views c.args.scripts.now in
+    let seen : List ℕ = c.in_ok-pass.pass.seen in
+    let lists : List (List Reply) = c.in_ok-pass.lists.items in
+    let many : length c.as_slice.result.now ≡ length views = ap length (c.as_slice.ensures.value ∙ c.in_ok-counts.ensures) ∙ length-map views (count_by is_edit) in
+    let begun = all_begin c.in_ok-log.log views c.in_ok-log.passes.items c.in_ok-jobs.jobs.items (length c.as_slice.result.now) many c.in_ok-log.ensures.passes c.in_ok-jobs.ensures in
+    let ended : HaveEnded ground seen (range_with_len 0 (length views)) lists = subst (λ (l : List ℕ). HaveEnded ground seen l lists) begun.numbers c.in_ok-pass.ensures.ended in
+    rw c.of-2.ensures (all_answered ground seen lists ended)

@@ -1,0 +1,69 @@
+-- What the functions of a turn say of their answers.
+use Rattle.std.specs.Prelude.{◌≡◌, ℕ, ◌+◌, List, [], length, Option, Some}
+use Rattle.lg_gram.specs.declared.reply.Place.{Place}
+use Rattle.lg_gram.specs.declared.reply.Reply.{Reply}
+use Rattle.lg_dict.specs.Dictionary.{Dictionary}
+use Rattle.lg_edit.specs.Edits.{EditView}
+use Rattle.lg_log.specs.Codes.{code_session}
+use Rattle.lg_script.specs.Commands.{CommandView}
+use Rattle.lg_script.specs.Histories.{command_at}
+use Rattle.lg_session.specs.declared.session.Session.{Session}
+use Rattle.lg_session.specs.Codes.{place_of}
+use Rattle.lg_session.specs.Engines.{Meaning, Progress}
+use Rattle.lg_session.specs.Learning.{CatchesUp, IsEdited}
+use Rattle.lg_session.specs.Legal.{Holding, AnswerIs}
+use Rattle.lg_session.specs.Turns.{Story, HasCome, run_in, journal_in, place_in, added, IsTimely, Grows, Turned}
+
+-- the story with what is held after a turn
+abbrev pub later : Story → Option Holding → Story
+later story then = record story { holding = then; limit = story.limit + 2000000 }
+
+-- the session stays, but for what it holds
+pub record Stays {H : Type 0} (before after : Session H) : Type 0 where
+  pub session : after.session ≡ before.session
+  pub place : after.place ≡ before.place
+  pub pass : after.pass ≡ before.pass
+  pub view : after.view ≡ before.view
+
+-- the session has seen the history to its end, and is else as it was
+pub record IsUp {H : Type 0} (scripts : List (List CommandView)) (before after : Session H) : Type 0 where
+  pub session : after.session ≡ before.session
+  pub place : after.place ≡ before.place
+  pub held : after.held ≡ before.held
+  pub up : CatchesUp scripts (before.pass, before.view) (after.pass, after.view)
+
+-- the command is answered right by what the session has seen
+pub record AnswersSo {H : Type 0} (meaning : Meaning) (Stands : H → Dictionary → Progress → Type 0) (story : Story) (session : Session H)
+    (command : CommandView) (after : Session H × Reply) : Type 0 where
+  pub then : Option Holding
+  pub come : HasCome Stands (later story then) after.0
+  pub answer : AnswerIs (run_in meaning story (journal_in story after.0)) (place_in session) story.holding command after.1 then
+  pub timely : IsTimely command after.1 (length after.0.pass.seen)
+
+-- the command is answered by what the session has seen, and nothing is published
+pub record IsAnswered {H : Type 0} (meaning : Meaning) (Stands : H → Dictionary → Progress → Type 0) (session : Session H) (command : CommandView) (after : Session H × Reply) : Type 0 where
+  pub stays : Stays session after.0
+  pub unpublished : (p : Place) → added p after.1 ≡ []
+  pub answers : (story : Story) → HasCome Stands story session → AnswersSo meaning Stands story session command after
+
+-- the answer is counted
+abbrev pub counted : {H : Type 0} → Session H × Reply → Session H × Reply
+counted after = (record after.0 { place = after.0.place + 1 }, after.1)
+
+-- The next command is answered, and not yet counted.
+pub record Answers {H : Type 0} (meaning : Meaning) (Stands : H → Dictionary → Progress → Type 0) (story : Story) (session : Session H) (after : Session H × Reply) : Type 0 where
+  pub same_session : after.0.session ≡ session.session
+  pub same_place : after.0.place ≡ session.place
+  pub grown : Grows story (place_in session) after.1 session.pass after.0.pass
+  pub turned : (command : CommandView) → command_at story.scripts (place_in session) ≡ Some command → HasCome Stands story session
+      → Turned meaning Stands story session command (counted after)
+
+-- the edit at the session's place was published or refused, under its code
+pub record IsMade {H : Type 0} (scripts : List (List CommandView)) (edit : EditView) (before : Session H) (after : Session H × Reply) : Type 0 where
+  pub session : after.0.session ≡ before.session
+  pub place : after.0.place ≡ before.place
+  pub held : after.0.held ≡ before.held
+  pub code : ℕ
+  pub own : code_session code ≡ before.session
+  pub at : place_of scripts code ≡ place_in before
+  pub edited : IsEdited scripts code edit (before.pass, before.view) (after.0.pass, after.0.view) after.1

@@ -1,0 +1,60 @@
+-- What rows of sessions have come to, each session with its answers.
+use Rattle.std.specs.Prelude.{◌≡◌, ℕ, ◌+◌, ◌<◌, ◌==◌, List, [], ◌∷◌, length, map, filter, slice_index_or}
+use Rattle.std.specs.List.{enumerate_from}
+use Rattle.lg_gram.specs.declared.reply.Reply.{Reply}
+use Rattle.lg_dict.specs.Dictionary.{Dictionary}
+use Rattle.lg_log.specs.Passes.{LogId, Standing, HasAllOf, at_start}
+use Rattle.lg_script.specs.declared.command.Command.{Command}
+use Rattle.lg_script.specs.Commands.{CommandView}
+use Rattle.lg_script.specs.Histories.{published_by}
+use Rattle.lg_session.specs.declared.job.Job.{Job}
+use Rattle.lg_session.specs.Codes.{places_of}
+use Rattle.lg_session.specs.Engines.{Meaning}
+use Rattle.lg_session.specs.Legal.{Run, IsLegalSession, script_views}
+
+-- what sessions are held against: the meaning of their engine, their scripts, and the dictionary at their start
+pub record Ground : Type 1 where
+  pub meaning : Meaning
+  pub scripts : List (List CommandView)
+  pub base : Dictionary
+
+abbrev pub ground_of : Meaning → List (List Command) → Dictionary → Ground
+ground_of meaning scripts base = record { meaning = meaning; scripts = script_views scripts; base = base }
+
+abbrev pub run_on : Ground → List ℕ → Run
+run_on g history = record { meaning = g.meaning; scripts = g.scripts; base = g.base; journal = places_of g.scripts history }
+
+-- the commands of a session, which is numbered from 0
+abbrev pub commands_of : Ground → ℕ → List CommandView
+commands_of g session = slice_index_or g.scripts session []
+
+-- By this history the answers of a session, numbered from 0, are legal, and there is one for each command. Of its edits the
+-- history has those that were answered as published.
+pub record IsRight (g : Ground) (history : List ℕ) (session : ℕ) (replies : List Reply) : Type 0 where
+  pub legal : IsLegalSession (run_on g history) (session + 1) (commands_of g session) replies
+  pub whole : length replies ≡ length (commands_of g session)
+  pub own : filter (λ p. p.session == session + 1) (places_of g.scripts history) ≡ published_by (session + 1) replies
+
+-- A session has ended: its answers are right by every history that goes on from what was seen with edits of others alone.
+abbrev pub HasEnded : Ground → List ℕ → ℕ → List Reply → Type 0
+HasEnded g seen session replies = (history : List ℕ) → HasAllOf (session ∷ []) seen history → IsRight g history session replies
+
+-- each session of a row has ended, with its own answers
+abbrev pub HaveEnded : Ground → List ℕ → List ℕ → List (List Reply) → Type 0
+HaveEnded g seen [] [] = Unit {0}
+HaveEnded g seen (session ∷ sessions) (replies ∷ lists) = HasEnded g seen session replies × HaveEnded g seen sessions lists
+HaveEnded g seen sessions lists = ⊥
+
+-- a row of sessions has ended, and their pass has come so far
+pub record AreDone (g : Ground) (log : LogId) (sessions : List ℕ) (pass : Standing) (lists : List (List Reply)) : Type 0 where
+  pub same_log : pass.log ≡ log
+  pub carried : pass.sessions ≡ sessions
+  pub ended : HaveEnded g pass.seen sessions lists
+
+-- a session that has not begun: its script is there, and its pass has seen nothing and carries it alone
+abbrev pub IsFresh : LogId → List (List CommandView) → Job → Type 0
+IsFresh log scripts job = (job.session < length scripts) × (job.pass ≡ at_start log (job.session ∷ []))
+
+-- sessions that have not begun, numbered from this number on, each with its pass
+abbrev pub jobs_from : ℕ → List Standing → List Job
+jobs_from first passes = map (λ p. record { session = p.0; pass = p.1 }) (enumerate_from first passes)
