@@ -1,8 +1,8 @@
 //! The scripts of a command.
-ghost use Rattle.std.specs.Prelude.{◌≡◌, ◌≤◌, ◌<◌, ℕ, suc, List, length, map, take, sum, slice_get, Some, count_by, string_bytes, IfSome, IfOk, IfErr, MatchOption, All, [], ◌∷◌};
+ghost use Rattle.std.specs.Prelude.{◌≡◌, ◌≤◌, ◌<◌, ℕ, suc, List, length, map, take, sum, slice_get, Some, string_bytes, IfSome, IfOk, IfErr, MatchOption, All, [], ◌∷◌};
 ghost use Rattle.lg_dictread.specs.Limits.{FILE};
 ghost use Rattle.lg_script.specs.Bounds.{AreInBounds};
-ghost use Rattle.lg_script.specs.Commands.{command_view, is_edit};
+ghost use Rattle.lg_script.specs.Commands.{command_view};
 ghost use Rattle.lg_script.specs.EditNumbers.{edit_counts};
 ghost use Rattle.lg_session.specs.Codes.{AreScripts};
 ghost use Rattle.lg_session.specs.Legal.{script_views};
@@ -12,12 +12,12 @@ ghost use Rattle.lg_run.specs.Reads.{AsksInOrder, Tells, HasCause, IsAbout, IsNo
 
 use crate::inputs::read_file;
 use crate::stop::Stop;
-use lg_base::Files;
-use lg_script::{Command, Commands, Scripts, exactly_one_script, read_script, scripts_keep_bounds};
+use lg_base::{Files, NoMemory};
+use lg_script::{Commands, Scripts, exactly_one_script, read_script, scripts_keep_bounds};
 use std::alloc::Global;
 
 // The most edits of all scripts.
-const EDITS: usize = 100_000;
+const EDITS: u32 = 100_000;
 
 /// The scripts of these names, where they have at most 100,000 edits together.
 pub(crate) fn read_scripts<'a, F: Files>(
@@ -91,24 +91,12 @@ fn first_past<'a>(names: &'a [String], scripts: &[Commands]) -> Option<&'a str>
 {
     let mut left = EDITS;
     for (name, commands) in names.iter().zip(scripts) {
-        match left.checked_sub(edit_count(commands.items())) {
+        match left.checked_sub(commands.edit_count()) {
             Some(less) => left = less,
             None => return Some(name.as_str()),
         }
     }
     None
-}
-
-fn edit_count(commands: &[Command]) -> usize
-    ensures { result ≡ count_by is_edit (map command_view commands.now) }
-{
-    let mut count = 0;
-    for command in commands {
-        if let Command::Edit(_) = command {
-            count += 1;
-        }
-    }
-    count
 }
 
 /// The commands of the script with this name.
@@ -140,7 +128,10 @@ fn commands_of<'a>(alloc: Global, name: &'a str, bytes: &[u8]) -> Result<Command
 {
     scripts_keep_bounds();
     match read_script(alloc, bytes) {
-        Ok(commands) => Ok(Commands::of(commands)),
+        Ok(commands) => match Commands::of(alloc, commands) {
+            Ok(commands) => Ok(commands),
+            Err(NoMemory) => Err(Stop::Memory),
+        },
         Err(error) => Err(Stop::Script(name, error)),
     }
 }
