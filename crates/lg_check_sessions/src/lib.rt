@@ -4,6 +4,8 @@
 #[cfg(test)]
 mod log;
 #[cfg(test)]
+mod meeting;
+#[cfg(test)]
 mod run;
 #[cfg(test)]
 mod session;

@@ -5,9 +5,11 @@ ghost use Rattle.lg_gram.specs.Trees.{tree_of};
 ghost use Rattle.lg_gram.specs.Formulas.{LevelFits};
 ghost use Rattle.lg_dict.specs.Dictionary.{AreEntries};
 ghost use Rattle.lg_edit.specs.Edits.{edit_view, DefinesAsItMay, IsEditInBounds};
-ghost use Rattle.lg_script.specs.Bounds.{IsInBounds, AreInBounds};
+ghost use Rattle.lg_script.specs.Bounds.{IsInBounds};
 ghost use Rattle.lg_script.specs.Commands.{command_view};
+ghost use Rattle.lg_session.specs.Codes.{AreScripts};
 ghost use Rattle.lg_session.specs.Legal.{script_views};
+ghost use Rattle.lg_check_sessions.specs.Small.{IsSmall};
 
 use lg_base::{NoMemory, Text, Texts};
 use lg_dict::{Dict, View};
@@ -17,7 +19,7 @@ use lg_gram::{
     RawEntry, RawExpr, Reply, Stats, Token, Tokens,
 };
 use lg_script::{Command, Commands, Scripts};
-use lg_session::{Engine, Opening, Outcome, run_sessions};
+use lg_session::{Engine, FreeGate, Opening, Outcome, run_sessions};
 use lg_token::{bound_of, tokens};
 use std::alloc::Global;
 use std::process::Abort;
@@ -25,10 +27,10 @@ use std::test::Fail;
 use std::thread::Threads;
 
 // Its pages are empty. A page stands behind as many candidates as are wanted, or five, and tells whether the sentence is a word.
-struct Toy;
+pub(crate) struct Toy;
 
 #[derive(Drop)]
-struct ToyHeld {
+pub(crate) struct ToyHeld {
     tokens: Tokens,
     position: u64,
     want: u64,
@@ -135,13 +137,13 @@ fn copied_token(alloc: Global, token: &Token) -> Result<Token, NoMemory>
     })
 }
 
-fn connector() -> Result<Connector, Fail> {
-    let connector = Connector::of(b"A", b"", false, true).ok_or("a name")?;
+fn connector(name: &[u8]) -> Result<Connector, Fail> {
+    let connector = Connector::of(name, b"", false, true).ok_or("a name")?;
     Ok(connector)
 }
 
 // A dictionary with the word `a`.
-fn dictionary(alloc: Global) -> Result<Dict, Fail> {
+pub(crate) fn dictionary(alloc: Global) -> Result<Dict, Fail> {
     let mut entries = Vec::new(alloc);
     entries.push(entry(alloc)?)?;
     let dict = Dict::of(alloc, entries)?;
@@ -151,7 +153,7 @@ fn dictionary(alloc: Global) -> Result<Dict, Fail> {
 fn entry(alloc: Global) -> Result<Entry, Fail>
     ensures { IfOk result (λ entry. AreEntries (entry ∷ [])) }
 {
-    let formula = Formula::of(Expr::Conn(connector()?)).ok_or("a formula")?;
+    let formula = Formula::of(Expr::Conn(connector(b"A")?)).ok_or("a formula")?;
     let mut words = Vec::new(alloc);
     words.push(Text::of(alloc, b"a")?)?;
     Ok(Entry {
@@ -208,10 +210,10 @@ fn raw_entry(alloc: Global, word: &[u8], expr: RawExpr) -> Result<RawEntry, Fail
     })
 }
 
-fn put(alloc: Global, word: &[u8]) -> Result<Command, Fail>
+pub(crate) fn put(alloc: Global, word: &[u8], name: &[u8]) -> Result<Command, Fail>
     ensures { IfOk result (λ command. IsInBounds (command_view command)) }
 {
-    let expr = RawExpr::Conn(connector()?);
+    let expr = RawExpr::Conn(connector(name)?);
     let entry = raw_entry(alloc, word, expr)?;
     Ok(Command::Edit(Edit::Put(entry)))
 }
@@ -225,7 +227,7 @@ fn put_macro(alloc: Global, word: &[u8], name: &[u8]) -> Result<Command, Fail>
 }
 
 // Adds a command.
-fn add(commands: &mut Vec<Command>, command: Command) -> Result<(), Fail>
+pub(crate) fn add(commands: &mut Vec<Command>, command: Command) -> Result<(), Fail>
     requires few { length commands.old.items < 100 }
     requires each { All IsInBounds (map command_view commands.old.items) }
     requires in_bounds { IsInBounds (command_view command) }
@@ -246,7 +248,7 @@ fn add_first(alloc: Global, commands: &mut Vec<Command>) -> Result<(), Fail>
     add(commands, Command::Version)?;
     add(commands, Command::More)?;
     add(commands, parse(alloc, "b")?)?;
-    add(commands, put(alloc, b"b")?)?;
+    add(commands, put(alloc, b"b", b"A")?)?;
     add(commands, Command::More)?;
     add(commands, Command::Version)
 }
@@ -266,28 +268,37 @@ fn add_second(alloc: Global, commands: &mut Vec<Command>) -> Result<(), Fail>
     add(commands, del(alloc, b"b")?)
 }
 
+// The script of these commands.
+pub(crate) fn commands_of(alloc: Global, commands: Vec<Command>) -> Result<Commands, Fail>
+    requires few { length commands.items < 100 }
+    requires each { All IsInBounds (map command_view commands.items) }
+    ensures { IfOk result IsSmall }
+{
+    let commands = Commands::of(alloc, commands)?;
+    Ok(commands)
+}
+
 fn scripts(alloc: Global) -> Result<Scripts, Fail>
-    ensures one { IfOk result (λ scripts. length scripts ≡ 1) }
-    ensures bounds { IfOk result (λ scripts. All AreInBounds (script_views scripts)) }
+    ensures { IfOk result (λ scripts. AreScripts (script_views scripts)) }
 {
     let mut commands = Vec::new(alloc);
     add_first(alloc, &mut commands)?;
     add_second(alloc, &mut commands)?;
     let mut lists = Vec::new(alloc);
-    lists.push(Commands::of(commands))?;
+    lists.push(commands_of(alloc, commands)?)?;
     Ok(Scripts::of(lists))
 }
 
 fn run<R: Threads + Sync>(rt: &R, alloc: Global) -> Result<Outcome, Fail> {
     let dict = dictionary(alloc)?;
     let scripts = scripts(alloc)?;
-    let outcome = run_sessions(rt, alloc, &dict, &scripts, &Toy)?;
+    let outcome = run_sessions(rt, alloc, &dict, &scripts, &Toy, &FreeGate)?;
     Ok(outcome)
 }
 
 // What an answer tells: the version, where the page stops and whether the sentence is a word.
 #[derive(Clone, Copy, Debug, PartialEq, Eq)]
-enum Told {
+pub(crate) enum Told {
     First(u64, u64, bool),
     Next(u64, u64, bool),
     Beyond(u64),
@@ -314,7 +325,7 @@ fn told_by(reply: &Reply) -> Told {
     }
 }
 
-fn expect<R: Abort>(rt: &R, replies: &[Reply], number: usize, want: Told) {
+pub(crate) fn expect<R: Abort>(rt: &R, replies: &[Reply], number: usize, want: Told) {
     assert!(rt;
         replies.get(number).map(told_by) == Some(want),
         "at {number}"

@@ -11,6 +11,7 @@ pub mod Problems
 pub mod Linkages
 pub mod Walks
 pub mod Rules
+pub mod Labels
 pub mod Levels
 pub mod RawTrees
 pub mod Pairs

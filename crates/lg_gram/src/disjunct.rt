@@ -1,9 +1,10 @@
 //! Disjuncts, and lists of them.
-ghost use Rattle.std.specs.Prelude.{◌≡◌, ◌↔◌, IsTrue};
+ghost use Rattle.std.specs.Prelude.{◌≡◌, ◌↔◌, IsTrue, None, slice_index_or, if◌then◌else◌};
 ghost use Rattle.std.specs.List.{Contains};
 ghost use Rattle.lg_gram.specs.Disjuncts.{disjunct_cmp};
+ghost use Rattle.lg_gram.specs.Rules.{left_list, right_list};
 
-use crate::connector::Connectors;
+use crate::connector::{Connector, Connectors};
 use crate::order::{Ranked, rank_lists};
 use lg_base::{Cost, Text};
 use std::cmp::Ordering;
@@ -173,5 +174,17 @@ impl Chosen {
     {
         let Chosen { items } = self;
         items
+    }
+}
+
+/// The connectors of a side (true: the right) of a position; none where the position is unlinked, and past the end.
+pub fn side(chosen: &[Option<Disjunct>], right: bool, position: u32) -> &[Connector]
+    ensures { let choice = slice_index_or chosen.now position None in
+        result.now ≡ (if right then right_list choice else left_list choice) }
+{
+    match chosen.get(position as usize) {
+        Some(Some(disjunct)) if right => disjunct.right.items(),
+        Some(Some(disjunct)) => disjunct.left.items(),
+        _ => &[],
     }
 }

@@ -1,5 +1,5 @@
 //! Linkages, and the order in which they are listed.
-ghost use Rattle.std.specs.Prelude.{◌≡◌, ◌≤◌, ◌<◌, ◌^◌, ◌↔◌, length, IsTrue, MatchOption};
+ghost use Rattle.std.specs.Prelude.{◌≡◌, ◌≤◌, ◌<◌, ◌^◌, ◌↔◌, length, Some, IsTrue, MatchOption};
 ghost use Rattle.std.specs.List.{All, sum_by};
 ghost use Rattle.std.specs.List.Sorted.{IsStrictlySortedBy};
 ghost use Rattle.std.specs.Option.{option_cmp};
@@ -11,9 +11,13 @@ ghost use Rattle.std.proofs.Common.{rules};
 ghost use Rattle.lg_base.specs.Costs.{IsWithinCosts};
 ghost use Rattle.lg_gram.specs.Limits.{LINKAGE_POSITIONS};
 ghost use Rattle.lg_gram.specs.Disjuncts.{disjunct_cmp};
+ghost use Rattle.lg_gram.specs.Rules.{Joins, rights_of, lefts_of};
+ghost use Rattle.lg_gram.specs.Labels.{ends_of, label_at};
 ghost use Rattle.lg_gram.specs.Linkages.{Linkage as Seen, IsLinkage, unlinked, total_cost, total_length, linkage_cmp, tie_cmp, cost_sum, cost_of, HasSmallCost, link_cmp, IsForward, link_length};
 
-use crate::disjunct::{Chosen, Disjunct};
+use crate::connector::{Connector, link_label};
+use crate::disjunct::{Chosen, Disjunct, side};
+use crate::label::Label;
 use crate::order::{Ranked, is_rising, rank_lists};
 use crate::problem::DISJUNCT_COST;
 use lg_base::Cost;
@@ -77,6 +81,22 @@ impl PartialOrd for Link {
 
     fn partial_cmp(&self, other: &Link) -> Option<Ordering> {
         Some(self.rank(other))
+    }
+}
+
+impl Link {
+    /// The connectors at the link's two places, at its left word and at its right word. None where one of the places is
+    /// empty.
+    pub fn ends(&self, chosen: &[Option<Disjunct>]) -> Option<(Connector, Connector)>
+        ensures { result ≡ ends_of chosen.now self.now }
+    {
+        let from = side(chosen, true, self.left)
+            .get(self.lplace as usize)
+            .copied();
+        let to = side(chosen, false, self.right)
+            .get(self.rplace as usize)
+            .copied();
+        from.zip(to)
     }
 }
 
@@ -168,6 +188,15 @@ impl Linkage {
         self.links.items()
     }
 
+    /// The label of a link that joins two connectors that match.
+    pub fn label(&self, link: &Link) -> Label
+        requires { Joins (rights_of self.now) (lefts_of self.now) link.now }
+        ensures { label_at self.now link.now ≡ Some result }
+    {
+        let (from, to) = link.ends(self.chosen()).unwrap();
+        link_label(&from, &to)
+    }
+
     /// How many positions are unlinked.
     pub fn unused(&self) -> u32
         ensures { result ≡ unlinked self.now }
@@ -193,7 +222,6 @@ impl Linkage {
     /// then the least length (these three are link-parser's), then the choice at each position, none before a disjunct,
     /// then the places of the link of each pair of positions, none before a link.
     pub fn compare(&self, other: &Linkage) -> Ordering
-        requires { length self.now.chosen ≡ length other.now.chosen }
         ensures { result ≡ linkage_cmp self.now other.now }
     {
         self.unused()

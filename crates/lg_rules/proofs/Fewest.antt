@@ -1,16 +1,15 @@
 -- The first list that is not empty has the good linkages of the fewest unlinked positions.
-use Rattle.std.proofs.Common.{◌≡◌, ℕ, suc, zero, ◌<◌, ◌≤◌, ◌+◌, ◌↔◌, List, [], ◌∷◌, length, get_or, refl, sym, ◌∙◌, subst, inl, inr, ◌⊎◌, Option, Some, None, arith, is_none, le_antisymm, Bool, true, false, ◌==◌}
+use Rattle.std.proofs.Common.{◌≡◌, ℕ, suc, zero, ◌<◌, ◌≤◌, ◌+◌, ◌↔◌, List, [], ◌∷◌, length, get_or, refl, sym, subst, inl, inr, ◌⊎◌, Option, Some, None, arith, is_none, le_antisymm, Bool, true, false, ◌==◌}
 use Rattle.std.specs.List.{AllZip, Contains, count_by}
 use Rattle.std.specs.List.Sorted.{IsStrictlySortedBy}
 use Rattle.std.proofs.lemmas.Bool.Decides.{nat_tests}
 use Rattle.std.proofs.lemmas.List.Sums.{count_by-le-length}
 use Rattle.std.proofs.lemmas.Slice.Zip.{AllZip-long}
-use Rattle.lg_gram.specs.Levels.{AreCandidates, TellsApart}
+use Rattle.lg_gram.specs.Levels.{AreCandidates, AreOfOneProblem}
 use Rattle.lg_gram.specs.Linkages.{Linkage, link_cmp, linkage_cmp, unlinked}
 use Rattle.lg_gram.specs.Problems.{IsProblem}
 use Rattle.lg_gram.specs.Rules.{Good}
 use Rattle.lg_gram.specs.declared.disjunct.Disjunct.{Disjunct}
-use Rattle.lg_rules.specs.Orders.{AreAsLong, AreToldApart}
 use Rattle.lg_rules.specs.Steps.{Adds, GoesOn, IsSoundWith, IsPick, AreGoodWithin}
 use Rattle.lg_rules.specs.Places.{linkage_of}
 use Rattle.lg_rules.proofs.Unlinked.{all_unlinked, unlinked_picks, unlinked_sound}
@@ -90,11 +89,8 @@ good_within positions spare all added g =
     )
 
 module _ (positions : List (List Disjunct)) (spare : ℕ) (all : List Linkage) (listed : AreGoodWithin positions spare all) where
-  pub as_long : AreAsLong all
-  as_long a b m n = ((listed a).0 m).0.belongs.same_length ∙ sym ((listed b).0 n).0.belongs.same_length
-
-  pub told_apart : TellsApart → IsProblem positions → AreToldApart all
-  told_apart exact fine a b m n alike = exact positions a b fine ((listed a).0 m).0.belongs ((listed b).0 n).0.belongs alike
+  pub of_one_problem : IsProblem positions → AreOfOneProblem all
+  of_one_problem fine = record { positions = positions; is_problem = fine; each = λ g m. ((listed g).0 m).0.belongs }
 
   pub none_yet : length all ≡ 0 → (h : Linkage) → Good positions h → spare + 1 ≤ unlinked h
   none_yet e h good =

@@ -13,7 +13,6 @@ pub mod Partners
 pub mod Sublists
 pub mod Adding
 pub mod Completing
-pub mod Sorting
 pub mod Pruned
 pub mod Choosing
 pub mod Fitting

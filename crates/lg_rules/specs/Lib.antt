@@ -5,4 +5,3 @@ pub mod Checks
 pub mod Partners
 pub mod Prunes
 pub mod Steps
-pub mod Orders

@@ -7,14 +7,11 @@ ghost use Rattle.lg_rules.specs.Steps.{AreGoodWithin};
 mod candidates;
 mod choosing;
 mod completing;
-mod order;
 mod pruning;
 
 use choosing::choose;
 use lg_base::NoMemory;
-use lg_gram::law::linkages_are_ordered;
-use lg_gram::{Chosen, Linkage, Problem};
-use order::{Listed, in_order};
+use lg_gram::{Chosen, Linkage, Problem, in_order};
 use std::alloc::Global;
 
 /// The most positions of a problem for the slow lister.
@@ -26,11 +23,10 @@ pub fn plain_list(alloc: Global, problem: &Problem) -> Result<Vec<Linkage>, NoMe
     requires { length problem.now ≤ 8 }
     ensures { IfOk result (λ list. AreCandidates problem.now list.items) }
 {
-    linkages_are_ordered();
     for spare in 0..problem.positions().len() + 1 {
         let all = good_within(alloc, problem, spare)?;
         if !all.is_empty() {
-            let list = in_order(alloc, all)?;
+            let list = in_order(all)?;
             return Ok(list);
         }
     }
@@ -38,7 +34,7 @@ pub fn plain_list(alloc: Global, problem: &Problem) -> Result<Vec<Linkage>, NoMe
 }
 
 // The good linkages with at most so many unlinked positions, in no order.
-fn good_within(alloc: Global, problem: &Problem, spare: usize) -> Result<Vec<Listed>, NoMemory>
+fn good_within(alloc: Global, problem: &Problem, spare: usize) -> Result<Vec<Linkage>, NoMemory>
     requires { length problem.now ≤ LINKAGE_POSITIONS }
     ensures { IfOk result (λ all. AreGoodWithin problem.now spare all.items) }
 {

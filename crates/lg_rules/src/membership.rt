@@ -3,8 +3,7 @@ ghost use Rattle.std.specs.Prelude.{◌≡◌, ◌↔◌, ◌≤◌, ℕ, [], No
 ghost use Rattle.std.specs.List.{All, Contains};
 ghost use Rattle.lg_rules.specs.Places.{IsOf, IsPlaced};
 
-use crate::sides::connectors;
-use lg_gram::{Disjunct, Disjuncts, Link, Linkage, Problem};
+use lg_gram::{Disjunct, Disjuncts, Link, Linkage, Problem, side};
 
 /// Whether the linkage has as many positions as the problem, each chosen disjunct stands in its position's list, and
 /// each link has `right` below the number of positions and places within the lists of two chosen disjuncts.
@@ -47,6 +46,6 @@ fn is_placed(g: &Linkage, link: &Link) -> bool
     let chosen = g.chosen();
     link.left < link.right
         && (link.right as usize) < chosen.len()
-        && (link.lplace as usize) < connectors(chosen, true, link.left).len()
-        && (link.rplace as usize) < connectors(chosen, false, link.right).len()
+        && (link.lplace as usize) < side(chosen, true, link.left).len()
+        && (link.rplace as usize) < side(chosen, false, link.right).len()
 }

@@ -8,3 +8,6 @@ pub mod Jobs
 pub mod Whole
 pub mod Named
 pub mod Learned
+pub mod Elsewhere
+pub mod Answered
+pub mod Counted

@@ -1,11 +1,11 @@
 -- The commands at places, and the edits that codes name.
-use Rattle.std.proofs.Common.{◌≡◌, ℕ, zero, suc, ◌+◌, ◌<◌, ◌^◌, true, leb, ltb, List, [], ◌∷◌, length, map, count_by, get_or, slice_get, slice_index, slice_index_or, All, Option, Some, None, refl, ap, sym, ◌∙◌, subst, arith, add-one, ltb-true}
-use Rattle.std.proofs.lemmas.Bool.{and_parts}
+use Rattle.std.proofs.Common.{◌≡◌, ℕ, zero, suc, ◌+◌, ◌<◌, ◌^◌, true, leb, ltb, List, [], ◌∷◌, length, map, count_by, get_or, slice_get, slice_index, slice_index_or, All, Option, Some, None, refl, ap, sym, ◌∙◌, subst, arith, add-one, ltb-true, IsSome, true≢false, le-leb, lt-ltb, leb, ltb, ◌^◌, ◌≤◌}
+use Rattle.std.proofs.lemmas.Bool.{and_parts, and_from}
 use Rattle.std.proofs.lemmas.List.{length-map, get_or-map}
 use Rattle.std.proofs.lemmas.Option.{none-some, slice_get-get_or, slice_get_within, get_or_from_slice_get}
 use Rattle.lg_gram.specs.declared.reply.Place.{Place}
 use Rattle.lg_edit.specs.Edits.{EditView}
-use Rattle.lg_log.specs.Codes.{code_session, code_index, is_code}
+use Rattle.lg_log.specs.Codes.{code_session, code_index, code_of, is_code}
 use Rattle.lg_script.specs.Bounds.{IsInBounds, AreInBounds}
 use Rattle.lg_script.specs.declared.command.Command.{Command}
 use Rattle.lg_script.specs.Commands.{CommandView, command_view, makes, is_edit}
@@ -76,3 +76,39 @@ commands_read scripts seen session number commands inside same is read =
     let in_ : session < length scripts = omega (arith, inside, length-map scripts (map command_view)) in
     get_or-map (map command_view) scripts session commands [] in_
     ∙ ap (map command_view) (sym (read ∙ (λ i. get_or (same i) (is i) commands)))
+
+-- ---- the command at a place, as it is read
+
+pub some_of : {A : Type 0} (o : Option A) → IsSome o → (x : A) × (o ≡ Some x)
+some_of None some = absurd (true≢false (sym some))
+some_of (Some x) some = (x, refl)
+
+pub place_in_items : (items : List Command) (place : ℕ) (c : CommandView) → slice_get (map command_view items) place ≡ Some c → place < length items
+place_in_items items place c is = omega (arith, slice_get_within (map command_view items) place c is, length-map items command_view)
+
+pub read_command : (items : List Command) (place : ℕ) (command : Command) (c : CommandView) → slice_get (map command_view items) place ≡ Some c → command ≡ get_or items place command → c ≡ command_view command
+read_command items place command c is read =
+    sym (get_or_from_slice_get (map command_view items) place c (command_view command) is) ∙ get_or-map command_view items place command (command_view command) (place_in_items items place c is) ∙ ap command_view (sym read)
+
+-- ---- the code of an edit
+
+pub is_coded : (scripts : List (List CommandView)) (session index code : ℕ) → session < length scripts → code ≡ code_of session index → code_session code ≡ session → code_index code ≡ index
+    → index < count_by is_edit (commands_of scripts session) → is_code (edit_counts scripts) code ≡ true
+is_coded scripts session index code inside is session_is index_is less =
+    let large : 2 ^ 32 ≤ code = omega (arith, is) in
+    let below : code_index code < slice_index (edit_counts scripts) (code_session code) = omega (arith, less, index_is, ap (slice_index (edit_counts scripts)) session_is, count_of scripts session inside) in
+    and_from (leb (2 ^ 32) code) (ltb (code_index code) (slice_index (edit_counts scripts) (code_session code))) (le-leb _ _ large) (lt-ltb _ _ below)
+
+pub place_coded : (scripts : List (List CommandView)) (session index place code : ℕ) → code_session code ≡ session → code_index code ≡ index → slice_get (edit_numbers (commands_of scripts session)) index ≡ Some (place + 1)
+    → place_of scripts code ≡ record { session = session + 1; command = place + 1 }
+place_coded scripts session index place code session_is index_is is =
+    let command : slice_index_or (edit_numbers (commands_of scripts (code_session code))) (code_index code) 0 ≡ place + 1 =
+    (λ i. slice_index_or (edit_numbers (commands_of scripts (session_is i))) (index_is i) 0) ∙ get_or_from_slice_get (edit_numbers (commands_of scripts session)) index (place + 1) 0 is in
+    λ i. record { session = session_is i + 1; command = command i }
+
+-- the numbers of commands are small
+pub place_fits : (scripts : List (List CommandView)) (session place : ℕ) → All AreInBounds scripts → IsSome (command_at scripts (record { session = session + 1; command = place + 1 })) → place + 1 < 2 ^ 32
+place_fits scripts session place all next =
+    let some = some_of (command_at scripts (record { session = session + 1; command = place + 1 })) next in
+    let found = at_place scripts session place some.0 some.1 in
+    omega (arith, slice_get_within (commands_of scripts session) place some.0 found.1, (all session [] found.0).few)

@@ -1,9 +1,11 @@
 -- Rows of sessions that have ended, put together.
-use Rattle.std.proofs.Common.{◌≡◌, ℕ, Bool, true, false, eqb, ◌||◌, List, [], ◌∷◌, ◌++◌, refl, ap, sym, subst, ◌∙◌, append-nil, true≢false}
+use Rattle.std.proofs.Common.{◌≡◌, ℕ, Bool, true, false, eqb, ◌||◌, List, [], ◌∷◌, ◌++◌, map, take, drop, refl, ap, sym, subst, ◌∙◌, append-nil, take-append-drop, true≢false}
+use mathlib.Core.List.{map-append}
 use Rattle.lg_gram.specs.declared.reply.Reply.{Reply}
 use Rattle.lg_log.specs.Codes.{has_session}
 use Rattle.lg_log.specs.Passes.{LogId, Standing, HasAllOf, longer_of}
 use Rattle.lg_log.specs.Rule.{JoinsCompose}
+use Rattle.lg_session.specs.declared.job.Job.{Job}
 use Rattle.lg_session.specs.Rows.{Ground, HaveEnded, AreDone}
 
 pub both_ended : (g : Ground) (seen a b : List ℕ) (x y : List (List Reply)) → HaveEnded g seen a x → HaveEnded g seen b y → HaveEnded g seen (a ++ b) (x ++ y)
@@ -33,6 +35,10 @@ module _ (compose : JoinsCompose) (g : Ground) (seen whole : List ℕ) where
         (λ history more. ended.0 history (compose (s ∷ []) (s ∷ []) seen whole history here more (λ session mine. mine))),
         ended_later carried all sessions lists (λ session mine. among session (or_second (eqb session s) (has_session sessions session) mine)) ended.1,
       )
+
+-- a row cut in two
+pub both_numbers : (jobs low high : List Job) (n : ℕ) → low ≡ take n jobs → high ≡ drop n jobs → map (λ job. job.session) jobs ≡ map (λ job. job.session) low ++ map (λ job. job.session) high
+both_numbers jobs low high n first second = ap (map (λ (job : Job). job.session)) (sym (take-append-drop n jobs) ∙ (λ i. sym first i ++ sym second i)) ∙ map-append (λ (job : Job). job.session) low high
 
 -- two rows as one, once the one pass has taken over the other
 pub both_done : JoinsCompose → (g : Ground) (log : LogId) (a b n : List ℕ) (p q r : Standing) (x y z : List (List Reply)) → n ≡ a ++ b → z ≡ x ++ y → AreDone g log a p x → AreDone g log b q y

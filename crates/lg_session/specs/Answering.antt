@@ -1,7 +1,8 @@
 -- What the functions of a turn say of their answers.
-use Rattle.std.specs.Prelude.{◌≡◌, ℕ, ◌+◌, List, [], length, Option, Some}
+use Rattle.std.specs.Prelude.{◌≡◌, ℕ, ◌+◌, List, [], length, Option, Some, None}
 use Rattle.lg_gram.specs.declared.reply.Place.{Place}
 use Rattle.lg_gram.specs.declared.reply.Reply.{Reply}
+use Rattle.lg_gram.specs.declared.reply.Reply.TheVariants.{Listed, NoListing}
 use Rattle.lg_dict.specs.Dictionary.{Dictionary}
 use Rattle.lg_edit.specs.Edits.{EditView}
 use Rattle.lg_log.specs.Codes.{code_session}
@@ -9,7 +10,7 @@ use Rattle.lg_script.specs.Commands.{CommandView}
 use Rattle.lg_script.specs.Histories.{command_at}
 use Rattle.lg_session.specs.declared.session.Session.{Session}
 use Rattle.lg_session.specs.Codes.{place_of}
-use Rattle.lg_session.specs.Engines.{Meaning, Progress}
+use Rattle.lg_session.specs.Engines.{Meaning, Progress, GoesOn}
 use Rattle.lg_session.specs.Learning.{CatchesUp, IsEdited}
 use Rattle.lg_session.specs.Legal.{Holding, AnswerIs}
 use Rattle.lg_session.specs.Turns.{Story, HasCome, run_in, journal_in, place_in, added, IsTimely, Grows, Turned}
@@ -45,6 +46,13 @@ pub record IsAnswered {H : Type 0} (meaning : Meaning) (Stands : H → Dictionar
   pub stays : Stays session after.0
   pub unpublished : (p : Place) → added p after.1 ≡ []
   pub answers : (story : Story) → HasCome Stands story session → AnswersSo meaning Stands story session command after
+
+-- what comes of `more`, by what is held: the next page of the listing, or none
+abbrev pub GivesNextPage : {H : Type 0} → Meaning → (H → Dictionary → Progress → Type 0) → Option (ℕ × H) → Option (ℕ × H) × Reply → Type 0
+GivesNextPage meaning Stands None (None, NoListing) = Unit {0}
+GivesNextPage meaning Stands (Some (version, held)) (Some (same, next), Listed of tokens page stats) = (same ≡ version) × (of ≡ version) × (stats ≡ None)
+    × ((dict : Dictionary) (progress : Progress) → Stands held dict progress → GoesOn meaning Stands dict progress next tokens page)
+GivesNextPage meaning Stands held after = ⊥
 
 -- the answer is counted
 abbrev pub counted : {H : Type 0} → Session H × Reply → Session H × Reply

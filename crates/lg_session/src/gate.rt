@@ -1,18 +1,17 @@
-//! What is told before each command of each session.
+//! What is called before each command of each session.
 
-/// What a session's thread calls before each command. It answers nothing: it may note the command, or return only when another
-/// session has come so far, which is how tests hold one session for another. What it does is no matter of the answers.
+/// What a session's thread calls before each of its commands.
+///
+/// It answers nothing, and no answer of a session depends on it. It may note the command, or come back only when another session
+/// has come so far: so tests hold one session back for another. It has to come back.
 pub trait Gate: Sync {
-    /// Called before a command, by the thread that runs it. Sessions and their commands are numbered from 1.
+    /// Called before a command, by the thread that runs it. Sessions, and the commands of each, are numbered from 1.
     fn pass(&self, session: u32, command: u32);
 }
 
-/// A gate that returns at once.
+/// A gate that comes back at once.
 pub struct FreeGate;
 
 impl Gate for FreeGate {
-    fn pass(&self, session: u32, command: u32) {
-        let _ = session;
-        let _ = command;
-    }
+    fn pass(&self, _session: u32, _command: u32) {}
 }

@@ -3,10 +3,10 @@ ghost use Rattle.std.specs.Prelude.{◌≡◌, ◌+◌, true, Some, IfOk, IfSome
 ghost use Rattle.lg_edit.specs.Edits.{EditView, edit_view};
 ghost use Rattle.lg_log.specs.Codes.{is_code, code_session};
 ghost use Rattle.lg_script.specs.Bounds.{IsSentence, IsCount, IsInBounds};
-ghost use Rattle.lg_script.specs.Commands.{CommandView, command_view, goes_on, makes, asks};
+ghost use Rattle.lg_script.specs.Commands.{CommandView, command_view, goes_on, makes};
 ghost use Rattle.lg_script.specs.EditNumbers.{edit_counts};
 ghost use Rattle.lg_script.specs.Histories.{command_at};
-ghost use Rattle.lg_session.specs.Answering.{IsAnswered, IsMade, Answers};
+ghost use Rattle.lg_session.specs.Answering.{IsAnswered, IsMade, Answers, GivesNextPage};
 ghost use Rattle.lg_session.specs.Codes.{AreScripts, place_of};
 ghost use Rattle.lg_session.specs.Legal.{AsksFor, script_views};
 ghost use Rattle.lg_session.specs.Turns.{Story, HasCome, IsAt, MayGoOn, Turned, place_in};
@@ -76,7 +76,8 @@ fn answer<'a, R: Threads + Sync, E: Engine>(
         Command::Edit(edit) => make(alloc, scripts, log, state, edit),
         Command::Version => {
             let state = caught_up(alloc, scripts, log, state)?;
-            Ok(tell_version(engine, state))
+            let version = state.pass.seen().len() as u64;
+            Ok((state, Reply::At { version }))
         }
     }
 }
@@ -136,39 +137,51 @@ fn open<'a, R: Threads + Sync, E: Engine>(
 fn go_on<'a, E: Engine>(
     alloc: Global,
     engine: &E,
-    mut state: Session<'a, E::Held>,
+    state: Session<'a, E::Held>,
 ) -> Result<(Session<'a, E::Held>, Reply), NoMemory>
     requires { MayGoOn (E.stands engine.now) state.held }
     ensures { IfOk result (IsAnswered (E.meaning engine.now) (E.stands engine.now) state.entry goes_on) }
 {
-    match state.held {
+    let Session {
+        session,
+        place,
+        pass,
+        view,
+        held,
+    } = state;
+    let (held, reply) = next_page(alloc, engine, held)?;
+    let state = Session {
+        session,
+        place,
+        pass,
+        view,
+        held,
+    };
+    Ok((state, reply))
+}
+
+// The next page of the listing that is held, if there is one.
+fn next_page<E: Engine>(
+    alloc: Global,
+    engine: &E,
+    held: Option<(u64, E::Held)>,
+) -> Result<(Option<(u64, E::Held)>, Reply), NoMemory>
+    requires { MayGoOn (E.stands engine.now) held }
+    ensures { IfOk result (GivesNextPage (E.meaning engine.now) (E.stands engine.now) held) }
+{
+    match held {
         Some((version, held)) => {
             let (held, tokens, page) = engine.more(alloc, held)?;
-            state.held = Some((version, held));
             let reply = Reply::Listed {
                 version,
                 tokens,
                 page,
                 stats: None,
             };
-            Ok((state, reply))
+            Ok((Some((version, held)), reply))
         }
-        None => {
-            state.held = None;
-            Ok((state, Reply::NoListing))
-        }
+        None => Ok((None, Reply::NoListing)),
     }
-}
-
-fn tell_version<'a, E: Engine>(
-    engine: &E,
-    state: Session<'a, E::Held>,
-) -> (Session<'a, E::Held>, Reply)
-    ensures { IsAnswered (E.meaning engine.now) (E.stands engine.now) state.entry asks result }
-{
-    let _ = engine;
-    let version = state.pass.seen().len() as u64;
-    (state, Reply::At { version })
 }
 
 // Publishes the edit at the session's place, or tells why it is refused.
@@ -213,5 +226,8 @@ fn code_at(scripts: &Scripts, session: u32, place: u32) -> u64
     ensures session { code_session result ≡ session }
     ensures at { place_of (script_views scripts.now) result ≡ record { session = session + 1; command = place + 1 } }
 {
-    code(session, scripts.items()[session as usize].edits_before(place))
+    code(
+        session,
+        scripts.items()[session as usize].edits_before(place),
+    )
 }

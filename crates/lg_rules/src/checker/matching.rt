@@ -5,7 +5,6 @@ ghost use Rattle.lg_rules.specs.Least.{IsLeast};
 ghost use Rattle.lg_rules.specs.Places.{ArePlaced, linkage_of};
 ghost use Rattle.lg_rules.specs.Verdicts.{UnmatchedAt};
 
-use crate::sides::connectors;
 use lg_gram::{Disjunct, Link, matches};
 
 /// The least number of a link whose connectors do not match.
@@ -27,13 +26,8 @@ pub(super) fn first_unmatched(chosen: &[Option<Disjunct>], links: &[Link]) -> Op
 fn joins(chosen: &[Option<Disjunct>], link: &Link) -> bool
     ensures { let g = linkage_of chosen.now [] in IsTrue result ↔ Joins (rights_of g) (lefts_of g) link.now }
 {
-    let rights = connectors(chosen, true, link.left);
-    let lefts = connectors(chosen, false, link.right);
-    match (
-        rights.get(link.lplace as usize),
-        lefts.get(link.rplace as usize),
-    ) {
-        (Some(a), Some(b)) => matches(a, b),
-        _ => false,
+    match link.ends(chosen) {
+        Some((a, b)) => matches(&a, &b),
+        None => false,
     }
 }

@@ -9,8 +9,8 @@ ghost use Rattle.lg_rules.specs.Places.{ArePlaced, HasShortSides, linkage_of};
 ghost use Rattle.lg_rules.specs.Checks.{IsOutdone};
 ghost use Rattle.lg_rules.specs.Verdicts.{OrderAt};
 
-use crate::sides::{connectors, stands_at};
-use lg_gram::{Disjunct, Link};
+use crate::sides::stands_at;
+use lg_gram::{Disjunct, Link, side};
 
 /// Position, side (true: the right) and place of the first connector that joins a word not nearer than a word joined at
 /// a later place of that side.
@@ -65,7 +65,7 @@ fn first_of_side(
     ensures none { let g = linkage_of chosen.now links.now in
         IfNone result ((place : ℕ) → OrderAt g position right place → ⊥) }
 {
-    for place in 0..connectors(chosen, right, position).len() as u32 {
+    for place in 0..side(chosen, right, position).len() as u32 {
         if is_disordered(links, position, right, place) {
             return Some(place);
         }

@@ -10,9 +10,9 @@ ghost use Rattle.lg_rules.specs.Places.{HasShortSides, linkage_of};
 ghost use Rattle.lg_rules.specs.Checks.{is_at, IsCount, AreServed};
 ghost use Rattle.lg_rules.specs.Verdicts.{UnsatisfiedAt};
 
-use crate::sides::{connectors, stands_at};
+use crate::sides::stands_at;
 use lg_gram::law::links_are_ordered;
-use lg_gram::{Connector, Disjunct, Link};
+use lg_gram::{Connector, Disjunct, Link, side};
 
 /// Position, side (true: the right) and place of the first connector with no link, or with two where it is not multi.
 pub(super) fn first_unsatisfied(
@@ -67,7 +67,7 @@ fn first_of_side(
     ensures none { IfNone result (AreServed (linkage_of chosen.now links.now) position right) }
 {
     links_are_ordered();
-    for (place, connector) in connectors(chosen, right, position).iter().enumerate() {
+    for (place, connector) in side(chosen, right, position).iter().enumerate() {
         let place = place as u32;
         if !may_have(connector, count_at(links, right, position, place)) {
             return Some(place);

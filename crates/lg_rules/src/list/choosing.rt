@@ -7,10 +7,9 @@ ghost use Rattle.lg_rules.specs.Partners.{FitsChoice};
 ghost use Rattle.lg_rules.specs.Steps.{Adds, GoesOn};
 
 use crate::list::completing::add_sound;
-use crate::list::order::Listed;
 use crate::list::pruning::can_stand;
 use lg_base::NoMemory;
-use lg_gram::{Chosen, Disjunct, Disjuncts};
+use lg_gram::{Chosen, Disjunct, Disjuncts, Linkage};
 use std::alloc::Global;
 
 fn with_choice(chosen: &Chosen, choice: Option<Disjunct>) -> Result<Chosen, NoMemory>
@@ -34,7 +33,7 @@ pub(crate) fn choose(
     rows: &[Disjuncts],
     spare: usize,
     chosen: &Chosen,
-    out: &mut Vec<Listed>,
+    out: &mut Vec<Linkage>,
 ) -> Result<(), NoMemory>
     requires positions { length chosen.now + length rows.now ≤ LINKAGE_POSITIONS }
     requires fit { All FitsChoice chosen.now }

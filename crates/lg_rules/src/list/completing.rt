@@ -10,7 +10,6 @@ ghost use Rattle.lg_rules.specs.Verdicts.{IsSound};
 
 use crate::checker::verdict_of;
 use crate::list::candidates::candidates;
-use crate::list::order::Listed;
 use crate::list::pruning::{all_reached, fits, is_covered};
 use crate::verdict::Verdict;
 use lg_base::NoMemory;
@@ -32,7 +31,7 @@ fn keep(
     alloc: Global,
     chosen: &Chosen,
     links: &[Link],
-    out: &mut Vec<Listed>,
+    out: &mut Vec<Linkage>,
 ) -> Result<(), NoMemory>
     requires positions { length chosen.now ≤ LINKAGE_POSITIONS }
     requires fit { All FitsChoice chosen.now }
@@ -42,7 +41,7 @@ fn keep(
 {
     if is_sound(chosen.items(), links) {
         let linkage = linkage_with(alloc, chosen, links)?;
-        out.push(Listed::of(linkage))?;
+        out.push(linkage)?;
     }
     Ok(())
 }
@@ -78,7 +77,7 @@ fn complete(
     chosen: &Chosen,
     rest: &[Link],
     taken: &mut Vec<Link>,
-    out: &mut Vec<Listed>,
+    out: &mut Vec<Linkage>,
 ) -> Result<(), NoMemory>
     requires positions { length chosen.now ≤ LINKAGE_POSITIONS }
     requires fit { All FitsChoice chosen.now }
@@ -106,7 +105,7 @@ fn complete(
 pub(crate) fn add_sound(
     alloc: Global,
     chosen: &Chosen,
-    out: &mut Vec<Listed>,
+    out: &mut Vec<Linkage>,
 ) -> Result<(), NoMemory>
     requires positions { length chosen.now ≤ LINKAGE_POSITIONS }
     requires fit { All FitsChoice chosen.now }

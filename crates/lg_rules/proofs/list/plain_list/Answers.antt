@@ -1,12 +1,9 @@
 use Rattle.std.proofs.Common.{arith, length, vec_len}
-use Rattle.lg_rules.proofs.Fewest.{as_long, told_apart, none_yet, are_candidates, never_beyond, empty, not_empty}
+use Rattle.lg_rules.proofs.Fewest.{of_one_problem, none_yet, are_candidates, never_beyond, empty, not_empty}
 use Rattle.lg_rules.proofs.list.plain_list.Goals as goal
 
-pub in_order-requires-clause-as_long : goal.in_order-requires-clause-as_long
-in_order-requires-clause-as_long c = as_long c.args.problem.now c.loop-spare.spare c.in_ok-all.all.items c.in_ok-all.ensures
-
-pub in_order-requires-clause-told_apart : goal.in_order-requires-clause-told_apart
-in_order-requires-clause-told_apart c = told_apart c.args.problem.now c.loop-spare.spare c.in_ok-all.all.items c.in_ok-all.ensures c.linkages_are_ordered.ensures.exact c.positions.ensures.limits
+pub in_order-requires : goal.in_order-requires
+in_order-requires c = of_one_problem c.args.problem.now c.loop-spare.spare c.in_ok-all.all.items c.in_ok-all.ensures c.positions.ensures.limits
 
 pub returns-then-not-is_empty : goal.returns-then-not-is_empty
 returns-then-not-is_empty c =

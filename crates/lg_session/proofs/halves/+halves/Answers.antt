@@ -1,8 +1,7 @@
-use Rattle.std.proofs.Common.{◌≡◌, ℕ, List, map, ◌++◌, ◌/◌, sym, ap, ◌∙◌, IfOk, take-append-drop}
-use mathlib.Core.List.{map-append}
+use Rattle.std.proofs.Common.{◌≡◌, ℕ, List, map, ◌++◌, ◌/◌, IfOk}
 use Rattle.lg_session.specs.declared.job.Job.{Job}
 use Rattle.lg_session.specs.Rows.{Ground, ground_of, AreDone}
-use Rattle.lg_session.proofs.Rows.{both_done}
+use Rattle.lg_session.proofs.Rows.{both_numbers, both_done}
 use Rattle.lg_session.proofs.halves.+halves.Goals as goal
 
 pub returns : goal.returns
@@ -12,10 +11,10 @@ returns g t c =
     let low : List Job = c.split_off.new.self.items in
     let high : List Job = c.in_ok-high.high.items in
     let cut = c.in_ok-high.ensures in
-    let whole : low ++ high ≡ c.args.jobs.items = (λ i. cut.items i ++ cut.tail i) ∙ take-append-drop (c.len-2.result / 2) c.args.jobs.items in
+    let numbers : map number c.args.jobs.items ≡ map number low ++ map number high = both_numbers c.args.jobs.items low high (c.len-2.result / 2) cut.items cut.tail in
     let first : IfOk c.join-first.result.0 (λ r. AreDone ground c.args.log.now (map number low) r.0 r.1.items) = c.join-first.ensures.first in
     let second : IfOk c.join-first.result.1 (λ r. AreDone ground c.args.log.now (map number high) r.0 r.1.items) = c.join-first.ensures.second in
     let joined = c.join.ensures in
     both_done c.joins_compose.ensures.compose ground c.args.log.now (map number low) (map number high) (map number c.args.jobs.items) c.in_ok-pass-2.pass c.in_ok-other.other c.join.new.self
-    c.in_ok-pass-2.lists.items c.in_ok-other.others.items c.append.new.self.items (ap (map number) (sym whole) ∙ map-append number low high) c.in_ok-append.ensures.items
+    c.in_ok-pass-2.lists.items c.in_ok-other.others.items c.append.new.self.items numbers c.in_ok-append.ensures.items
     (rw c.in_ok-pass-2.was at first) (rw c.in_ok-other.was at second) joined.joined joined.mine joined.others

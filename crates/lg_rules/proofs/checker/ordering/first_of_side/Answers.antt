@@ -14,5 +14,5 @@ returns-clause-none c = λ place p.
     let g = linkage_of c.args.chosen.now c.args.links.now in
     let within : place < length (side_of g c.args.right c.args.position) =
     place_within g c.requires.placed c.args.position c.args.right place p.0 p.2 p.4 in
-    let read : length c.connectors.result.now ≡ length (side_of g c.args.right c.args.position) = ap length c.connectors.ensures in
+    let read : length c.side.result.now ≡ length (side_of g c.args.right c.args.position) = ap length c.side.ensures in
     c.loop-place.invariant place (omega arith) p

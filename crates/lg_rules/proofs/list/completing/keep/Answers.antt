@@ -9,10 +9,11 @@ pub returns-in_ok-push : goal.returns-in_ok-push
 returns-in_ok-push c =
     let chosen = c.args.chosen.now in
     let links = c.args.links.now in
-    let is : c.of.result ≡ linkage_of chosen links = c.of.ensures ∙ c.in_ok-linkage.ensures in
+    let linkage = c.in_ok-linkage.linkage in
+    let is : linkage ≡ linkage_of chosen links = c.in_ok-linkage.ensures in
     let sound = rw c.items.ensures at (c.is_sound.ensures.0 c.if-is_sound.true) in
     rw c.in_ok-push.ensures.items
-    (adds_one (IsCompletion chosen links []) c.args.out.now.items c.of.result (subst (IsCompletion chosen links []) (sym is) (completion_here chosen links sound))
+    (adds_one (IsCompletion chosen links []) c.args.out.now.items linkage (subst (IsCompletion chosen links []) (sym is) (completion_here chosen links sound))
     (λ g q. is ∙ completion_ends chosen links g q))
 
 pub returns-else-is_sound : goal.returns-else-is_sound
