@@ -87,7 +87,7 @@ fn first_past<'a>(names: &'a [String], scripts: &[Commands]) -> Option<&'a str>
     ensures { MatchOption result
         (sum (edit_counts (script_views scripts.now)) ≤ EDITS)
         (λ name. (i : ℕ) × (slice_get (map string_bytes names.entry.now) i ≡ Some name.now)
-            × (sum (take i (edit_counts (script_views scripts.now))) ≤ EDITS) × (EDITS < sum (take (suc i) (edit_counts (script_views scripts.now))))) }
+        × (sum (take i (edit_counts (script_views scripts.now))) ≤ EDITS) × (EDITS < sum (take (suc i) (edit_counts (script_views scripts.now))))) }
 {
     let mut left = EDITS;
     for (name, commands) in names.iter().zip(scripts) {
