@@ -6,6 +6,7 @@ mod sessions;
 
 use lg_base::{MemFiles, MemSink, Sink};
 use lg_run::{Status, run};
+use lg_session::FreeGate;
 use std::alloc::Global;
 use std::process::Abort;
 use std::test::Fail;
@@ -29,7 +30,7 @@ fn expect<R: Abort + Threads + Sync>(
 ) -> Result<(), Fail> {
     let mut out = MemSink::new(alloc, ROOM)?;
     let mut err = MemSink::new(alloc, ROOM)?;
-    let answer = run(rt, alloc, words, &mut files, &mut out, &mut err);
+    let answer = run(rt, alloc, words, &mut files, &mut out, &mut err, &FreeGate);
     assert_eq!(rt; answer, status);
     assert_eq!(rt; out.bytes(), page.as_bytes());
     assert_eq!(rt; err.bytes(), line.as_bytes());

@@ -3,15 +3,12 @@ use Rattle.std.proofs.Common.{◌≡◌, ℕ, zero, suc, List, [], ◌∷◌, Co
 use Rattle.lg_dictread.specs.declared.dict_error.DictError.{DictError}
 use Rattle.lg_dictread.specs.declared.dict_error.DictError.TheVariants as errors
 use Rattle.lg_dictread.specs.Telling.{IsCause}
-use Rattle.lg_run.specs.Inputs.{Given}
 use Rattle.lg_run.specs.Reads.{IsOfLast, IsAbout}
 use Rattle.lg_run.specs.Stops.{stop_status, stop_line}
 use Rattle.lg_run.specs.Answers.{IsRefusal, too_long, dictionary, knowledge, script, too_many_edits}
-use Rattle.lg_run.specs.declared.inputs.Inputs.{Inputs}
 use Rattle.lg_run.specs.declared.status.Status.TheVariants.{BadInput}
 use Rattle.lg_run.specs.declared.stop.Stop.{Stop}
 use Rattle.lg_run.specs.declared.stop.Stop.TheVariants.{Memory, Unreadable, TooLong, Dictionary, Knowledge, Script, TooManyEdits}
-use Rattle.lg_run.proofs.Givens.{Gives}
 
 -- ---- names
 
@@ -25,7 +22,7 @@ only_name : (name : List ℕ) (names : Names) (x : List ℕ) → Contains (name 
 only_name name names x (zero, small, is) = (0, omega arith, is)
 only_name name names x (suc k, small, is) = absurd (omega (arith, small))
 
-later_name : (name : List ℕ) (names : Names) (x : List ℕ) → Contains names x → Contains (name ∷ names) x
+pub later_name : (name : List ℕ) (names : Names) (x : List ℕ) → Contains names x → Contains (name ∷ names) x
 later_name name names x (k, small, is) = (suc k, omega (arith, small), is)
 
 module _ (names more asked : Names) (wider : (x : List ℕ) → Contains names x → Contains more x) where
@@ -41,6 +38,14 @@ module _ (names more asked : Names) (wider : (x : List ℕ) → Contains names x
   result_more : {T : Type 0} (r : Result T Stop) → IfErr r (IsAbout names asked) → IfErr r (IsAbout more asked)
   result_more (Ok x) h = tt
   result_more (Err stop) h = about_more stop h
+
+one_name : (names : Names) (name : List ℕ) → Contains names name → (x : List ℕ) → Contains (name ∷ []) x → Contains names x
+one_name names name there x (zero, small, is) = subst (Contains names) is there
+one_name names name there x (suc k, small, is) = absurd (omega (arith, small))
+
+-- a stop that is about one of the names
+pub about_one : (names asked : Names) (name : List ℕ) (stop : Stop) → Contains names name → IsAbout (name ∷ []) asked stop → IsAbout names asked stop
+about_one names asked name stop there = about_more (name ∷ []) names asked (one_name names name there) stop
 
 -- a stop that is about the first name, or about a later one
 pub about_first : (name : List ℕ) (names asked : Names) (stop : Stop) → IsAbout (name ∷ []) asked stop → IsAbout (name ∷ names) asked stop
@@ -63,11 +68,6 @@ of_last before now asked (errors.TooManyNodes line n) h = tt
 of_last before now asked (errors.TooManyChoices line n) h = tt
 of_last before now asked (errors.SideTooLong line n) h = tt
 of_last before now asked (errors.DuplicateWord word n m) h = tt
-
--- memory is about no name
-pub given_about : (names asked : Names) (g : Given) (result : Result Inputs Stop) → Gives g result → IfErr result (IsAbout names asked)
-given_about names asked g (Ok inputs) is = tt
-given_about names asked g (Err stop) is = subst (IsAbout names asked) (sym is) tt
 
 -- ---- its line
 

@@ -6,9 +6,10 @@ pub mod Readings
 pub mod Dictionaries
 pub mod Ends
 pub mod About
+pub mod EditSums
+pub mod ScriptLists
 pub mod Verdicts
 pub mod Told
-pub mod Givens
 pub mod Writing
 pub mod Printed
 pub mod Turned

@@ -1,10 +1,14 @@
 -- The task that words are.
-use Rattle.std.proofs.Common.{◌≡◌, ℕ, Bool, true, false, cond, ◌≤◌, List, [], ◌∷◌, ◌++◌, length, get_or, codes, bytes_eq, IsTrue, Option, None, Some, refl, sym, ap, ◌∙◌, arith}
+use Rattle.std.proofs.Common.{◌≡◌, ℕ, Bool, true, false, cond, ◌≤◌, ◌==◌, List, [], ◌∷◌, ◌++◌, length, map, All, get_or, codes, bytes_eq, IsTrue, Option, None, Some, refl, sym, ap, ◌∙◌, arith}
+use Rattle.std.specs.List.{list_all}
+use Rattle.std.proofs.lemmas.Bool.Decides.{nat_tests}
+use Rattle.std.proofs.lemmas.List.Folds.{list_all-map}
+use Rattle.std.proofs.lemmas.List.Sums.{AllPass-from_list_all, list_all-from_AllPass}
 use Rattle.lg_answer.specs.Pages.{default_options}
 use Rattle.lg_answer.specs.declared.options.Options.{Options}
 use Rattle.lg_script.specs.Bounds.{IsCount}
 use Rattle.lg_script.specs.Commands.{IsNumber}
-use Rattle.lg_run.specs.Words.{Task, One, Run, IsKnown, want, examine, value_of, AreOptions, none, apart, joined, GivesNumber, Gives, OptionsAre, is_operand, SENTENCE, TaskIs, one, run, AreInRange}
+use Rattle.lg_run.specs.Words.{Task, One, Run, IsKnown, want, examine, value_of, AreOptions, none, apart, joined, GivesNumber, Gives, OptionsAre, is_operand, SENTENCE, SCRIPTS, TaskIs, one, run, AreInRange}
 use Rattle.lg_run.specs.Settings.{operand, IsCut}
 use Rattle.lg_run.specs.Commands.{option_words, task, IsCommand}
 use Rattle.lg_run.specs.declared.command.Command.{Command}
@@ -49,6 +53,10 @@ same_gives settings x y h k =
 
 -- ---- the task
 
+-- each word is an operand
+abbrev pub AreOperands : List (List ℕ) → Type 0
+AreOperands words = All (λ word. IsTrue (is_operand word)) words
+
 -- what holds of a task of the word `one`, by the words behind it
 pub record IsOneOf (words : List (List ℕ)) (task : Task) : Type 0 where
   pub front : List (List ℕ)
@@ -68,13 +76,13 @@ pub record IsRunOf (words : List (List ℕ)) (task : Task) : Type 0 where
   pub options : Options
   pub dictionary : List ℕ
   pub knowledge : List ℕ
-  pub script : List ℕ
-  pub same : task ≡ Run options dictionary knowledge script
-  pub split : words ≡ front ++ dictionary ∷ knowledge ∷ script ∷ []
+  pub scripts : List (List ℕ)
+  pub same : task ≡ Run options dictionary knowledge scripts
+  pub split : words ≡ front ++ dictionary ∷ knowledge ∷ scripts
   pub are : OptionsAre front options
-  pub dictionary_is : IsTrue (is_operand dictionary)
-  pub knowledge_is : IsTrue (is_operand knowledge)
-  pub script_is : IsTrue (is_operand script)
+  pub operands : AreOperands (dictionary ∷ knowledge ∷ scripts)
+  pub some : 1 ≤ length scripts
+  pub few : length scripts ≤ SCRIPTS
 
 one_is_not_run : codes "one" ≡ codes "run" → ⊥
 one_is_not_run e = let same : ◌≡◌ {A = ℕ} 111 114 = ap (λ (w : List ℕ). get_or w 0 0) e in absurd (omega arith)
@@ -92,29 +100,32 @@ is_one words task (one front options dictionary sentence are d s short) rest e =
   sentence_is = s;
   short = short;
 }
-is_one words task (run front options dictionary knowledge script are d k s) rest e = absurd (one_is_not_run cc)
+is_one words task (run front options dictionary knowledge scripts are operands some few) rest e = absurd (one_is_not_run cc)
 
 is_run : (words : List (List ℕ)) (task : Task) → TaskIs words task → (rest : List (List ℕ)) → words ≡ codes "run" ∷ rest → IsRunOf rest task
-is_run words task (run front options dictionary knowledge script are d k s) rest e = record {
+is_run words task (run front options dictionary knowledge scripts are operands some few) rest e = record {
   front = front;
   options = options;
   dictionary = dictionary;
   knowledge = knowledge;
-  script = script;
+  scripts = scripts;
   same = refl;
   split = cc;
   are = are;
-  dictionary_is = d;
-  knowledge_is = k;
-  script_is = s;
+  operands = operands;
+  some = some;
+  few = few;
 }
 is_run words task (one front options dictionary sentence are d s short) rest e = absurd (one_is_not_run cc)
+
+first_operand : (word : List ℕ) (words : List (List ℕ)) → AreOperands (word ∷ words) → IsTrue (is_operand word)
+first_operand word words operands = operands 0 [] (omega arith)
 
 one_cut : (words : List (List ℕ)) (task : Task) → (is : IsOneOf words task) → IsCut words is.front (is.dictionary ∷ is.sentence ∷ [])
 one_cut words task is = record { settings = is.are.settings; split = is.split; read = is.are.read; ends = operand is.dictionary (is.sentence ∷ []) is.dictionary_is }
 
-run_cut : (words : List (List ℕ)) (task : Task) → (is : IsRunOf words task) → IsCut words is.front (is.dictionary ∷ is.knowledge ∷ is.script ∷ [])
-run_cut words task is = record { settings = is.are.settings; split = is.split; read = is.are.read; ends = operand is.dictionary (is.knowledge ∷ is.script ∷ []) is.dictionary_is }
+run_cut : (words : List (List ℕ)) (task : Task) → (is : IsRunOf words task) → IsCut words is.front (is.dictionary ∷ is.knowledge ∷ is.scripts)
+run_cut words task is = record { settings = is.are.settings; split = is.split; read = is.are.read; ends = operand is.dictionary (is.knowledge ∷ is.scripts) (first_operand is.dictionary (is.knowledge ∷ is.scripts) is.operands) }
 
 cut_once : (words front other behind rest : List (List ℕ)) → (x : IsCut words front behind) → (y : IsCut words other rest) → (x.settings ≡ y.settings) × (behind ≡ rest)
 cut_once words front other behind rest x y = same_cut front x.settings x.read behind x.ends other y.settings y.read rest y.ends (sym x.split ∙ y.split)
@@ -138,17 +149,32 @@ module _ (words front behind : List (List ℕ)) (cut : IsCut words front behind)
       let is = is_one (codes "one" ∷ words) task h words refl in
       nowhere is.dictionary is.sentence (cut_once words front is.front behind _ cut (one_cut words task is)).1 is.dictionary_is is.sentence_is is.short
 
-  pub no_run : ((dictionary knowledge script : List ℕ) → behind ≡ dictionary ∷ knowledge ∷ script ∷ [] → IsTrue (is_operand dictionary) → IsTrue (is_operand knowledge) → IsTrue (is_operand script) → ⊥)
+  pub no_run : ((dictionary knowledge : List ℕ) (scripts : List (List ℕ)) → behind ≡ dictionary ∷ knowledge ∷ scripts → AreOperands (dictionary ∷ knowledge ∷ scripts) → 1 ≤ length scripts → length scripts ≤ SCRIPTS → ⊥)
       → (task : Task) → TaskIs (codes "run" ∷ words) task → ⊥
   no_run nowhere task h =
       let is = is_run (codes "run" ∷ words) task h words refl in
-      nowhere is.dictionary is.knowledge is.script (cut_once words front is.front behind _ cut (run_cut words task is)).1 is.dictionary_is is.knowledge_is is.script_is
+      nowhere is.dictionary is.knowledge is.scripts (cut_once words front is.front behind _ cut (run_cut words task is)).1 is.operands is.some is.few
 
 pub first_two : (a b c d : List ℕ) → a ∷ b ∷ [] ≡ c ∷ d ∷ [] → (a ≡ c) × (b ≡ d)
 first_two a b c d e = (cc, cc)
 
-pub first_three : (a b c d e f : List ℕ) → a ∷ b ∷ c ∷ [] ≡ d ∷ e ∷ f ∷ [] → (a ≡ d) × (b ≡ e) × (c ≡ f)
-first_three a b c d e f h = (cc, cc, cc)
+pub first_and_rest : (a b d e : List ℕ) (c f : List (List ℕ)) → a ∷ b ∷ c ≡ d ∷ e ∷ f → (a ≡ d) × (b ≡ e) × (c ≡ f)
+first_and_rest a b d e c f h = (cc, cc, cc)
+
+-- by the test that there is none
+pub is_none : (n : ℕ) → true ≡ (n == 0) → n ≡ 0
+is_none n e = grind (arith, nat_tests)
+
+pub is_some : (n : ℕ) → false ≡ (n == 0) → 1 ≤ n
+is_some n e = grind (arith, nat_tests)
+
+-- each is an operand by the test of all
+module _ {A : Type 0} (text : A → List ℕ) (words : List A) where
+  pub operands_by : true ≡ list_all (λ word. is_operand (text word)) words → AreOperands (map text words)
+  operands_by e = AllPass-from_list_all is_operand (map text words) (list_all-map is_operand text words ∙ sym e)
+
+  pub operands_not : false ≡ list_all (λ word. is_operand (text word)) words → AreOperands (map text words) → ⊥
+  operands_not e h = let clash : false ≡ true = e ∙ sym (list_all-map is_operand text words) ∙ list_all-from_AllPass is_operand (map text words) h in cc
 
 -- ---- a command
 
@@ -165,17 +191,17 @@ is_one_command words command dictionary sentence task_is cut d s short =
       short = rw (task_is g.0) short;
     }
 
-pub is_run_command : (words : List (List ℕ)) (command : Command) (dictionary knowledge script : List ℕ) → ((options : Options) → task options command ≡ Run options dictionary knowledge script)
-    → IsCut words (option_words command) (dictionary ∷ knowledge ∷ script ∷ []) → IsTrue (is_operand dictionary) → IsTrue (is_operand knowledge) → IsTrue (is_operand script) → IsCommand (codes "run" ∷ words) command
-is_run_command words command dictionary knowledge script task_is cut d k s =
+pub is_run_command : (words : List (List ℕ)) (command : Command) (dictionary knowledge : List ℕ) (scripts : List (List ℕ)) → ((options : Options) → task options command ≡ Run options dictionary knowledge scripts)
+    → IsCut words (option_words command) (dictionary ∷ knowledge ∷ scripts) → AreOperands (dictionary ∷ knowledge ∷ scripts) → 1 ≤ length scripts → length scripts ≤ SCRIPTS → IsCommand (codes "run" ∷ words) command
+is_run_command words command dictionary knowledge scripts task_is cut operands some few =
     let g = gives_some (option_words command) cut.settings cut.read in
     let are : OptionsAre (option_words command) g.0 = record { settings = cut.settings; read = cut.read; given = g.1 } in
     record {
       options = g.0;
       are_options = are;
-      is_task = rw (task_is g.0, cut.split) (run (option_words command) g.0 dictionary knowledge script are d k s);
+      is_task = rw (task_is g.0, cut.split) (run (option_words command) g.0 dictionary knowledge scripts are operands some few);
       range = g.2;
-      short = rw (task_is g.0) tt;
+      short = rw (task_is g.0) (some, few);
     }
 
 -- ---- a task is the only one
@@ -187,7 +213,7 @@ same_options front other x y h k e = same_gives h.settings x y h.given (rw e k.g
 same_one : (x y : Options) (d e s t : List ℕ) → x ≡ y → d ≡ e → s ≡ t → One x d s ≡ One y e t
 same_one x y d e s t f g h = rw (f, g, h) refl
 
-same_run : (x y : Options) (d e k l s t : List ℕ) → x ≡ y → d ≡ e → k ≡ l → s ≡ t → Run x d k s ≡ Run y e l t
+same_run : (x y : Options) (d e k l : List ℕ) (s t : List (List ℕ)) → x ≡ y → d ≡ e → k ≡ l → s ≡ t → Run x d k s ≡ Run y e l t
 same_run x y d e k l s t f g h i = rw (f, g, h, i) refl
 
 pub one_task : (words : List (List ℕ)) (x y : Task) → TaskIs words x → TaskIs words y → x ≡ y
@@ -199,11 +225,11 @@ one_task words x y (one front options dictionary sentence are d s short) k =
     let cut = cut_once rest front is.front _ _ own that in
     let words_same = first_two _ _ _ _ cut.1 in
     same_one options is.options dictionary is.dictionary sentence is.sentence (same_options front is.front options is.options are is.are cut.0) words_same.0 words_same.1 ∙ sym is.same
-one_task words x y (run front options dictionary knowledge script are d l s) k =
-    let rest = front ++ dictionary ∷ knowledge ∷ script ∷ [] in
-    let own : IsCut rest front (dictionary ∷ knowledge ∷ script ∷ []) = record { settings = are.settings; split = refl; read = are.read; ends = operand dictionary (knowledge ∷ script ∷ []) d } in
+one_task words x y (run front options dictionary knowledge scripts are operands some few) k =
+    let rest = front ++ dictionary ∷ knowledge ∷ scripts in
+    let own : IsCut rest front (dictionary ∷ knowledge ∷ scripts) = record { settings = are.settings; split = refl; read = are.read; ends = operand dictionary (knowledge ∷ scripts) (first_operand dictionary (knowledge ∷ scripts) operands) } in
     let is = is_run words y k rest refl in
-    let that : IsCut rest is.front (is.dictionary ∷ is.knowledge ∷ is.script ∷ []) = record { settings = is.are.settings; split = is.split; read = is.are.read; ends = operand is.dictionary (is.knowledge ∷ is.script ∷ []) is.dictionary_is } in
+    let that : IsCut rest is.front (is.dictionary ∷ is.knowledge ∷ is.scripts) = record { settings = is.are.settings; split = is.split; read = is.are.read; ends = operand is.dictionary (is.knowledge ∷ is.scripts) (first_operand is.dictionary (is.knowledge ∷ is.scripts) is.operands) } in
     let cut = cut_once rest front is.front _ _ own that in
-    let words_same = first_three _ _ _ _ _ _ cut.1 in
-    same_run options is.options dictionary is.dictionary knowledge is.knowledge script is.script (same_options front is.front options is.options are is.are cut.0) words_same.0 words_same.1 words_same.2 ∙ sym is.same
+    let words_same = first_and_rest _ _ _ _ _ _ cut.1 in
+    same_run options is.options dictionary is.dictionary knowledge is.knowledge scripts is.scripts (same_options front is.front options is.options are is.are cut.0) words_same.0 words_same.1 words_same.2 ∙ sym is.same

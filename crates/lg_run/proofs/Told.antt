@@ -1,6 +1,5 @@
 -- What is told of a text that names no further file.
-use Rattle.std.proofs.Common.{◌≤◌, ◌<◌, ℕ, List, [], count_by, if◌then◌else◌, Ok, Err, sym, ap, subst}
-use Rattle.std.proofs.lemmas.Bool.{lt-ltb, le-ltb}
+use Rattle.std.proofs.Common.{ℕ, List, [], Ok, Err, sym}
 use Rattle.std.proofs.lemmas.List.{append-nil}
 use Rattle.lg_knowread.specs.declared.fault.KnowError.{KnowError}
 use Rattle.lg_knowread.specs.declared.fault.KnowError.TheVariants as know_errors
@@ -9,8 +8,8 @@ use Rattle.lg_script.specs.declared.script_error.ScriptError.{ScriptError}
 use Rattle.lg_script.specs.declared.script_error.ScriptError.TheVariants as script_errors
 use Rattle.lg_script.specs.Commands.{CommandView}
 use Rattle.lg_script.specs.Scripts.{ScriptIs}
-use Rattle.lg_run.specs.Inputs.{Found, Reading, accepted, refused, EDITS, is_edit, KnowledgeReads, reads_knowledge, ScriptReads, reads_script}
-use Rattle.lg_run.specs.Lines.{know_line, script_line, edits_line}
+use Rattle.lg_run.specs.Inputs.{Found, Reading, accepted, refused, KnowledgeReads, reads_knowledge, ScriptReads, reads_script}
+use Rattle.lg_run.specs.Lines.{know_line, script_line}
 use Rattle.lg_run.specs.Reads.{Comes, TellsStop}
 use Rattle.lg_run.specs.Stops.{know_status, script_status}
 
@@ -45,11 +44,5 @@ module _ (name bytes : List ℕ) where
   told_script (script_errors.BadNumber line) h asked = refused_script (script_errors.BadNumber line) h asked
   told_script (script_errors.BadEdit line) h asked = refused_script (script_errors.BadEdit line) h asked
 
-  module _ (commands : List CommandView) (is : ScriptIs bytes (Ok commands)) (asked : List (List ℕ)) where
-    pub few_edits : count_by is_edit commands ≤ EDITS → Comes (ScriptReads name bytes) asked asked (accepted commands)
-    few_edits few = comes_at_once (ScriptReads name bytes) (accepted commands)
-        (subst (λ (f : Found (List CommandView)). ScriptReads name bytes [] f) (ap (λ b. if b then refused (edits_line name) else accepted commands) (le-ltb EDITS (count_by is_edit commands) few)) (reads_script (Ok commands) is)) asked
-
-    pub many_edits : EDITS < count_by is_edit commands → Comes (ScriptReads name bytes) asked asked (refused (edits_line name))
-    many_edits many = comes_at_once (ScriptReads name bytes) (refused (edits_line name))
-        (subst (λ (f : Found (List CommandView)). ScriptReads name bytes [] f) (ap (λ b. if b then refused (edits_line name) else accepted commands) (lt-ltb EDITS (count_by is_edit commands) many)) (reads_script (Ok commands) is)) asked
+  pub read_script_told : (commands : List CommandView) → ScriptIs bytes (Ok commands) → (asked : List (List ℕ)) → Comes (ScriptReads name bytes) asked asked (accepted commands)
+  read_script_told commands is asked = comes_at_once (ScriptReads name bytes) (accepted commands) (reads_script (Ok commands) is) asked

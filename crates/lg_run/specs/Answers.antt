@@ -1,5 +1,5 @@
 -- What each status says of a run.
-use Rattle.std.specs.Prelude.{◌≡◌, ℕ, ◌≤◌, ◌<◌, ◌^◌, List, [], ◌∷◌, length, All, Contains, ⊤, ◌⊎◌, IfSome, Result, Ok, Err}
+use Rattle.std.specs.Prelude.{◌≡◌, ℕ, ◌≤◌, ◌<◌, ◌^◌, List, [], ◌∷◌, length, Contains, ⊤, ◌⊎◌, IfSome, Result, Ok, Err}
 use Rattle.std.specs.declared.option.Option.{Option}
 use Rattle.std.specs.Io.KnownBytes.{Appends, Keeps}
 use Rattle.lg_base.specs.Contents.{Contents}
@@ -8,8 +8,8 @@ use Rattle.lg_base.specs.Files.{EndsWith}
 use Rattle.lg_base.specs.Sinks.{AppendsFront}
 use Rattle.lg_dictread.specs.declared.dict_error.DictError.{DictError}
 use Rattle.lg_knowread.specs.declared.fault.KnowError.{KnowError}
-use Rattle.lg_script.specs.Bounds.{AreInBounds}
 use Rattle.lg_script.specs.declared.script_error.ScriptError.{ScriptError}
+use Rattle.lg_session.specs.Codes.{AreScripts}
 use Rattle.lg_run.specs.Words.{Task, One, Run, TaskIs, SENTENCE, AreInRange}
 use Rattle.lg_run.specs.Inputs.{Reading, accepted, refused, Given, OneGiven, RunGiven, InputsAre}
 use Rattle.lg_run.specs.Reads.{Comes, IsOfLast}
@@ -89,7 +89,7 @@ AnswersAccepted inputs all_read all_written status =
 -- the files that the words of a task name
 abbrev pub names_of : Task → List (List ℕ)
 names_of (One options dictionary sentence) = dictionary ∷ []
-names_of (Run options dictionary knowledge script) = dictionary ∷ knowledge ∷ script ∷ []
+names_of (Run options dictionary knowledge scripts) = dictionary ∷ knowledge ∷ scripts
 
 -- what is said of a text that is refused: of a file with one of these names, or of the word file that was asked last
 pub data IsRefusal (names asked : List (List ℕ)) : List ℕ → Type 0 where
@@ -149,4 +149,4 @@ IsStopped WriteFault = ⊥
 -- the limits that words and texts keep to: a sentence's length, the number of rules, and those of the scripts' commands
 abbrev pub IsGivenInBounds : Given → Type 0
 IsGivenInBounds (OneGiven options dict sentence) = AreInRange options × (length sentence ≤ SENTENCE)
-IsGivenInBounds (RunGiven options dict know scripts) = AreInRange options × (length know.rules < 2 ^ 32) × (length scripts ≡ 1) × All AreInBounds scripts
+IsGivenInBounds (RunGiven options dict know scripts) = AreInRange options × (length know.rules < 2 ^ 32) × AreScripts scripts

@@ -8,12 +8,12 @@ use Rattle.lg_run.specs.declared.command.Command.TheVariants as command
 -- the words that are its options
 abbrev pub option_words : Command → List (List ℕ)
 option_words (command.One options dictionary sentence) = map string_bytes options.now
-option_words (command.Run options dictionary knowledge script) = map string_bytes options.now
+option_words (command.Run options dictionary knowledge scripts) = map string_bytes options.now
 
 -- what it asks for, where its options are these
 abbrev pub task : Options → Command → Task
 task options (command.One words dictionary sentence) = One options dictionary.now sentence.now
-task options (command.Run words dictionary knowledge script) = Run options dictionary.now knowledge.now script.now
+task options (command.Run words dictionary knowledge scripts) = Run options dictionary.now knowledge.now (map string_bytes scripts.now)
 
 -- the command that the words are
 pub record IsCommand (words : List (List ℕ)) (c : Command) : Type 0 where

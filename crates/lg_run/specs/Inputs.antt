@@ -1,5 +1,5 @@
 -- What comes of the inputs of a command, by the words and by what the files hold.
-use Rattle.std.specs.Prelude.{◌≡◌, ℕ, ◌<◌, ◌≤◌, nat_lt, Bool, true, false, List, [], ◌∷◌, ◌++◌, length, map, count_by, Result, Ok, Err, if◌then◌else◌}
+use Rattle.std.specs.Prelude.{◌≡◌, ℕ, suc, ◌<◌, ◌≤◌, List, [], ◌∷◌, ◌++◌, length, map, take, sum, slice_get, Result, Ok, Err}
 use Rattle.std.specs.List.{flat_map}
 use Rattle.std.specs.FinMap.{from_entries}
 use Rattle.std.specs.declared.option.Option.TheVariants.{None, Some}
@@ -12,7 +12,8 @@ use Rattle.lg_dictread.specs.Texts.{Meaning, TextAnswer, stands, refuse, Diction
 use Rattle.lg_knowread.specs.declared.fault.KnowError.{KnowError}
 use Rattle.lg_knowread.specs.declared.knowledge.Knowledge.{Knowledge}
 use Rattle.lg_knowread.specs.Reading.{KnowledgeIs}
-use Rattle.lg_script.specs.Commands.{CommandView, makes}
+use Rattle.lg_script.specs.Commands.{CommandView}
+use Rattle.lg_script.specs.EditNumbers.{edit_counts}
 use Rattle.lg_script.specs.Scripts.{Outcome, ScriptIs}
 use Rattle.lg_answer.specs.declared.options.Options.{Options}
 use Rattle.lg_run.specs.Words.{Task, One, Run}
@@ -86,17 +87,9 @@ pub data KnowledgeReads (name bytes : List ℕ) : List (List ℕ) → Found Know
 abbrev pub KnowledgeInput : Contents → List ℕ → Reading Knowledge
 KnowledgeInput contents name = Followed (FileIs contents name) (KnowledgeReads name)
 
--- the most edits of all scripts
-abbrev pub EDITS : ℕ
-EDITS = 100000
-
-abbrev pub is_edit : CommandView → Bool
-is_edit (makes edit) = true
-is_edit _ = false
-
 -- what comes of a script of this name
 abbrev pub found_script : List ℕ → Outcome → Found (List CommandView)
-found_script name (Ok commands) = if nat_lt EDITS (count_by is_edit commands) then refused (edits_line name) else accepted commands
+found_script name (Ok commands) = accepted commands
 found_script name (Err error) = refused (script_line name error)
 
 pub data ScriptReads (name bytes : List ℕ) : List (List ℕ) → Found (List CommandView) → Type 0 where
@@ -106,6 +99,21 @@ pub data ScriptReads (name bytes : List ℕ) : List (List ℕ) → Found (List C
 abbrev pub ScriptInput : Contents → List ℕ → Reading (List CommandView)
 ScriptInput contents name = Followed (FileIs contents name) (ScriptReads name)
 
+-- the scripts of these names, one after another
+abbrev pub ScriptsInput : Contents → List (List ℕ) → Reading (List (List CommandView))
+ScriptsInput contents [] = given []
+ScriptsInput contents (name ∷ names) = Followed (ScriptInput contents name) (λ commands. Followed (ScriptsInput contents names) (λ more. given (commands ∷ more)))
+
+-- the most edits of all scripts
+abbrev pub EDITS : ℕ
+EDITS = 100000
+
+-- once all are read: where they have more edits together, the script with which they pass the limit is refused
+pub data EditsRead (names : List (List ℕ)) (scripts : List (List CommandView)) : List (List ℕ) → Found (List (List CommandView)) → Type 0 where
+  few : sum (edit_counts scripts) ≤ EDITS → EditsRead names scripts [] (accepted scripts)
+  many : (i : ℕ) (name : List ℕ) → slice_get names i ≡ Some name → sum (take i (edit_counts scripts)) ≤ EDITS → EDITS < sum (take (suc i) (edit_counts scripts))
+      → EditsRead names scripts [] (refused (edits_line name))
+
 -- what a command has in hand once all its inputs are accepted, and how it lists
 pub data Given : Type 0 where
   -- a dictionary and a sentence
@@ -113,14 +121,14 @@ pub data Given : Type 0 where
   -- a dictionary, knowledge and the scripts of sessions
   RunGiven : Options → Dictionary → Knowledge → List (List CommandView) → Given
 
--- the inputs of a session: the dictionary, the knowledge and the script
-abbrev pub ScriptGiven : Contents → Options → Dictionary → Knowledge → List ℕ → Reading Given
-ScriptGiven contents options dict know script = Followed (ScriptInput contents script) (λ commands. given (RunGiven options dict know (commands ∷ [])))
+-- the inputs of sessions: the dictionary, the knowledge and the scripts
+abbrev pub ScriptsGiven : Contents → Options → Dictionary → Knowledge → List (List ℕ) → Reading Given
+ScriptsGiven contents options dict know names = Followed (Followed (ScriptsInput contents names) (EditsRead names)) (λ scripts. given (RunGiven options dict know scripts))
 
-abbrev pub KnowledgeGiven : Contents → Options → Dictionary → List ℕ → List ℕ → Reading Given
-KnowledgeGiven contents options dict knowledge script = Followed (KnowledgeInput contents knowledge) (λ know. ScriptGiven contents options dict know script)
+abbrev pub KnowledgeGiven : Contents → Options → Dictionary → List ℕ → List (List ℕ) → Reading Given
+KnowledgeGiven contents options dict knowledge names = Followed (KnowledgeInput contents knowledge) (λ know. ScriptsGiven contents options dict know names)
 
 -- the inputs of a command
 abbrev pub InputsAre : Contents → Task → Reading Given
 InputsAre contents (One options dictionary sentence) = Followed (DictionaryInput contents dictionary) (λ dict. given (OneGiven options dict sentence))
-InputsAre contents (Run options dictionary knowledge script) = Followed (DictionaryInput contents dictionary) (λ dict. KnowledgeGiven contents options dict knowledge script)
+InputsAre contents (Run options dictionary knowledge scripts) = Followed (DictionaryInput contents dictionary) (λ dict. KnowledgeGiven contents options dict knowledge scripts)

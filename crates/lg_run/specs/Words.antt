@@ -1,5 +1,5 @@
 -- The form of the words of the command line: `one` or `run`, then options, then operands.
-use Rattle.std.specs.Prelude.{◌≡◌, ℕ, ◌≤◌, Bool, false, not, IsTrue, List, [], ◌∷◌, ◌++◌, codes, nat_eq, bytes_eq, length, Option, None, Some, if◌then◌else◌, ⊤}
+use Rattle.std.specs.Prelude.{◌≡◌, ℕ, ◌≤◌, Bool, false, not, IsTrue, List, [], ◌∷◌, ◌++◌, codes, nat_eq, bytes_eq, length, All, Option, None, Some, if◌then◌else◌}
 use Rattle.lg_answer.specs.Pages.{default_options}
 use Rattle.lg_answer.specs.declared.options.Options.{Options}
 use Rattle.lg_script.specs.Bounds.{IsCount}
@@ -9,8 +9,8 @@ use Rattle.lg_script.specs.Commands.{IsNumber}
 pub data Task : Type 0 where
   -- the linkages of one sentence: how they are listed, the name of the dictionary, and the sentence
   One : Options → List ℕ → List ℕ → Task
-  -- the answers to a script: how linkages are listed, and the names of the dictionary, of the knowledge and of the script
-  Run : Options → List ℕ → List ℕ → List ℕ → Task
+  -- the answers to scripts: how linkages are listed, and the names of the dictionary, of the knowledge and of the scripts
+  Run : Options → List ℕ → List ℕ → List (List ℕ) → Task
 
 -- ---- options
 
@@ -62,23 +62,27 @@ is_operand word = not (begins_with_dash word)
 abbrev pub SENTENCE : ℕ
 SENTENCE = 67108864
 
+-- the most scripts
+abbrev pub SCRIPTS : ℕ
+SCRIPTS = 64
+
 -- ---- commands
 
--- `one OPTIONS DICT SENTENCE` and `run OPTIONS DICT KNOWLEDGE SCRIPT`
+-- `one OPTIONS DICT SENTENCE` and `run OPTIONS DICT KNOWLEDGE SCRIPT..`, with 1 to 64 scripts
 pub data TaskIs : List (List ℕ) → Task → Type 0 where
   one : (front : List (List ℕ)) (options : Options) (dictionary sentence : List ℕ) → OptionsAre front options
       → IsTrue (is_operand dictionary) → IsTrue (is_operand sentence) → length sentence ≤ SENTENCE
       → TaskIs (codes "one" ∷ (front ++ dictionary ∷ sentence ∷ [])) (One options dictionary sentence)
-  run : (front : List (List ℕ)) (options : Options) (dictionary knowledge script : List ℕ) → OptionsAre front options
-      → IsTrue (is_operand dictionary) → IsTrue (is_operand knowledge) → IsTrue (is_operand script)
-      → TaskIs (codes "run" ∷ (front ++ dictionary ∷ knowledge ∷ script ∷ [])) (Run options dictionary knowledge script)
+  run : (front : List (List ℕ)) (options : Options) (dictionary knowledge : List ℕ) (scripts : List (List ℕ)) → OptionsAre front options
+      → All (λ word. IsTrue (is_operand word)) (dictionary ∷ knowledge ∷ scripts) → 1 ≤ length scripts → length scripts ≤ SCRIPTS
+      → TaskIs (codes "run" ∷ (front ++ dictionary ∷ knowledge ∷ scripts)) (Run options dictionary knowledge scripts)
 
 -- ---- what holds of each task
 
--- its sentence is no longer than a sentence may be
+-- its sentence is no longer than a sentence may be, and its scripts are no more than there may be
 abbrev pub IsShort : Task → Type 0
 IsShort (One options dictionary sentence) = length sentence ≤ SENTENCE
-IsShort (Run options dictionary knowledge script) = ⊤
+IsShort (Run options dictionary knowledge scripts) = (1 ≤ length scripts) × (length scripts ≤ SCRIPTS)
 
 -- its numbers are those that an option may set
 abbrev pub AreInRange : Options → Type 0

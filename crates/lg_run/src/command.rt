@@ -1,6 +1,7 @@
 //! The words of the command line. Their form is tested without taking memory.
 ghost use Rattle.std.specs.Prelude.{◌≡◌, ℕ, List, [], ◌∷◌, MatchOption, map, string_bytes, codes};
-ghost use Rattle.lg_run.specs.Words.{Task, TaskIs};
+ghost use Rattle.std.specs.List.{list_all};
+ghost use Rattle.lg_run.specs.Words.{Task, TaskIs, is_operand};
 ghost use Rattle.lg_run.specs.Commands.{option_words, IsCommand};
 
 use crate::options::{cut_options, is_operand};
@@ -15,12 +16,12 @@ pub enum Command<'a> {
         dictionary: &'a str,
         sentence: &'a str,
     },
-    /// The answers to a script.
+    /// The answers to scripts.
     Run {
         options: &'a [String],
         dictionary: &'a str,
         knowledge: &'a str,
-        script: &'a str,
+        scripts: &'a [String],
     },
 }
 
@@ -38,12 +39,15 @@ impl<'a> Command<'a> {
 // The most bytes of a sentence: as many as a file may have.
 const SENTENCE: usize = FILE as usize;
 
+// The most scripts.
+const SCRIPTS: usize = 64;
+
 /// The command that the words ask for. None where they are in no form.
 ///
 /// The first word is `one` or `run`. Options follow, each at most once and in either order: `--want N` or `--want=N`, and
 /// `--examine N` or `--examine=N`, where N is one to seven digits that write a number from 1 to 1,000,000. Where an option
 /// is left out, want is 10 and examine is 1000. Operands are last, and none of them begins with `-`: `one` has two, DICT
-/// and SENTENCE, of which the second has at most 67,108,864 bytes, and `run` has three, DICT, KNOWLEDGE and SCRIPT.
+/// and SENTENCE, of which the second has at most 67,108,864 bytes, and `run` has DICT, KNOWLEDGE and 1 to 64 scripts.
 pub fn command_of(words: &[String]) -> Option<Command<'_>>
     ensures { MatchOption result
         ((t : Task) → TaskIs (map string_bytes words.now) t → ⊥)
@@ -80,15 +84,15 @@ fn run_of(words: &[String]) -> Option<Command<'_>>
         (IsCommand (codes "run" ∷ map string_bytes words.now)) }
 {
     let cut = cut_options(words)?;
-    let (dictionary, knowledge, script) = three_of(cut.behind)?;
-    if !is_operand(dictionary) || !is_operand(knowledge) || !is_operand(script) {
+    let (dictionary, knowledge, scripts) = two_and_more(cut.behind)?;
+    if scripts.is_empty() || scripts.len() > SCRIPTS || !are_operands(cut.behind) {
         return None;
     }
     Some(Command::Run {
         options: cut.options,
         dictionary,
         knowledge,
-        script,
+        scripts,
     })
 }
 
@@ -98,21 +102,27 @@ fn two_of(words: &[String]) -> Option<(&str, &str)>
         ((a b : List ℕ) → map string_bytes words.now ≡ a ∷ b ∷ [] → ⊥)
         (λ two. map string_bytes words.now ≡ two.0.now ∷ two.1.now ∷ []) }
 {
-    let (first, rest) = words.split_first()?;
-    let (second, rest) = rest.split_first()?;
+    let (first, second, rest) = two_and_more(words)?;
     if !rest.is_empty() {
         return None;
     }
-    Some((first.as_str(), second.as_str()))
+    Some((first, second))
 }
 
-// The words, where there are three.
-fn three_of(words: &[String]) -> Option<(&str, &str, &str)>
+// The first two words and those behind them, where there are two.
+fn two_and_more(words: &[String]) -> Option<(&str, &str, &[String])>
     ensures { MatchOption result
-        ((a b c : List ℕ) → map string_bytes words.now ≡ a ∷ b ∷ c ∷ [] → ⊥)
-        (λ three. map string_bytes words.now ≡ three.0.now ∷ three.1.now ∷ three.2.now ∷ []) }
+        ((a b : List ℕ) (behind : List (List ℕ)) → map string_bytes words.now ≡ a ∷ b ∷ behind → ⊥)
+        (λ cut. map string_bytes words.now ≡ cut.0.now ∷ cut.1.now ∷ map string_bytes cut.2.now) }
 {
     let (first, rest) = words.split_first()?;
-    let (second, third) = two_of(rest)?;
-    Some((first.as_str(), second, third))
+    let (second, behind) = rest.split_first()?;
+    Some((first.as_str(), second.as_str(), behind))
+}
+
+// Whether each word is an operand.
+fn are_operands(words: &[String]) -> bool
+    ensures { result ≡ list_all (λ word. is_operand (string_bytes word)) words.now }
+{
+    words.iter().all(|word| is_operand(word))
 }

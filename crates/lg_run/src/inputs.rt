@@ -1,24 +1,22 @@
 //! The inputs of a command, read and taken apart in order.
-ghost use Rattle.std.specs.Prelude.{◌≡◌, ◌≤◌, ◌<◌, ◌^◌, [], ◌∷◌, length, map, IfSome, IfOk, IfErr, MatchResult};
+ghost use Rattle.std.specs.Prelude.{◌≡◌, ◌≤◌, ◌<◌, ◌^◌, [], ◌∷◌, length, map, string_bytes, IfSome, IfOk, IfErr};
 ghost use Rattle.lg_dictread.specs.Limits.{FILE};
-ghost use Rattle.lg_script.specs.Bounds.{AreInBounds};
-ghost use Rattle.lg_script.specs.Commands.{command_view};
 ghost use Rattle.lg_run.specs.Commands.{task};
-ghost use Rattle.lg_run.specs.Words.{One, Run, IsShort, AreInRange, SENTENCE};
-ghost use Rattle.lg_run.specs.Inputs.{FileIs, DictionaryReads, DictionaryInput, KnowledgeGiven, ScriptGiven, RunGiven, InputsAre};
+ghost use Rattle.lg_run.specs.Words.{One, Run, IsShort, AreInRange, SENTENCE, SCRIPTS};
+ghost use Rattle.lg_run.specs.Inputs.{FileIs, DictionaryReads, DictionaryInput, KnowledgeGiven, ScriptsGiven, InputsAre};
 ghost use Rattle.lg_run.specs.Reads.{AsksInOrder, Tells, HasCause, IsAbout, given_in};
 ghost use Rattle.lg_run.specs.Answers.{names_of, IsGivenInBounds};
 
 use crate::command::Command;
 use crate::knowledge::read_know;
-use crate::script::read_commands;
+use crate::script::read_scripts;
 use crate::stop::Stop;
 use lg_answer::Options;
 use lg_base::{FileError, Files, NoMemory};
 use lg_dict::Dict;
 use lg_dictread::{FILE, exactly_one_dictionary, read_dict};
 use lg_knowread::{Knowledge, exactly_one_knowledge};
-use lg_script::{Command as Asked, Commands, Scripts, exactly_one_script};
+use lg_script::{Scripts, exactly_one_script};
 use std::alloc::Global;
 
 /// The inputs of a command.
@@ -61,9 +59,9 @@ pub fn read_inputs<'a, F: Files>(
         Command::Run {
             dictionary,
             knowledge,
-            script,
+            scripts,
             ..
-        } => inputs_of_run(alloc, files, options, dictionary, knowledge, script),
+        } => inputs_of_run(alloc, files, options, dictionary, knowledge, scripts),
     }
 }
 
@@ -94,95 +92,81 @@ fn inputs_of_one<'a, F: Files>(
     }
 }
 
-/// A dictionary, knowledge and a script.
+/// A dictionary, knowledge and scripts.
 fn inputs_of_run<'a, F: Files>(
     alloc: Global,
     files: &mut F,
     options: Options,
     dictionary: &'a str,
     knowledge: &'a str,
-    script: &'a str,
+    scripts: &'a [String],
 ) -> Result<Inputs<'a>, Stop<'a>>
-    requires { AreInRange options }
-    ensures names { IfSome (F.contents files.old) (λ known. AsksInOrder (InputsAre known (Run options dictionary.now knowledge.now script.now)) (F.asked files.old) (F.asked files.new)) }
-    ensures told { IfSome (F.contents files.old) (λ known. Tells given_in (InputsAre known (Run options dictionary.now knowledge.now script.now)) (F.asked files.old) (F.asked files.new) result) }
+    requires range { AreInRange options }
+    requires scripts { (1 ≤ length scripts.now) × (length scripts.now ≤ SCRIPTS) }
+    ensures names { IfSome (F.contents files.old) (λ known. AsksInOrder (InputsAre known (Run options dictionary.now knowledge.now (map string_bytes scripts.now))) (F.asked files.old) (F.asked files.new)) }
+    ensures told { IfSome (F.contents files.old) (λ known. Tells given_in (InputsAre known (Run options dictionary.now knowledge.now (map string_bytes scripts.now))) (F.asked files.old) (F.asked files.new) result) }
     ensures bounds { IfOk result (λ inputs. IsGivenInBounds (given_in inputs)) }
     ensures cause { HasCause (F.asked files.new) (F.faults files.old) (F.faults files.new) result }
-    ensures about { IfErr result (IsAbout (dictionary.now ∷ knowledge.now ∷ script.now ∷ []) (F.asked files.new)) }
+    ensures about { IfErr result (IsAbout (dictionary.now ∷ knowledge.now ∷ map string_bytes scripts.now) (F.asked files.new)) }
 {
     exactly_one_dictionary();
     match read_dictionary(alloc, files, dictionary) {
-        Ok(dict) => after_dictionary(alloc, files, options, dict, knowledge, script),
+        Ok(dict) => after_dictionary(alloc, files, options, dict, knowledge, scripts),
         Err(stop) => Err(stop),
     }
 }
 
-/// Knowledge and a script, where the dictionary is in hand.
+/// Knowledge and scripts, where the dictionary is in hand.
 fn after_dictionary<'a, F: Files>(
     alloc: Global,
     files: &mut F,
     options: Options,
     dict: Dict,
     knowledge: &'a str,
-    script: &'a str,
+    scripts: &'a [String],
 ) -> Result<Inputs<'a>, Stop<'a>>
-    requires { AreInRange options }
-    ensures names { IfSome (F.contents files.old) (λ known. AsksInOrder (KnowledgeGiven known options dict knowledge.now script.now) (F.asked files.old) (F.asked files.new)) }
-    ensures told { IfSome (F.contents files.old) (λ known. Tells given_in (KnowledgeGiven known options dict knowledge.now script.now) (F.asked files.old) (F.asked files.new) result) }
+    requires range { AreInRange options }
+    requires scripts { (1 ≤ length scripts.now) × (length scripts.now ≤ SCRIPTS) }
+    ensures names { IfSome (F.contents files.old) (λ known. AsksInOrder (KnowledgeGiven known options dict knowledge.now (map string_bytes scripts.now)) (F.asked files.old) (F.asked files.new)) }
+    ensures told { IfSome (F.contents files.old) (λ known. Tells given_in (KnowledgeGiven known options dict knowledge.now (map string_bytes scripts.now)) (F.asked files.old) (F.asked files.new) result) }
     ensures bounds { IfOk result (λ inputs. IsGivenInBounds (given_in inputs)) }
     ensures cause { HasCause (F.asked files.new) (F.faults files.old) (F.faults files.new) result }
-    ensures about { IfErr result (IsAbout (knowledge.now ∷ script.now ∷ []) (F.asked files.new)) }
+    ensures about { IfErr result (IsAbout (knowledge.now ∷ map string_bytes scripts.now) (F.asked files.new)) }
 {
     exactly_one_knowledge();
     match read_know(alloc, files, knowledge) {
-        Ok(know) => after_knowledge(alloc, files, options, dict, know, script),
+        Ok(know) => after_knowledge(alloc, files, options, dict, know, scripts),
         Err(stop) => Err(stop),
     }
 }
 
-/// A script, where the dictionary and the knowledge are in hand.
+/// Scripts, where the dictionary and the knowledge are in hand.
 fn after_knowledge<'a, F: Files>(
     alloc: Global,
     files: &mut F,
     options: Options,
     dict: Dict,
     know: Knowledge,
-    script: &'a str,
+    scripts: &'a [String],
 ) -> Result<Inputs<'a>, Stop<'a>>
     requires range { AreInRange options }
     requires few { length know.rules < 2 ^ 32 }
-    ensures names { IfSome (F.contents files.old) (λ known. AsksInOrder (ScriptGiven known options dict know script.now) (F.asked files.old) (F.asked files.new)) }
-    ensures told { IfSome (F.contents files.old) (λ known. Tells given_in (ScriptGiven known options dict know script.now) (F.asked files.old) (F.asked files.new) result) }
+    requires scripts { (1 ≤ length scripts.now) × (length scripts.now ≤ SCRIPTS) }
+    ensures names { IfSome (F.contents files.old) (λ known. AsksInOrder (ScriptsGiven known options dict know (map string_bytes scripts.now)) (F.asked files.old) (F.asked files.new)) }
+    ensures told { IfSome (F.contents files.old) (λ known. Tells given_in (ScriptsGiven known options dict know (map string_bytes scripts.now)) (F.asked files.old) (F.asked files.new) result) }
     ensures bounds { IfOk result (λ inputs. IsGivenInBounds (given_in inputs)) }
     ensures cause { HasCause (F.asked files.new) (F.faults files.old) (F.faults files.new) result }
-    ensures about { IfErr result (IsAbout (script.now ∷ []) (F.asked files.new)) }
+    ensures about { IfErr result (IsAbout (map string_bytes scripts.now) (F.asked files.new)) }
 {
     exactly_one_script();
-    match read_commands(alloc, files, script) {
-        Ok(commands) => given(alloc, options, dict, know, commands),
-        Err(stop) => Err(stop),
-    }
-}
-
-/// The inputs of one session.
-fn given<'a>(
-    alloc: Global,
-    options: Options,
-    dict: Dict,
-    know: Knowledge,
-    commands: Vec<Asked>,
-) -> Result<Inputs<'a>, Stop<'a>>
-    ensures { MatchResult result (λ inputs. given_in inputs ≡ RunGiven options dict know (map command_view commands.items ∷ [])) (λ stop. stop ≡ Stop.Memory) }
-{
-    let mut scripts = Vec::new(alloc);
-    match scripts.push(Commands::of(commands)) {
-        Ok(()) => Ok(Inputs::Run {
+    match read_scripts(alloc, files, scripts) {
+        Ok(scripts) => Ok(Inputs::Run {
             options,
             dict,
             know,
-            scripts: Scripts::of(scripts),
+            scripts,
         }),
-        Err(_) => Err(Stop::Memory),
+        Err(stop) => Err(stop),
     }
 }
 

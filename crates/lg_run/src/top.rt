@@ -27,21 +27,23 @@ use lg_dict::Dict;
 use lg_dictread::{DictError, WordFileError};
 use lg_knowread::{KnowError, Knowledge};
 use lg_script::{ScriptError, Scripts};
-use lg_session::run_sessions;
+use lg_session::{Gate, run_sessions};
 use std::alloc::Global;
 use std::thread::Threads;
 
 /// Does all that the program does: reads the files that the words name, and writes the document to `out`, in one piece,
 /// once all of them are accepted. Every status but Done has one line on `err`; a fault of `err` changes no status.
 ///
-/// `words` is the command line without the program's name.
-pub fn run<R: Threads + Sync, F: Files, O: Sink, E: Sink>(
+/// `words` is the command line without the program's name. The gate is called before each command of each session; it is no matter
+/// of what is written.
+pub fn run<R: Threads + Sync, F: Files, O: Sink, E: Sink, G: Gate>(
     rt: &R,
     alloc: Global,
     words: &[String],
     files: &mut F,
     out: &mut O,
     err: &mut E,
+    gate: &G,
 ) -> Status
     // The words alone decide this, whatever memory is left.
     ensures usage { result ≡ Status.Usage ↔ IsNoTask (map string_bytes words.now) }
@@ -76,18 +78,19 @@ pub fn run<R: Threads + Sync, F: Files, O: Sink, E: Sink>(
         return fail(err, Status::NoMemory, MEMORY);
     };
     match read_inputs(alloc, files, options, command) {
-        Ok(inputs) => finish(rt, alloc, &inputs, out, err),
+        Ok(inputs) => finish(rt, alloc, &inputs, out, err, gate),
         Err(stop) => refuse(alloc, err, stop),
     }
 }
 
 // Writes the document of a command that has its inputs in hand.
-fn finish<R: Threads + Sync, O: Sink, E: Sink>(
+fn finish<R: Threads + Sync, O: Sink, E: Sink, G: Gate>(
     rt: &R,
     alloc: Global,
     inputs: &Inputs<'_>,
     out: &mut O,
     err: &mut E,
+    gate: &G,
 ) -> Status
     requires bounds { IsGivenInBounds (given_in inputs.now) }
     ensures told { Finishes (given_in inputs.now) result (O.written out.old) (O.written out.new) }
@@ -95,7 +98,7 @@ fn finish<R: Threads + Sync, O: Sink, E: Sink>(
     ensures line { ¬ Rose (E.faults err.old) (E.faults err.new) →
         Appends (E.written err.old) (E.written err.new) (last_line result) }
 {
-    match write_document(rt, alloc, inputs, out) {
+    match write_document(rt, alloc, inputs, out, gate) {
         Ok(()) => Status::Done,
         Err(Halt::Output) => fail(err, Status::WriteFault, OUTPUT),
         Err(Halt::Memory) => fail(err, Status::NoMemory, MEMORY),
@@ -103,11 +106,12 @@ fn finish<R: Threads + Sync, O: Sink, E: Sink>(
 }
 
 // Writes the document of a command.
-fn write_document<R: Threads + Sync, O: Sink>(
+fn write_document<R: Threads + Sync, O: Sink, G: Gate>(
     rt: &R,
     alloc: Global,
     inputs: &Inputs<'_>,
     out: &mut O,
+    gate: &G,
 ) -> Result<(), Halt>
     requires bounds { IsGivenInBounds (given_in inputs.now) }
     ensures written { Documents (given_in inputs.now) (O.written out.old) (O.written out.new) result }
@@ -124,7 +128,7 @@ fn write_document<R: Threads + Sync, O: Sink>(
             dict,
             know,
             scripts,
-        } => write_sessions(rt, alloc, *options, dict, know, scripts, out),
+        } => write_sessions(rt, alloc, *options, dict, know, scripts, out, gate),
     }
 }
 
@@ -147,7 +151,7 @@ fn write_sentence<O: Sink>(
 }
 
 // Runs the sessions, and writes what they are answered.
-fn write_sessions<R: Threads + Sync, O: Sink>(
+fn write_sessions<R: Threads + Sync, O: Sink, G: Gate>(
     rt: &R,
     alloc: Global,
     options: Options,
@@ -155,13 +159,14 @@ fn write_sessions<R: Threads + Sync, O: Sink>(
     know: &Knowledge,
     scripts: &Scripts,
     out: &mut O,
+    gate: &G,
 ) -> Result<(), Halt>
     requires bounds { IsGivenInBounds (RunGiven options dict.now know.now (script_views scripts.now)) }
     ensures written { Documents (RunGiven options dict.now know.now (script_views scripts.now)) (O.written out.old) (O.written out.new) result }
     ensures cause { HasHaltCause (O.faults out.old) (O.faults out.new) result }
 {
     let lister = Lister::new(know, options);
-    match run_sessions(rt, alloc, dict, scripts, &lister) {
+    match run_sessions(rt, alloc, dict, scripts, &lister, gate) {
         Ok(outcome) => write_outcome(alloc, scripts, &outcome, out),
         Err(NoMemory) => Err(Halt::Memory),
     }

@@ -3,6 +3,7 @@
 
 use lg_base::{HostFiles, HostSink};
 use lg_run::{Status, run};
+use lg_session::FreeGate;
 use std::io::ErrorKind;
 use std::process::ExitCode;
 use std::{env, io};
@@ -28,6 +29,14 @@ fn main(rt: HostRuntime) -> ExitCode {
     let mut files = HostFiles::new(&rt, rt.alloc());
     let mut out = HostSink::output(&rt);
     let mut err = HostSink::errors(&rt);
-    let status = run(&rt, rt.alloc(), &words, &mut files, &mut out, &mut err);
+    let status = run(
+        &rt,
+        rt.alloc(),
+        &words,
+        &mut files,
+        &mut out,
+        &mut err,
+        &FreeGate,
+    );
     ExitCode::from(status.code())
 }

@@ -398,11 +398,100 @@ fn script_that_is_not_utf8(rt: HostRuntime) -> Result<(), Fail> {
     refused(&rt, rt.alloc(), "", b"parse \xFF", line)
 }
 
+// Wants that nothing is written but this line where these are two scripts.
+fn refused_of_two<R: Abort + Threads + Sync>(
+    rt: &R,
+    alloc: Global,
+    first: &[u8],
+    second: &[u8],
+    line: &str,
+) -> Result<(), Fail> {
+    let mut files = files_of(alloc, FIRST, "", first)?;
+    files.add("s2", second)?;
+    let words = words_of(alloc, "run|d|k|s1|s2")?;
+    expect(rt, alloc, files, &words, Status::BadInput, "", line)
+}
+
 #[test]
-fn edits_past_100000(rt: HostRuntime) -> Result<(), Fail> {
-    let script = made(rt.alloc(), b"", b"del x\n", 100_001, b"")?;
-    let line = "lgparse: s1: more than 100000 edits\n";
-    refused(&rt, rt.alloc(), "", &script, line)
+fn edits_of_two_scripts_past_100000(rt: HostRuntime) -> Result<(), Fail> {
+    let first = made(rt.alloc(), b"", b"del x\n", 50_000, b"")?;
+    let second = made(rt.alloc(), b"", b"del x\n", 50_001, b"")?;
+    let line = "lgparse: s2: more than 100000 edits\n";
+    refused_of_two(&rt, rt.alloc(), &first, &second, line)
+}
+
+#[test]
+fn unknown_command_of_the_second_script(rt: HostRuntime) -> Result<(), Fail> {
+    let line = "lgparse: s2: line 1: unknown command\n";
+    refused_of_two(&rt, rt.alloc(), b"version\n", b"halt\n", line)
+}
+
+// Whether the document is one of two: the session whose edit is the first asks for the version before the second edit, or after it.
+fn is_in_order(document: &[u8], before: &str, after: &str) -> bool {
+    document == before.as_bytes() || document == after.as_bytes()
+}
+
+const FIRST_BEFORE: &str = "\
+1.1 set version 1
+1.2 version 1
+2.1 set version 2
+2.2 version 2
+journal 2
+edit 1 1.1
+edit 2 2.1
+done
+";
+
+const FIRST_AFTER: &str = "\
+1.1 set version 1
+1.2 version 2
+2.1 set version 2
+2.2 version 2
+journal 2
+edit 1 1.1
+edit 2 2.1
+done
+";
+
+const SECOND_BEFORE: &str = "\
+1.1 set version 2
+1.2 version 2
+2.1 set version 1
+2.2 version 1
+journal 2
+edit 1 2.1
+edit 2 1.1
+done
+";
+
+const SECOND_AFTER: &str = "\
+1.1 set version 2
+1.2 version 2
+2.1 set version 1
+2.2 version 2
+journal 2
+edit 1 2.1
+edit 2 1.1
+done
+";
+
+// The sessions run at once, so that either edit may be the first.
+#[test]
+fn two_sessions_edit_one_dictionary(rt: HostRuntime) -> Result<(), Fail> {
+    let alloc = rt.alloc();
+    let mut files = files_of(alloc, "y: A- or B-;", "", b"set x: A+;\nversion\n")?;
+    files.add("s2", b"set x: B+;\nversion\n")?;
+    let words = words_of(alloc, "run|d|k|s1|s2")?;
+    let mut out = MemSink::new(alloc, ROOM)?;
+    let mut err = MemSink::new(alloc, ROOM)?;
+    let status = run(
+        &rt, alloc, &words, &mut files, &mut out, &mut err, &FreeGate,
+    );
+    let first = is_in_order(out.bytes(), FIRST_BEFORE, FIRST_AFTER);
+    let second = is_in_order(out.bytes(), SECOND_BEFORE, SECOND_AFTER);
+    assert_eq!(rt; status, Status::Done);
+    assert!(rt; first || second);
+    Ok(())
 }
 
 // Wants this file to be missing, where the dictionary names the word file `w`.
@@ -446,7 +535,9 @@ fn sink_fails_at_second_call(rt: HostRuntime) -> Result<(), Fail> {
     let mut out = MemSink::new(alloc, ROOM)?;
     let mut err = MemSink::new(alloc, ROOM)?;
     out.fail_at(2)?;
-    let status = run(&rt, alloc, &words, &mut files, &mut out, &mut err);
+    let status = run(
+        &rt, alloc, &words, &mut files, &mut out, &mut err, &FreeGate,
+    );
     assert_eq!(rt; status, Status::WriteFault);
     assert_eq!(rt; out.bytes(), b"1.1 version 0\n1.2 ver".as_slice());
     assert_eq!(rt;

@@ -1,31 +1,33 @@
-use Rattle.std.proofs.Common.{◌∙◌, refl, sym, IsTrue}
-use Rattle.lg_run.specs.Words.{is_operand}
+use Rattle.std.proofs.Common.{◌≤◌, ◌∙◌, length, map, string_bytes, refl, sym, ap, subst, arith}
+use Rattle.std.proofs.lemmas.List.{length-map}
+use Rattle.lg_run.specs.Words.{SCRIPTS}
 use Rattle.lg_run.proofs.OptionWords.{of_none}
-use Rattle.lg_run.proofs.OneTask.{no_cut_run, no_run, first_three, not_both, is_run_command}
+use Rattle.lg_run.proofs.OneTask.{AreOperands, no_cut_run, no_run, first_and_rest, is_none, is_some, operands_by, operands_not, is_run_command}
 use Rattle.lg_run.proofs.command.run_of.Goals as goal
-use Rattle.lg_run.proofs.command.run_of.Goals.{then-not-is_operand-via-then-not-is_operand, then-not-is_operand-via-else-not-is_operand+then-not-is_operand-2, then-not-is_operand-via-else-not-is_operand+else-not-is_operand-2+then-not-is_operand-3}
+use Rattle.lg_run.proofs.command.run_of.Goals.{then-is_empty-via-then-is_empty, then-is_empty-via-else-is_empty+then-scripts-gt-SCRIPTS, then-is_empty-via-else-is_empty+else-scripts-gt-SCRIPTS+then-not-are_operands}
 
--- words that are not cut, or with other operands than three
+-- words that are not cut, or with fewer operands than two
 pub returns-in_err-cut : goal.returns-in_err-cut
 returns-in_err-cut c = of_none _ _ _ c.from_residual.ensures (no_cut_run _ c.in_err-cut.ensures)
 
 pub returns-in_err-dictionary : goal.returns-in_err-dictionary
-returns-in_err-dictionary c = of_none _ _ _ c.from_residual-in_err-dictionary.ensures (no_run _ _ _ c.in_ok-cut.ensures (λ d k s e di ki si. c.in_err-dictionary.ensures d k s e))
+returns-in_err-dictionary c = of_none _ _ _ c.from_residual-in_err-dictionary.ensures (no_run _ _ _ c.in_ok-cut.ensures (λ d k ss e operands some few. c.in_err-dictionary.ensures d k ss e))
 
--- or with a word that is no operand
-pub returns-then-not-is_operand : goal.returns-then-not-is_operand
-returns-then-not-is_operand c =
+-- or with no script, more than 64, or a word that is no operand
+pub returns-then-is_empty : goal.returns-then-is_empty
+returns-then-is_empty c =
     no_run _ _ _ c.in_ok-cut.ensures
-    (λ d k s e di ki si. let same = first_three _ _ _ _ _ _ (sym c.in_ok-dictionary.ensures ∙ e) in elim c.then-not-is_operand.branch [
-      | then-not-is_operand-via-then-not-is_operand w ↦ not_both _ w.if-not-is_operand.ensures (rw same.0 di)
-      | then-not-is_operand-via-else-not-is_operand+then-not-is_operand-2 w ↦ not_both _ w.if-not-is_operand-2.ensures (rw same.1 ki)
-      | then-not-is_operand-via-else-not-is_operand+else-not-is_operand-2+then-not-is_operand-3 w ↦ not_both _ w.if-not-is_operand-3.ensures (rw same.2 si)
+    (λ d k ss e operands some few. let same = first_and_rest _ _ _ _ _ _ (sym c.in_ok-dictionary.ensures ∙ e) in let longer = ap length same.2 in let mapped = length-map c.in_ok-dictionary.scripts.now string_bytes in elim c.then-is_empty.branch [
+      | then-is_empty-via-then-is_empty w ↦ absurd (omega (arith, longer, mapped, some, is_none (length c.in_ok-dictionary.scripts.now) w.if-is_empty.ensures))
+      | then-is_empty-via-else-is_empty+then-scripts-gt-SCRIPTS w ↦ let many = w.if-scripts-gt-SCRIPTS.true in absurd (omega (arith, longer, mapped, few, many))
+      | then-is_empty-via-else-is_empty+else-scripts-gt-SCRIPTS+then-not-are_operands w ↦ operands_not string_bytes c.in_ok-cut.cut.behind.now w.if-not-are_operands.ensures (subst AreOperands (sym e) operands)
     ])
 
--- options and three operands
+-- options and operands
 pub returns : goal.returns
 returns c =
-    let d : IsTrue (is_operand c.in_ok-dictionary.dictionary.now) = sym c.if-not-is_operand.ensures in
-    let k : IsTrue (is_operand c.in_ok-dictionary.knowledge.now) = sym c.if-not-is_operand-2.ensures in
-    let s : IsTrue (is_operand c.in_ok-dictionary.script.now) = sym c.if-not-is_operand-3.ensures in
-    is_run_command _ _ _ _ _ (λ options. refl) (rw c.in_ok-dictionary.ensures at c.in_ok-cut.ensures) d k s
+    let scripts = c.in_ok-dictionary.scripts.now in
+    let mapped = length-map scripts string_bytes in
+    let some : 1 ≤ length (map string_bytes scripts) = omega (arith, mapped, is_some (length scripts) c.if-is_empty.ensures) in
+    let few : length (map string_bytes scripts) ≤ SCRIPTS = let k = c.if-scripts-gt-SCRIPTS.false in omega (arith, mapped, k) in
+    is_run_command _ _ _ _ _ (λ options. refl) (rw c.in_ok-dictionary.ensures at c.in_ok-cut.ensures) (subst AreOperands c.in_ok-dictionary.ensures (operands_by string_bytes c.in_ok-cut.cut.behind.now c.if-not-are_operands.ensures)) some few

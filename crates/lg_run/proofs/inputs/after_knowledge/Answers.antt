@@ -1,42 +1,44 @@
-use Rattle.std.proofs.Common.{[], ◌∷◌, map, refl}
+use Rattle.std.proofs.Common.{[], map, string_bytes, refl, sym}
+use Rattle.std.proofs.lemmas.List.{append-nil}
 use Rattle.std.proofs.lemmas.Option.{IfSome_then}
-use Rattle.lg_script.specs.Commands.{command_view}
-use Rattle.lg_run.specs.Inputs.{ScriptInput, RunGiven, given}
+use Rattle.lg_session.specs.Legal.{script_views}
+use Rattle.lg_run.specs.Inputs.{Followed, ScriptsInput, EditsRead, RunGiven, given, accepted}
 use Rattle.lg_run.specs.Stops.{stop_status, stop_line}
-use Rattle.lg_run.proofs.Readings.{asks_none, asks_first, asks_next, stops_first}
-use Rattle.lg_run.proofs.Verdicts.{one_script}
-use Rattle.lg_run.proofs.Givens.{given_told}
-use Rattle.lg_run.proofs.About.{given_about}
+use Rattle.lg_run.proofs.Readings.{asks_none, asks_first, asks_next, comes_next, stops_first}
+use Rattle.lg_run.proofs.ScriptLists.{one_within}
 use Rattle.lg_run.proofs.inputs.after_knowledge.Goals as goal
 
--- the script, and then nothing
+-- the scripts, and then nothing
 pub returns-in-Ok-clause-names : goal.returns-in-Ok-clause-names
 returns-in-Ok-clause-names g c =
+    let names = map string_bytes c.args.scripts.now in
     let old = g.F.Files.asked c.args.files.now in
-    let new = g.F.Files.asked c.read_commands.new.files in
-    let commands = map command_view c.in-Ok.commands.items in
+    let new = g.F.Files.asked c.read_scripts.new.files in
+    let scripts = script_views c.in-Ok.scripts in
     IfSome_then (g.F.Files.contents c.args.files.now) c.in-Ok.ensures.told
-    (λ k h. asks_next (ScriptInput k c.args.script.now) (λ commands. given (RunGiven c.args.options c.args.dict c.args.know (commands ∷ []))) old new new commands h (one_script c.exactly_one_script.ensures.one k c.args.script.now)
-    (asks_none (given (RunGiven c.args.options c.args.dict c.args.know (commands ∷ []))) new new refl))
+    (λ k h. asks_next (Followed (ScriptsInput k names) (EditsRead names)) (λ all. given (RunGiven c.args.options c.args.dict c.args.know all)) old new new scripts h (one_within k c.exactly_one_script.ensures.one names)
+    (asks_none (given (RunGiven c.args.options c.args.dict c.args.know scripts)) new new refl))
 
 pub returns-in-Ok-clause-told : goal.returns-in-Ok-clause-told
 returns-in-Ok-clause-told g c =
+    let names = map string_bytes c.args.scripts.now in
     let old = g.F.Files.asked c.args.files.now in
-    let new = g.F.Files.asked c.read_commands.new.files in
+    let new = g.F.Files.asked c.read_scripts.new.files in
+    let scripts = script_views c.in-Ok.scripts in
     IfSome_then (g.F.Files.contents c.args.files.now) c.in-Ok.ensures.told
-    (λ k h. given_told (ScriptInput k c.args.script.now) (λ commands. RunGiven c.args.options c.args.dict c.args.know (commands ∷ [])) old new (map command_view c.in-Ok.commands.items) c.given.result h c.given.ensures)
+    (λ k h. comes_next (Followed (ScriptsInput k names) (EditsRead names)) (λ all. given (RunGiven c.args.options c.args.dict c.args.know all)) old new new scripts h (accepted (RunGiven c.args.options c.args.dict c.args.know scripts))
+    (record { names = []; read = (refl, refl); grown = sym (append-nil new) }))
 
--- the script was not had
+-- the scripts were not had
 pub returns-in-Err-clause-names : goal.returns-in-Err-clause-names
 returns-in-Err-clause-names g c =
-    IfSome_then (g.F.Files.contents c.args.files.now) c.read_commands.ensures.names
-    (λ k h. asks_first (ScriptInput k c.args.script.now) (λ commands. given (RunGiven c.args.options c.args.dict c.args.know (commands ∷ []))) (g.F.Files.asked c.args.files.now) (g.F.Files.asked c.read_commands.new.files) h)
+    let names = map string_bytes c.args.scripts.now in
+    IfSome_then (g.F.Files.contents c.args.files.now) c.read_scripts.ensures.names
+    (λ k h. asks_first (Followed (ScriptsInput k names) (EditsRead names)) (λ all. given (RunGiven c.args.options c.args.dict c.args.know all)) (g.F.Files.asked c.args.files.now) (g.F.Files.asked c.read_scripts.new.files) h)
 
 pub returns-in-Err-clause-told : goal.returns-in-Err-clause-told
 returns-in-Err-clause-told g c =
+    let names = map string_bytes c.args.scripts.now in
     IfSome_then (g.F.Files.contents c.args.files.now) c.in-Err.ensures.told
-    (λ k h. stops_first (ScriptInput k c.args.script.now) (λ commands. given (RunGiven c.args.options c.args.dict c.args.know (commands ∷ []))) (g.F.Files.asked c.args.files.now) (g.F.Files.asked c.read_commands.new.files)
+    (λ k h. stops_first (Followed (ScriptsInput k names) (EditsRead names)) (λ all. given (RunGiven c.args.options c.args.dict c.args.know all)) (g.F.Files.asked c.args.files.now) (g.F.Files.asked c.read_scripts.new.files)
     (stop_status c.in-Err.stop) (stop_line c.in-Err.stop) h)
-
-pub returns-in-Ok-clause-about : goal.returns-in-Ok-clause-about
-returns-in-Ok-clause-about g c = given_about (c.args.script.now ∷ []) (g.F.Files.asked c.read_commands.new.files) (RunGiven c.args.options c.args.dict c.args.know (map command_view c.in-Ok.commands.items ∷ [])) c.given.result c.given.ensures

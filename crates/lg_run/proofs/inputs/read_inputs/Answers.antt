@@ -1,7 +1,7 @@
 use Rattle.std.proofs.Common.{IfSome, IfErr, sym, subst}
 use Rattle.lg_run.specs.Commands.{task}
 use Rattle.lg_run.specs.Inputs.{InputsAre}
-use Rattle.lg_run.specs.Reads.{AsksInOrder, IsAbout}
+use Rattle.lg_run.specs.Reads.{AsksInOrder, Tells, IsAbout, given_in}
 use Rattle.lg_run.specs.declared.command.Command.{Command}
 use Rattle.lg_run.specs.Answers.{names_of}
 use Rattle.lg_run.proofs.inputs.read_inputs.Goals as goal
@@ -26,3 +26,8 @@ pub returns-in-Run-clause-about : goal.returns-in-Run-clause-about
 returns-in-Run-clause-about g c =
     subst (λ (t : Command). IfErr c.inputs_of_run.result (IsAbout (names_of (task c.args.options t)) (g.F.Files.asked c.inputs_of_run.new.files)))
     (sym c.in-Run.is) c.inputs_of_run.ensures.about
+
+pub returns-in-Run-clause-told : goal.returns-in-Run-clause-told
+returns-in-Run-clause-told g c =
+    subst (λ (t : Command). IfSome (g.F.Files.contents c.args.files.now) (λ known. Tells given_in (InputsAre known (task c.args.options t)) (g.F.Files.asked c.args.files.now) (g.F.Files.asked c.inputs_of_run.new.files) c.inputs_of_run.result))
+    (sym c.in-Run.is) c.inputs_of_run.ensures.told

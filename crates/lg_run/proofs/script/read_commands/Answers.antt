@@ -23,9 +23,9 @@ returns-in-Ok-clause-told g c =
     let name = c.args.name.now in
     let old = g.F.Files.asked c.args.files.now in
     let new = g.F.Files.asked c.read_file.new.files in
-    let says = subst (λ (bytes : List ℕ). Tells (λ commands. map command_view commands.items) (ScriptReads name bytes) new new c.commands_of.result) c.deref.ensures.value (c.commands_of.ensures.told new) in
+    let says = subst (λ (bytes : List ℕ). Tells (λ commands. map command_view commands) (ScriptReads name bytes) new new c.commands_of.result) c.deref.ensures.value (c.commands_of.ensures.told new) in
     IfSome_then (g.F.Files.contents c.args.files.now) c.in-Ok.ensures.told
-    (λ k h. tells_next (FileIs k name) (ScriptReads name) old new new c.in-Ok.bytes.items h (λ commands. map command_view commands.items) c.commands_of.result says)
+    (λ k h. tells_next (FileIs k name) (ScriptReads name) old new new c.in-Ok.bytes.items h (λ commands. map command_view commands) c.commands_of.result says)
 
 -- the file was not had
 pub returns-in-Err-clause-names : goal.returns-in-Err-clause-names
