@@ -1,0 +1,8 @@
+//! The good linkages of a problem in order, one by one, on demand.
+//!
+//! What stands here so far are the laws: the order of linkages follows that of the parts of a cut.
+#![tactic(auto)]
+
+pub mod law;
+
+pub use law::{cuts_keep_order, joins_grow};
