@@ -5,3 +5,10 @@ pub mod Sums
 pub mod Ties
 pub mod Joins
 pub mod Cuts
+pub mod Elements
+pub mod Covering
+pub mod Taking
+pub mod Rows
+pub mod Growing
+pub mod Listed
+pub mod Placing
