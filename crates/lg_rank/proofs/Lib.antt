@@ -12,3 +12,5 @@ pub mod Rows
 pub mod Growing
 pub mod Listed
 pub mod Placing
+pub mod Links
+pub mod Compared

@@ -1,3 +1,5 @@
 pub mod Joins
 pub mod Fronts
 pub mod Merges
+pub mod Values
+pub mod Candidates

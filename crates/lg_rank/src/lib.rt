@@ -3,6 +3,8 @@
 //! What stands here so far are the laws: the order of linkages follows that of the parts of a cut.
 #![tactic(auto)]
 
+pub mod candidate;
 pub mod law;
+pub mod part;
 
 pub use law::{cuts_keep_order, joins_grow};
