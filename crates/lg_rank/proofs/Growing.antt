@@ -5,6 +5,7 @@ use Rattle.std.proofs.lemmas.Option.{slice_get_within}
 use Rattle.lg_rank.specs.Fronts.{IsIn, AtMost, IsFront, AllBefore, Extends}
 use Rattle.lg_rank.specs.Merges.{Setting, Makes, Laws, Row, HasRow, Ahead, IsRow, Open, Closed, Opened, Merged, PartsAre, IsBelow, IsLeast, Advanced, Following, Begins, Turn}
 use Rattle.lg_rank.proofs.Elements.{push_old, push_here, push_from}
+use Rattle.lg_rank.proofs.Places.{set_here, set_other, set_long}
 use Rattle.lg_rank.proofs.Taking.{same_or}
 
 ahead_grown : (s : Setting) (lefts lefts' made : List s.V) (p i : ℕ) (y : s.V) (o : Option s.V) → Extends lefts lefts' → Ahead s lefts made p i y o → Ahead s lefts' made p i y o
@@ -124,23 +125,6 @@ merged_passed s {R} view n lefts rights rows m none = record {
 }
 
 -- ---- the lists of the code
-set_here : {V : Type 0} (xs : List V) (m : ℕ) (v : V) → m < length xs → slice_get (set xs m v) m ≡ Some v
-set_here [] m v less = absurd (omega arith)
-set_here (x ∷ xs) zero v less = refl
-set_here (x ∷ xs) (suc m) v less = set_here xs m v (omega arith)
-
-set_other : {V : Type 0} (xs : List V) (m k : ℕ) (v : V) → k ≢ m → slice_get (set xs m v) k ≡ slice_get xs k
-set_other [] m k v other = refl
-set_other (x ∷ xs) zero zero v other = absurd (other refl)
-set_other (x ∷ xs) zero (suc k) v other = refl
-set_other (x ∷ xs) (suc m) zero v other = refl
-set_other (x ∷ xs) (suc m) (suc k) v other = set_other xs m k v (λ e. other (ap suc e))
-
-set_length : {V : Type 0} (xs : List V) (m : ℕ) (v : V) → length (set xs m v) ≡ length xs
-set_length [] m v = refl
-set_length (x ∷ xs) zero v = refl
-set_length (x ∷ xs) (suc m) v = ap suc (set_length xs m v)
-
 pub advanced_alone : {R : Type 0} (rows : List R) (m : ℕ) (after : R) → m < length rows → Advanced rows m after None (set rows m after)
 advanced_alone rows m after less = record {
   here = set_here rows m after less;
@@ -158,10 +142,10 @@ advanced_both {R} rows m after b less =
     record {
       here = push_old (set rows m after) b m after alone.here;
       kept = λ k t at other. push_old (set rows m after) b k t (alone.kept k t at other);
-      new = λ t e. (λ i. slice_get (set rows m after ++ b ∷ []) (sym (set_length rows m after) i)) ∙ push_here (set rows m after) b ∙ e;
+      new = λ t e. (λ i. slice_get (set rows m after ++ b ∷ []) (sym (set_long rows m after) i)) ∙ push_here (set rows m after) b ∙ e;
       from = λ k t at. elim (push_from (set rows m after) b k t at) [
         | inl old ↦ elim (alone.from k t old) [ inl h ↦ inl h | inr h ↦ elim h [ inl g ↦ inr (inl g) | inr g ↦ absurd (let e = g.1 in cc) ] ]
-        | inr new ↦ inr (inr (new.0 ∙ set_length rows m after, ap Some (sym new.1)))
+        | inr new ↦ inr (inr (new.0 ∙ set_long rows m after, ap Some (sym new.1)))
       ];
     }
 

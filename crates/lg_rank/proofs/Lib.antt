@@ -14,3 +14,8 @@ pub mod Listed
 pub mod Placing
 pub mod Links
 pub mod Compared
+pub mod Places
+pub mod Forests
+pub mod Choosing
+pub mod Reading
+pub mod Steps

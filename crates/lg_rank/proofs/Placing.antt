@@ -13,7 +13,7 @@ same_value : (s : Setting) (lefts rights lefts' rights' made : List s.V) (p i j 
 same_value s lefts rights lefts' rights' made p i j y d false more_l more_r y_at a = refl
 same_value s lefts rights lefts' rights' made p i j y d true more_l more_r y_at a = λ k. Some (s.combine p (same_at lefts lefts' i a.0 d more_l a.1 k) (same_at rights rights' j y d more_r y_at k))
 
-same_seen : (s : Setting) (n : ℕ) (lefts rights lefts' rights' : ℕ → List s.V) (made : List s.V) (d : s.V) (r : PlaceRow) → ((p : ℕ) → p < n → Extends (lefts p) (lefts' p)) → ((p : ℕ) → p < n → Extends (rights p) (rights' p))
+pub same_seen : (s : Setting) (n : ℕ) (lefts rights lefts' rights' : ℕ → List s.V) (made : List s.V) (d : s.V) (r : PlaceRow) → ((p : ℕ) → p < n → Extends (lefts p) (lefts' p)) → ((p : ℕ) → p < n → Extends (rights p) (rights' p))
     → IsRow s n lefts rights made (seen_by s d lefts rights r) → seen_by s d lefts rights r ≡ seen_by s d lefts' rights' r
 same_seen s n lefts rights lefts' rights' made d r more_l more_r is =
     let e = same_value s (lefts r.alt) (rights r.alt) (lefts' r.alt) (rights' r.alt) made r.alt r.next r.at is.y d r.live (more_l r.alt is.alt_in) (more_r r.alt is.alt_in) is.y_at is.ahead in

@@ -172,12 +172,12 @@ less_set (x ∷ xs) (y ∷ ys) up vp one two h =
           subst (λ w. SetLess (Contains (x ∷ xs)) (Contains (w ∷ ys))) e (same_head x xs ys up (subst (λ w. IsSet (w ∷ ys)) (sym e) vp) one (subst (λ w. OnePair (Contains (w ∷ ys))) (sym e) two) r))
     ]
 
-then_equal : (a b : Ordering) → ordering_then a b ≡ Equal → (a ≡ Equal) × (b ≡ Equal)
+pub then_equal : (a b : Ordering) → ordering_then a b ≡ Equal → (a ≡ Equal) × (b ≡ Equal)
 then_equal Less b h = absurd cc
 then_equal Equal b h = (refl, h)
 then_equal Greater b h = absurd cc
 
-equal_list : (xs ys : List Link) → slice_cmp tie_cmp xs ys ≡ Equal → xs ≡ ys
+pub equal_list : (xs ys : List Link) → slice_cmp tie_cmp xs ys ≡ Equal → xs ≡ ys
 equal_list [] [] h = refl
 equal_list [] (y ∷ ys) h = absurd cc
 equal_list (x ∷ xs) [] h = absurd cc

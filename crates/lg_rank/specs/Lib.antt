@@ -3,3 +3,5 @@ pub mod Fronts
 pub mod Merges
 pub mod Values
 pub mod Candidates
+pub mod Nodes
+pub mod Tables

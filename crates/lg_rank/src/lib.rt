@@ -5,6 +5,8 @@
 
 pub mod candidate;
 pub mod law;
+pub mod node;
 pub mod part;
+pub mod table;
 
 pub use law::{cuts_keep_order, joins_grow};
