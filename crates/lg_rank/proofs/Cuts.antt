@@ -30,7 +30,7 @@ is_outside L R l = not (is_within L R l)
 abbrev outside : ℕ → ℕ → Linkage → Linkage
 outside L R g = record { chosen = choice_outside 0 L R g.chosen; links = filter (is_outside L R) g.links }
 
-within_length : (s L R : ℕ) (os : List (Option Disjunct)) → length (choice_within s L R os) ≡ length os
+pub within_length : (s L R : ℕ) (os : List (Option Disjunct)) → length (choice_within s L R os) ≡ length os
 within_length s L R [] = refl
 within_length s L R (o ∷ os) = ap suc (within_length (suc s) L R os)
 
@@ -121,7 +121,7 @@ keeps_order L R g h tg th s less =
 both_tests : (L R s : ℕ) → L < s → s < R → (nat_lt L s && nat_lt s R) ≡ true
 both_tests L R s x y = grind (arith, nat_tests)
 
-choice_in : (s L R : ℕ) (os : List (Option Disjunct)) (i : ℕ) → L < s + i → s + i < R → get_or (choice_within s L R os) i None ≡ get_or os i None
+pub choice_in : (s L R : ℕ) (os : List (Option Disjunct)) (i : ℕ) → L < s + i → s + i < R → get_or (choice_within s L R os) i None ≡ get_or os i None
 choice_in s L R [] i x y = refl
 choice_in s L R (o ∷ os) zero x y = rw (both_tests L R s (omega arith) (omega arith)) refl
 choice_in s L R (o ∷ os) (suc i) x y = choice_in (suc s) L R os i (omega arith) (omega arith)
@@ -133,11 +133,11 @@ same_in L R g h i e x y = sym (choice_in 0 L R g.chosen i (omega arith) (omega a
 in_other : (L R : ℕ) (g h : Linkage) (l : Link) → part_of L R g ≡ part_of L R h → HasLink (part_of L R g) l → HasLink h l
 in_other L R g h l e i = (filter_out (is_within L R) h.links l (subst (λ z. HasLink z l) e i)).0
 
-not_linked : (o : Option Disjunct) → (IsSome o → ⊥) → o ≡ None
+pub not_linked : (o : Option Disjunct) → (IsSome o → ⊥) → o ≡ None
 not_linked None h = refl
 not_linked (Some d) h = absurd (h refl)
 
-beyond : (os : List (Option Disjunct)) (i : ℕ) → length os ≤ i → get_or os i None ≡ None
+pub beyond : (os : List (Option Disjunct)) (i : ℕ) → length os ≤ i → get_or os i None ≡ None
 beyond [] i x = refl
 beyond (o ∷ os) zero x = absurd (omega arith)
 beyond (o ∷ os) (suc i) x = beyond os i (omega arith)
@@ -197,13 +197,13 @@ same_right positions k c g h t e = record {
   back = beside_right positions k c h g (swapped positions k c g h t) (sym e);
 }
 
-cut_tidy : RegionsAreCutOnce → (positions : List (List Disjunct)) (k : Region) (c : Split) (g : Linkage) → IsCut positions k c → Spells positions k c g → IsTidy g
+pub cut_tidy : RegionsAreCutOnce → (positions : List (List Disjunct)) (k : Region) (c : Split) (g : Linkage) → IsCut positions k c → Spells positions k c g → IsTidy g
 cut_tidy law positions k c g cut s =
     let a = cut.after in let b = cut.before in
     record { set = s.part.belongs.set; exclusive = (law.sound positions k g (omega arith) (split c) cut s).rules.exclusive }
 
 -- before and behind the part that follows the first word nothing is chosen
-first_outside : (positions : List (List Disjunct)) (c : First) (g : Linkage) → SpellsFirst positions c g → (i : ℕ) → (c.word < i → i < length positions → ⊥) → (c.word ≡ i → ⊥) → chosen_at g i ≡ None
+pub first_outside : (positions : List (List Disjunct)) (c : First) (g : Linkage) → SpellsFirst positions c g → (i : ℕ) → (c.word < i → i < length positions → ⊥) → (c.word ≡ i → ⊥) → chosen_at g i ≡ None
 first_outside positions c g s i f n =
     elim (cases_lt i c.word) [
       | inl x ↦ not_linked (chosen_at g i) (s.before i x)
@@ -227,7 +227,7 @@ same_first positions c g h s t = record {
   back = λ l i out. absurd (part_not c.word (length positions) h l (t.rest l i) out);
 }
 
-first_tidy : SentencesAreCutOnce → (positions : List (List Disjunct)) (nulls : ℕ) (c : First) (g : Linkage) → IsFirst positions nulls c → SpellsFirst positions c g → IsTidy g
+pub first_tidy : SentencesAreCutOnce → (positions : List (List Disjunct)) (nulls : ℕ) (c : First) (g : Linkage) → IsFirst positions nulls c → SpellsFirst positions c g → IsTidy g
 first_tidy law positions nulls c g is s = record { set = s.belongs.set; exclusive = (law.sound positions nulls g (first c) is s).good.rules.exclusive }
 
 pub cuts_keep_order : RegionsAreCutOnce → SentencesAreCutOnce → CutsKeepOrder

@@ -19,3 +19,6 @@ pub mod Forests
 pub mod Choosing
 pub mod Reading
 pub mod Steps
+pub mod Packing
+pub mod Gluing
+pub mod Sizes

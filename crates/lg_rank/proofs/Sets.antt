@@ -20,7 +20,7 @@ not_both x y h i = let e = links_total.antisymm x y in let f = rw i at e in cc
 pub after_head : (x : Link) (xs : List Link) (y : Link) → AllByRecursion (λ y. link_cmp x y ≡ Less) xs → Contains xs y → link_cmp x y ≡ Less
 after_head x xs y h i = All-contains (λ y. link_cmp x y ≡ Less) xs y (All-from_recursion (λ y. link_cmp x y ≡ Less) xs h) i
 
-before_all : (x : Link) (xs : List Link) → ((y : Link) → Contains xs y → link_cmp x y ≡ Less) → AllByRecursion (λ y. link_cmp x y ≡ Less) xs
+pub before_all : (x : Link) (xs : List Link) → ((y : Link) → Contains xs y → link_cmp x y ≡ Less) → AllByRecursion (λ y. link_cmp x y ≡ Less) xs
 before_all x xs h = recursion_from_All (λ y. link_cmp x y ≡ Less) xs (λ k d l. h (get_or xs k d) (Contains-get_or xs k d l))
 
 abbrev pub IsSet : List Link → Type 0

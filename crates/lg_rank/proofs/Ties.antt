@@ -30,7 +30,7 @@ pub record SetLess (A B : Link → Type 0) : Type 0 where
   pub before : (z : Link) → Earlier z at → (A z → B z) × (B z → A z)
   pub same : (x : Link) → A x → SamePair x at → PlacesBefore x at
 
-pair_cases : (k l : Link) → Earlier k l ⊎ (Earlier l k ⊎ SamePair k l)
+pub pair_cases : (k l : Link) → Earlier k l ⊎ (Earlier l k ⊎ SamePair k l)
 pair_cases k l =
     elim (cases_lt k.left l.left) [
       | inl h ↦ inl (inl h)
@@ -59,13 +59,13 @@ earlier_not_same : (k l : Link) → Earlier k l → SamePair k l → ⊥
 earlier_not_same k l (inl a) s = omega arith
 earlier_not_same k l (inr a) s = omega arith
 
-earlier_trans : (k l m : Link) → Earlier k l → Earlier l m → Earlier k m
+pub earlier_trans : (k l m : Link) → Earlier k l → Earlier l m → Earlier k m
 earlier_trans k l m (inl a) (inl b) = inl (omega arith)
 earlier_trans k l m (inl a) (inr b) = inl (omega arith)
 earlier_trans k l m (inr a) (inl b) = inl (omega arith)
 earlier_trans k l m (inr a) (inr b) = inr (omega arith, omega arith)
 
-earlier_along : (k l m : Link) → Earlier k l → SamePair l m → Earlier k m
+pub earlier_along : (k l m : Link) → Earlier k l → SamePair l m → Earlier k m
 earlier_along k l m (inl a) s = inl (omega arith)
 earlier_along k l m (inr a) s = inr (omega arith, omega arith)
 
@@ -79,7 +79,7 @@ set_less_not A B p q =
       ]
     ]
 
-cmp_less : (x z : Link) → link_cmp x z ≡ Less → Earlier x z ⊎ SamePair x z
+pub cmp_less : (x z : Link) → link_cmp x z ≡ Less → Earlier x z ⊎ SamePair x z
 cmp_less x z h = elim (pair_cases x z) [
   | inl e ↦ inl e
   | inr r ↦ elim r [ inl e ↦ elim e [ inl a ↦ absurd (grind (arith, nat_tests)) | inr a ↦ absurd (grind (arith, nat_tests)) ] | inr s ↦ inr s ]

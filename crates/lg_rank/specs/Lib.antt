@@ -5,3 +5,4 @@ pub mod Values
 pub mod Candidates
 pub mod Nodes
 pub mod Tables
+pub mod Meanings
