@@ -22,3 +22,5 @@ pub mod Steps
 pub mod Packing
 pub mod Gluing
 pub mod Sizes
+pub mod Meaning
+pub mod Ordered

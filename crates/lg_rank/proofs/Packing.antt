@@ -232,3 +232,19 @@ glued_packed positions W d near far a b g x y w u is p q =
     mixed_after zero (x ∷ xs) (y ∷ ys) c (suc i) l m = refl
     mixed_after (suc n) (x ∷ xs) [] c (suc i) l m = mixed_after n xs [] c i (omega arith) (omega arith)
     mixed_after (suc n) (x ∷ xs) (y ∷ ys) c (suc i) l m = mixed_after n xs ys c i (omega arith) (omega arith)
+
+code_same : (ds : List Disjunct) (o : Option Disjunct) (m n : ℕ) → IsStrictlySortedBy disjunct_cmp ds → IsCodeOf ds o m → IsCodeOf ds o n → m ≡ n
+code_same ds o m n up p q = (let e = code_order ds o o m n up p q ∙ tied_itself choices_total o in grind (arith, nat_tests))
+
+codes_same : (P : ℕ → List Disjunct) → ((i : ℕ) → IsStrictlySortedBy disjunct_cmp (P i)) → (xs : List (Option Disjunct)) (ns ms : List ℕ) → length ns ≡ length ms → Coded P xs ns → Coded P xs ms → ns ≡ ms
+codes_same P up xs [] [] e p q = refl
+codes_same P up xs [] (m ∷ ms) e p q = absurd (omega arith)
+codes_same P up xs (n ∷ ns) [] e p q = absurd (omega arith)
+codes_same P up [] (n ∷ ns) (m ∷ ms) e p q = λ k. code_same (P 0) None n m (up 0) (p 0) (q 0) k ∷ codes_same (λ i. P (suc i)) (λ i. up (suc i)) [] ns ms (omega arith) (λ i. p (suc i)) (λ i. q (suc i)) k
+codes_same P up (x ∷ xs) (n ∷ ns) (m ∷ ms) e p q = λ k. code_same (P 0) x n m (up 0) (p 0) (q 0) k ∷ codes_same (λ i. P (suc i)) (λ i. up (suc i)) xs ns ms (omega arith) (λ i. p (suc i)) (λ i. q (suc i)) k
+
+-- a linkage is one value
+pub packed_same : (positions : List (List Disjunct)) (g : Linkage) (v w : Value) → IsProblem positions → IsPacked positions g v → IsPacked positions g w → v ≡ w
+packed_same positions g v w problem p q =
+    let choices = codes_same (λ i. get_or positions i []) (rise_at positions problem) g.chosen v.choices w.choices (p.long ∙ sym q.long) p.choices q.choices in
+    λ k. record { cost = (p.cost ∙ sym q.cost) k; span = (p.span ∙ sym q.span) k; choices = choices k; links = (p.links ∙ sym q.links) k }

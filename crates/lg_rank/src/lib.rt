@@ -9,4 +9,4 @@ pub mod node;
 pub mod part;
 pub mod table;
 
-pub use law::{cuts_keep_order, joins_grow};
+pub use law::{cuts_keep_order, joins_grow, values_are_linkages};

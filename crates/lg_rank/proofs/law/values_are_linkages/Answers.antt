@@ -1,8 +1,5 @@
-use Rattle.lg_rank.proofs.Joins.{joins_grow}
-use Rattle.lg_rank.proofs.Packing.{glued_packed, packed_order, packed_apart}
-use Rattle.lg_rank.proofs.Gluing.{spelled_glue, first_glue}
-use Rattle.lg_rank.proofs.Sizes.{same_unlinked, small_packed}
+use Rattle.lg_rank.proofs.Ordered.{forests_stand}
 use Rattle.lg_rank.proofs.law.values_are_linkages.Goals as goal
 
 pub returns : goal.returns
-returns c = joins_grow
+returns c = forests_stand (record { regions = c.regions_are_cut_once.ensures; sentences = c.sentences_are_cut_once.ensures; valid = c.cuts_are_valid.ensures; parts = c.parts_make_linkages.ensures; keep = c.cuts_keep_order.ensures })
