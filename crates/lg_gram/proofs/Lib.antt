@@ -12,4 +12,5 @@ pub mod Merged
 pub mod Pairs
 pub mod GoodPairs
 pub mod Ground
+pub mod Sorted
 pub mod Filled

@@ -24,6 +24,12 @@ pub record AreCandidates (positions : List (List Disjunct)) (candidates : List L
   pub is_fewest : IsFewest positions fewest
   pub level : IsLevel positions fewest candidates
 
+-- linkages of one problem
+pub record AreOfOneProblem (linkages : List Linkage) : Type 0 where
+  pub positions : List (List Disjunct)
+  pub is_problem : IsProblem positions
+  pub each : (g : Linkage) → Contains linkages g → Belongs positions g
+
 -- linkages of one problem that the order does not tell apart are one
 abbrev pub TellsApart : Type 0
 TellsApart = (positions : List (List Disjunct)) (a b : Linkage) → IsProblem positions → Belongs positions a → Belongs positions b → linkage_cmp a b ≡ Equal → a ≡ b

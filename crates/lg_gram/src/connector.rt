@@ -1,8 +1,9 @@
 //! Connectors, and which of them may be linked.
-ghost use Rattle.std.specs.Prelude.{◌≡◌, ◌<◌, ◌≤◌, ◌↔◌, IsTrue, Some, None, if◌then◌else◌, max, length, take, slice_index_or};
+ghost use Rattle.std.specs.Prelude.{◌≡◌, ◌<◌, ◌≤◌, ◌↔◌, ◌++◌, IsTrue, Some, None, if◌then◌else◌, max, length, take, slice_index_or};
 ghost use Rattle.std.specs.Cmp.Lexicographic.{pointwise};
 ghost use Rattle.std.specs.Cmp.{partial_equiv_from_equiv};
-ghost use Rattle.std.specs.Cmp.Rules.{comparing};
+ghost use Rattle.std.specs.Cmp.Rules.{comparing, hashing};
+ghost use Rattle.std.specs.Hash as fed;
 ghost use Rattle.std.proofs.Common.{rules};
 ghost use Rattle.lg_gram.specs.Names.{is_written, trimmed, IsName, STAR};
 ghost use Rattle.lg_gram.specs.Connectors.{Match, Agree, name_of, label_of, connector_cmp, connector_eq, either, merged};
@@ -10,6 +11,7 @@ ghost use Rattle.lg_gram.specs.Connectors.{Match, Agree, name_of, label_of, conn
 use crate::label::{LETTERS, Label};
 use crate::order::Ranked;
 use std::cmp::Ordering;
+use std::hash::{Hash, Hasher};
 use std::marker::Model;
 
 /// One end of a link that a word can have: a name, whether it may take one link or more (`@`), and whether it joins a
@@ -45,6 +47,18 @@ impl PartialEq for Connector {
 
 impl Eq for Connector {
     ghost laws = { Prim.search (comparing, rules) depth 9 };
+}
+
+impl Hash for Connector {
+    ghost hash_input = { λ c. fed.bool c.multi ++ fed.bool c.right ++ fed.slice fed.u8 c.caps ++ fed.slice fed.u8 c.subs };
+
+    ghost respects_eq = { Prim.search (hashing, rules) };
+
+    fn hash<H: Hasher>(&self, state: &mut H) {
+        self.multi.hash(state);
+        self.right.hash(state);
+        self.name.hash(state);
+    }
 }
 
 impl Ranked for Connector {

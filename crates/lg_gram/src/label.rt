@@ -2,11 +2,13 @@
 ghost use Rattle.std.specs.Prelude.{◌≡◌, ◌+◌, ◌-◌, ◌≤◌, ◌++◌, length, replicate, Some, None, if◌then◌else◌};
 ghost use Rattle.std.specs.List.{list_all, prefix_len};
 ghost use Rattle.std.specs.Cmp.{partial_equiv_from_equiv};
-ghost use Rattle.std.specs.Cmp.Rules.{comparing};
+ghost use Rattle.std.specs.Cmp.Rules.{comparing, hashing};
+ghost use Rattle.std.specs.Hash as fed;
 ghost use Rattle.std.proofs.Common.{rules};
 ghost use Rattle.lg_gram.specs.Names.{is_capital, is_subscript, is_written, trimmed, IsName};
 ghost use Rattle.lg_gram.specs.Connectors.{name_eq};
 
+use std::hash::{Hash, Hasher};
 use std::marker::Model;
 
 /// The most letters of a name, capitals and subscripts together.
@@ -51,6 +53,17 @@ impl PartialEq for Label {
 
 impl Eq for Label {
     ghost laws = { Prim.search (comparing, rules) depth 9 };
+}
+
+impl Hash for Label {
+    ghost hash_input = { λ n. fed.slice fed.u8 n.caps ++ fed.slice fed.u8 n.subs };
+
+    ghost respects_eq = { Prim.search (hashing, rules) };
+
+    fn hash<H: Hasher>(&self, state: &mut H) {
+        self.caps().hash(state);
+        self.subs().hash(state);
+    }
 }
 
 impl Label {

@@ -193,7 +193,6 @@ impl Linkage {
     /// then the least length (these three are link-parser's), then the choice at each position, none before a disjunct,
     /// then the places of the link of each pair of positions, none before a link.
     pub fn compare(&self, other: &Linkage) -> Ordering
-        requires { length self.now.chosen ≡ length other.now.chosen }
         ensures { result ≡ linkage_cmp self.now other.now }
     {
         self.unused()

@@ -1,6 +1,6 @@
 pub mod Fits
 pub mod Walks
-pub mod Lists
+pub mod Elements
 pub mod Glue
 pub mod Joints
 pub mod Parts
@@ -15,3 +15,15 @@ pub mod Assemble
 pub mod Valid
 pub mod Begin
 pub mod Made
+pub mod Parting
+pub mod Numbers
+pub mod Ends
+pub mod Keeping
+pub mod Firsts
+pub mod Admitting
+pub mod Growing
+pub mod Once
+pub mod Going
+pub mod Splitting
+pub mod Expanding
+pub mod Keeps

@@ -5,11 +5,14 @@ use Rattle.std.proofs.lemmas.List.{length-replicate}
 use Rattle.lg_gram.specs.Linkages.{Linkage}
 use Rattle.lg_gram.specs.Rules.{chosen_at, IsLinked, Belongs}
 use Rattle.lg_gram.specs.declared.disjunct.Disjunct.{Disjunct}
-use Rattle.lg_region.specs.Parts.{Region, IsPart, Under, part_of}
+use Rattle.lg_region.specs.Parts.{Region, IsPart, Under, UnderWhole, part_of}
 use Rattle.lg_region.specs.Cuts.{IsEmpty, IsValid, Spells, Alternative, IsAlternative, SpelledBy, all_null, split}
-use Rattle.lg_region.specs.Laws.{HasLinkage, KeysHave}
-use Rattle.lg_region.proofs.Lists.{contains_none}
+use Rattle.lg_region.specs.Whole.{First, WholeAlternative, nothing, first, IsWholeAlternative, WholeSpelledBy}
+use Rattle.lg_region.specs.Laws.{HasLinkage, KeysHave, WholeKeyHas}
+use Rattle.lg_region.proofs.Elements.{contains_none}
 use Rattle.lg_region.proofs.Empty.{region_complete, region_sound, none_of}
+use Rattle.lg_region.proofs.Whole.{whole_complete, whole_sound_all}
+use Rattle.lg_region.proofs.Begin.{begun, begun_spells}
 use Rattle.lg_region.proofs.Assemble.{assembled, assembled_glued, glued_spells, glued_same, spelled_glued, same_by}
 
 -- the linkage that chooses nothing
@@ -85,4 +88,20 @@ pub has_linkage : (positions : List (List Disjunct)) (k : Region) → IsValid po
 has_linkage positions k v = (
   (λ (g, u). let r = (under_made positions k g v).0 u in (r.0, r.1, keys_have positions k g r.0 r.2)),
   (λ (a, is, h). let m = have_made positions k a h in (m.0, (under_made positions k m.0 v).1 (a, is, m.1))),
+)
+
+whole_key_has : (positions : List (List Disjunct)) (g : Linkage) (a : WholeAlternative) → WholeSpelledBy positions a g → WholeKeyHas positions a
+whole_key_has positions g nothing s = tt
+whole_key_has positions g (first c) s = (part_of c.word (length positions) g, s.right)
+
+whole_has : (positions : List (List Disjunct)) (nulls : ℕ) (a : WholeAlternative) → IsWholeAlternative positions nulls a → WholeKeyHas positions a → (g : Linkage) × UnderWhole positions nulls g
+whole_has positions nulls nothing is h =
+    (nothing_of positions, whole_sound_all positions nulls (nothing_of positions) nothing is ((nothing_part positions 0 0).belongs, nothing_empty positions))
+whole_has positions nulls (first c) is h =
+    (begun c.word c.disjunct h.0, whole_sound_all positions nulls (begun c.word c.disjunct h.0) (first c) is (begun_spells positions nulls c h.0 is h.1).0)
+
+pub whole_has_linkage : (positions : List (List Disjunct)) (nulls : ℕ) → ((g : Linkage) × UnderWhole positions nulls g) ↔ ((a : WholeAlternative) × IsWholeAlternative positions nulls a × WholeKeyHas positions a)
+whole_has_linkage positions nulls = (
+  (λ (g, u). let r = whole_complete positions nulls g u in (r.0, r.1, whole_key_has positions g r.0 r.2)),
+  (λ (a, is, h). whole_has positions nulls a is h),
 )

@@ -11,10 +11,11 @@ use Rattle.lg_gram.specs.Walks.Walk.{stay, forth, back}
 use Rattle.lg_gram.specs.declared.disjunct.Disjunct.{Disjunct}
 use Rattle.lg_gram.specs.declared.linkage.Link.{Link}
 use Rattle.lg_region.specs.Parts.{EdgeWith, Region, but_at, rights_in, lefts_in, nulls_from, IsPart, IsCounted, Under, part_of}
-use Rattle.lg_region.specs.Cuts.{Joint, IsJoint, IsCutAt, Split, IsCut, Spells}
+use Rattle.lg_region.specs.Cuts.{IsJoint, IsCutAt, Split, IsCut, Spells}
+use Rattle.lg_region.specs.declared.key.Joint.{Joint}
 use Rattle.lg_region.proofs.Fits.{Fits}
 use Rattle.lg_region.proofs.Walks.{walk_then, walk_back}
-use Rattle.lg_region.proofs.Lists.{greatest}
+use Rattle.lg_region.proofs.Elements.{greatest}
 use Rattle.lg_region.proofs.Parts.{in_part, from_part, part_chosen, part_inside, part_linked, part_belongs, nulls_few, nulls_cut}
 use Rattle.lg_region.proofs.Joints.{get_in}
 use Rattle.lg_region.proofs.Glue.{Splits, fits_left, fits_right, fits_together}

@@ -9,7 +9,7 @@ use Rattle.std.proofs.lemmas.Bool.Decides.{nat_tests}
 use Rattle.std.proofs.lemmas.List.Elements.{All-from_recursion, recursion_from_All, All-contains, Contains-get_or}
 use Rattle.lg_gram.specs.Linkages.{link_cmp}
 use Rattle.lg_gram.specs.declared.linkage.Link.{Link}
-use Rattle.lg_region.proofs.Lists.{contains_here, contains_later, contains_cases, contains_none}
+use Rattle.lg_region.proofs.Elements.{contains_here, contains_later, contains_cases, contains_none}
 
 pub links_total : IsTotalOrder link_cmp
 links_total =

@@ -8,7 +8,8 @@ use Rattle.lg_gram.specs.Walks.{Walk}
 use Rattle.lg_gram.specs.Walks.Walk.{stay, forth}
 use Rattle.lg_gram.specs.declared.linkage.Link.{Link}
 use Rattle.lg_region.specs.Parts.{EdgeWith, but_at}
-use Rattle.lg_region.specs.Cuts.{Joint as Places, IsJoint, IsCutAt}
+use Rattle.lg_region.specs.Cuts.{IsJoint, IsCutAt}
+use Rattle.lg_region.specs.declared.key.Joint.{Joint as Places}
 use Rattle.lg_region.proofs.Fits.{Fits}
 use Rattle.lg_region.proofs.Walks.{walk_map}
 use Rattle.lg_region.proofs.Joints.{Joint, GoesBy, HasMore, fits_open, fits_closed, last_right, last_left}

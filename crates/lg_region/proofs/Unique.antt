@@ -7,7 +7,8 @@ use Rattle.lg_gram.specs.Rules.{chosen_at, HasLink, IsLinked}
 use Rattle.lg_gram.specs.declared.disjunct.Disjunct.{Disjunct}
 use Rattle.lg_gram.specs.declared.linkage.Link.{Link}
 use Rattle.lg_region.specs.Parts.{Region, but_at, rights_in, lefts_in, nulls_from, part_of}
-use Rattle.lg_region.specs.Cuts.{Joint, IsJoint, IsCutAt, Split, IsCut, Spells}
+use Rattle.lg_region.specs.Cuts.{IsJoint, IsCutAt, Split, IsCut, Spells}
+use Rattle.lg_region.specs.declared.key.Joint.{Joint}
 use Rattle.lg_region.proofs.Fits.{Fits}
 use Rattle.lg_region.proofs.Parts.{from_part}
 use Rattle.lg_region.proofs.Joints.{get_in, take_get}

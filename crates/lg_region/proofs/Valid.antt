@@ -7,7 +7,8 @@ use Rattle.std.proofs.Math.Seq.{take-length}
 use Rattle.lg_gram.specs.Connectors.{Connector}
 use Rattle.lg_gram.specs.declared.disjunct.Disjunct.{Disjunct}
 use Rattle.lg_region.specs.Parts.{Region, IsKnown}
-use Rattle.lg_region.specs.Cuts.{Joint, GoesOn, IsCutAt, Split, IsCut, IsValid}
+use Rattle.lg_region.specs.Cuts.{GoesOn, IsCutAt, Split, IsCut, IsValid}
+use Rattle.lg_region.specs.declared.key.Joint.{Joint}
 use Rattle.lg_region.specs.Whole.{First, IsFirst}
 
 take_nil : (m : ℕ) (cs : List Connector) → cs ≡ [] → take m cs ≡ []
@@ -15,7 +16,7 @@ take_nil zero cs e = refl
 take_nil (suc m) [] e = refl
 take_nil (suc m) (c ∷ cs) e = absurd (let x = ap length e in omega arith)
 
-take_short : (cs : List Connector) (m : ℕ) → length (take m cs) ≤ m
+pub take_short : (cs : List Connector) (m : ℕ) → length (take m cs) ≤ m
 take_short cs zero = omega arith
 take_short [] (suc m) = omega arith
 take_short (c ∷ cs) (suc m) = let r = take_short cs m in omega arith

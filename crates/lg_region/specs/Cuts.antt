@@ -7,11 +7,7 @@ use Rattle.lg_gram.specs.Rules.{HasLink, IsLinked, chosen_at}
 use Rattle.lg_gram.specs.declared.disjunct.Disjunct.{Disjunct}
 use Rattle.lg_gram.specs.declared.linkage.Link.{Link}
 use Rattle.lg_region.specs.Parts.{Region, IsPart, Under, part_of, IsKnown}
-
--- the place of a link at the word on the left, and at the word on the right
-pub record Joint : Type 0 where
-  pub near : ℕ
-  pub far : ℕ
+use Rattle.lg_region.specs.declared.key.Joint.{Joint}
 
 -- the link of a joint of L and R
 abbrev pub IsJoint : Option Joint → ℕ → ℕ → Link → Type 0

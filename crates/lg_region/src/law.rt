@@ -1,5 +1,9 @@
 //! Laws of regions, each the contract of a function without a body.
-ghost use Rattle.lg_region.specs.Laws.{RegionsAreCutOnce, SentencesAreCutOnce, CutsAreValid, AlternativesDecide};
+ghost use Rattle.std.specs.Prelude.{List};
+ghost use Rattle.lg_gram.specs.Connectors.{Connector};
+ghost use Rattle.lg_gram.specs.declared.disjunct.Disjunct.{Disjunct};
+ghost use Rattle.lg_region.specs.Fronts.{AreListsOf};
+ghost use Rattle.lg_region.specs.Laws.{RegionsAreCutOnce, SentencesAreCutOnce, CutsAreValid, AlternativesDecide, WholeAlternativesDecide, PartsMakeLinkages, NumbersTellListsApart};
 
 /// Every linkage under a region is spelled by exactly one alternative of the region, and an alternative spells only linkages
 /// under it.
@@ -18,7 +22,20 @@ pub fn cuts_are_valid()
     ensures { CutsAreValid }
 {}
 
-/// Some linkage lies under a region exactly where some lies under each region of one of its alternatives.
+/// Some linkage lies under a region exactly where some lies under each region of one of its alternatives; and the same of
+/// the whole sentence.
 pub fn alternatives_decide()
-    ensures { AlternativesDecide }
+    ensures region { AlternativesDecide }
+    ensures whole { WholeAlternativesDecide }
+{}
+
+/// Linkages under the two regions of a cut are the parts of exactly one linkage that it spells. The same of a first word.
+pub fn parts_make_linkages()
+    ensures { PartsMakeLinkages }
+{}
+
+/// Two numbers with the same list are one, and two keys of one region. Each region that may be asked for has a key, and the
+/// keys of an alternative may be asked for.
+pub fn numbers_tell_lists_apart()
+    ensures { (positions : List (List Disjunct)) (lists : List (List Connector)) → AreListsOf positions lists → NumbersTellListsApart positions lists }
 {}

@@ -1,8 +1,23 @@
 //! The parts of a sentence that the packed forest is made of: regions between two words, and the ways in which they are cut.
 //!
-//! What stands here so far is the law, over definitions alone: each linkage is cut in exactly one way.
+//! A key is a region whose lists are given by their numbers (`Lists`), and `expand_key` lists its alternatives. The laws say
+//! over definitions alone that each linkage is cut in exactly one way.
 #![tactic(auto)]
 
+pub mod alternative;
+pub mod expand;
+mod group;
+pub mod key;
 pub mod law;
+pub mod lists;
+mod numbering;
+mod ways;
 
-pub use law::{alternatives_decide, cuts_are_valid, regions_are_cut_once, sentences_are_cut_once};
+pub use alternative::{Alt, Alts};
+pub use expand::expand_key;
+pub use key::{Joint, Key};
+pub use law::{
+    alternatives_decide, cuts_are_valid, numbers_tell_lists_apart, parts_make_linkages, regions_are_cut_once,
+    sentences_are_cut_once,
+};
+pub use lists::Lists;

@@ -1,0 +1,60 @@
+-- What a hash table tells of its entries, where `==` at the keys tells whether they are the same.
+use Rattle.std.proofs.Common.{◌≡◌, ◌≢◌, ◌↔◌, ℕ, refl, sym, ap, ◌∙◌, subst, Bool, true, false, true≢false, List, [], ◌∷◌, ◌++◌, Option, Some, None, IsSome, MatchOption, Contains, Bor, rules}
+use Rattle.std.specs.List.{filter}
+use Rattle.std.specs.Cmp.{IsEquivalence}
+use Rattle.std.specs.Bool.{Decides}
+use Rattle.std.specs.Map.{keys_of, lookup}
+use Rattle.std.specs.Option.{option_copied}
+use Rattle.std.proofs.lemmas.Map.Views.{Contains-from_lookup, Contains-keys_from_lookup, IsSome-lookup_from_Contains}
+use Rattle.indexmap.specs.IndexMap.{IndexMap, keys, get, insert_entry}
+use Rattle.indexmap.proofs.CallerLemmas.{insert_entry-new}
+use Rattle.lg_region.specs.declared.key.Key.{Key}
+use Rattle.lg_forest.proofs.Once.{filter_in, filter_out}
+use Rattle.lg_region.specs.contracts.key.KeyPartialEq.TheImpl.{eq-value}
+
+-- the test of `==` at keys
+abbrev pub key_eq : Key → Key → Bool
+key_eq = eq-value.it
+
+pub keys_same : (x y : Key) → Decides (key_eq x y) (x ≡ y)
+keys_same x y = search rules
+
+pub keys_laws : IsEquivalence key_eq
+keys_laws = search rules
+
+module _ {X : Type 0} where
+  -- what a look-up finds
+  pub found : (es : List (Key × X)) (k : Key) (r : Option (Bor X)) → option_copied r ≡ lookup (key_eq k) es → MatchOption r (Contains (keys_of es) k → ⊥) (λ v. Contains es (k, v.now))
+  found es k (Some v) at = Contains-from_lookup (λ x y. (keys_same x y).0) k v.now es (sym at)
+  found es k None at = λ has. let some = IsSome-lookup_from_Contains keys_laws k es has in let no_value = subst (λ z. IsSome z) (sym at) some in absurd cc
+
+  missing : (es : List (Key × X)) (k : Key) → (Contains (keys_of es) k → ⊥) → lookup (key_eq k) es ≡ None
+  missing es k new = by (lookup (key_eq k) es) refl
+    where
+      by : (r : Option X) → lookup (key_eq k) es ≡ r → r ≡ None
+      by None e = refl
+      by (Some v) e = absurd (new (Contains-keys_from_lookup (λ x y. (keys_same x y).0) k es (subst (λ z. IsSome z) (sym e) refl)))
+
+  -- a key that is not there is added last
+  pub added : {S : Type 0} (m : IndexMap Key X S) (k : Key) (v : X) → (Contains (keys m) k → ⊥) → insert_entry key_eq m.entries k v ≡ m.entries ++ (k, v) ∷ []
+  added m k v new = insert_entry-new key_eq m k v (missing m.entries k new)
+
+-- some alternative is there
+abbrev pub is_live : {X : Type 0} → List X → Bool
+is_live [] = false
+is_live (x ∷ xs) = true
+
+live_some : {X : Type 0} (xs : List X) → is_live xs ≡ true → xs ≢ []
+live_some [] t e = true≢false (sym t)
+live_some (x ∷ xs) t e = cc
+
+some_live : {X : Type 0} (xs : List X) → (xs ≢ []) → is_live xs ≡ true
+some_live [] ne = absurd (ne refl)
+some_live (x ∷ xs) ne = refl
+
+-- the entries that are kept
+pub kept_entries : {X : Type 0} (es kept : List (Key × List X)) → kept ≡ filter (λ (e : Key × List X). is_live e.1) es → (k : Key) (v : List X) → Contains kept (k, v) ↔ (Contains es (k, v) × (v ≢ []))
+kept_entries {X} es kept e k v = (
+  (λ h. let r = filter_out (λ (p : Key × List X). is_live p.1) es (k, v) (subst (λ z. Contains z (k, v)) e h) in (r.0, live_some v r.1)),
+  (λ h. subst (λ z. Contains z (k, v)) (sym e) (filter_in (λ (p : Key × List X). is_live p.1) es (k, v) h.0 (some_live v h.1))),
+)

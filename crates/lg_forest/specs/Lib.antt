@@ -1,0 +1,4 @@
+pub mod Demands
+pub mod Forests
+pub mod Search
+pub mod Drafts

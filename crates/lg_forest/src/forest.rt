@@ -1,0 +1,147 @@
+//! Forests, and how they are made.
+ghost use Rattle.std.specs.Prelude.{◌≡◌, ◌≢◌, ◌↔◌, ◌+◌, ◌<◌, ◌≤◌, ◌^◌, suc, [], ℕ, List, length, IfOk, OnOk, MatchOption, Contains};
+ghost use Rattle.std.specs.Map.{keys_of};
+ghost use Rattle.lg_gram.specs.Connectors.{Connector};
+ghost use Rattle.lg_gram.specs.Levels.{IsFewest};
+ghost use Rattle.lg_gram.specs.Limits.{POSITIONS};
+ghost use Rattle.lg_gram.specs.declared.disjunct.Disjunct.{Disjunct};
+ghost use Rattle.lg_region.specs.Fronts.{AreListsOf, AreOnce};
+ghost use Rattle.lg_region.specs.declared.key.Key.{Key};
+ghost use Rattle.lg_region.specs.declared.alternative.Alt.{Alt};
+ghost use Rattle.lg_forest.specs.Demands.{IsDemanded, HasLinkageUnder};
+ghost use Rattle.lg_forest.specs.Forests.{IsForest, CountsKeys};
+ghost use Rattle.lg_forest.specs.Search.{KeysAreDecided, Asked, IsWholeFrom, IsCounted};
+
+use crate::law::keys_are_decided;
+use crate::search::visit;
+use crate::table::Table;
+use lg_base::{NoMemory, Steps};
+use lg_gram::Problem;
+use lg_region::{Alts, Key, Lists};
+use std::alloc::Global;
+use std::marker::Model;
+
+/// The packed forest of a problem: the demanded keys that have a linkage, each with the alternatives all of whose keys have
+/// one.
+///
+/// Contracts see `{ unused, entries }`: how many words are unlinked, and the keys with their alternatives.
+#[derive(Drop)]
+pub struct Forest {
+    unused: u32,
+    live: Table,
+}
+
+impl Model for Forest {
+    ghost use Rattle.lg_forest.specs.Forests.{Forest as Seen};
+
+    ghost Value = { Seen };
+
+    ghost view = { λ f. record { unused = f.unused; entries = f.live } };
+}
+
+impl Forest {
+    // The forest of the keys that were asked for. Those without a linkage are let go.
+    fn of(unused: u32, table: Table) -> Forest
+        ensures unused { result.unused ≡ unused }
+        ensures live { (k : Key) (alts : List Alt) → Contains result.entries (k, alts) ↔ (Contains table (k, alts) × (alts ≢ [])) }
+        ensures once { AreOnce (keys_of result.entries) }
+        ensures were_once { AreOnce (keys_of table) }
+    {
+        let mut live = table;
+        // the call tells that the keys differ
+        let _count = live.len();
+        live.forget_dead();
+        Forest { unused, live }
+    }
+
+    /// How many words the linkages of the whole sentence leave unlinked.
+    pub fn unused(&self) -> u32
+        ensures { result ≡ self.now.unused }
+    {
+        self.unused
+    }
+
+    /// How many keys there are: of a forest of a problem, the demanded keys that have a linkage.
+    pub fn nodes(&self) -> u64
+        ensures entries { result ≡ length self.now.entries }
+        ensures counts { (positions : List (List Disjunct)) (from : ℕ) (is : IsForest positions from self.now) → CountsKeys (λ k. IsDemanded positions is.lists from self.now.unused k × HasLinkageUnder positions is.lists k) result }
+    {
+        self.live.len() as u64
+    }
+
+    /// The live alternatives of a key. None where the key was not asked for, or has no linkage. No memory.
+    pub fn alts(&self, key: &Key) -> Option<&Alts>
+        ensures { MatchOption result (Contains (keys_of self.now.entries) key.now → ⊥) (λ alts. Contains self.now.entries (key.now, alts.now)) }
+    {
+        self.live.get(key)
+    }
+}
+
+/// The forest of a problem with as few unlinked words as a linkage can have.
+///
+/// Each demanded key is one step: those of the whole sentence with no unlinked word, with one, and so on up to that number.
+pub fn solve<L>(
+    alloc: Global,
+    problem: &Problem,
+    steps: &mut Steps<L>,
+) -> Result<Forest, NoMemory>
+    requires room { steps.old < 2 ^ 126 }
+    ensures forest { IfOk result (IsForest problem.now 0) }
+    ensures fewest { IfOk result (λ forest. IsFewest problem.now forest.unused) }
+    ensures steps { IfOk result (λ forest. (lists : List (List Connector)) → AreListsOf problem.now lists → (n : ℕ) × CountsKeys (IsDemanded problem.now lists 0 forest.unused) n × (steps.new ≡ steps.old + n)) }
+{
+    keys_are_decided();
+    let last = problem.positions().len() as u32;
+    let lists = Lists::of(alloc, problem)?;
+    let mut table = Table::new(alloc);
+    let unused = fewest(alloc, &lists, last, &mut table, steps)?;
+    Ok(Forest::of(unused, table))
+}
+
+/// The forest of a problem with exactly so many unlinked words. Each demanded key is one step.
+pub fn solve_at<L>(
+    alloc: Global,
+    problem: &Problem,
+    nulls: u32,
+    steps: &mut Steps<L>,
+) -> Result<Forest, NoMemory>
+    requires nulls { nulls ≤ length problem.now }
+    requires room { steps.old < 2 ^ 126 }
+    ensures forest { IfOk result (IsForest problem.now nulls) }
+    ensures unused { IfOk result (λ forest. forest.unused ≡ nulls) }
+    ensures steps { IfOk result (λ forest. (lists : List (List Connector)) → AreListsOf problem.now lists → (n : ℕ) × CountsKeys (IsDemanded problem.now lists nulls nulls) n × (steps.new ≡ steps.old + n)) }
+{
+    keys_are_decided();
+    // the call tells that there are few positions
+    let _positions = problem.positions();
+    let lists = Lists::of(alloc, problem)?;
+    let mut table = Table::new(alloc);
+    visit(alloc, &lists, &mut table, Key::Whole { nulls }, steps)?;
+    Ok(Forest::of(nulls, table))
+}
+
+// The fewest unlinked words of a linkage. Puts all that is asked for into the table, which is empty.
+fn fewest<L>(
+    alloc: Global,
+    lists: &Lists<'_>,
+    last: u32,
+    table: &mut Table,
+    steps: &mut Steps<L>,
+) -> Result<u32, NoMemory>
+    requires decided { KeysAreDecided lists.now }
+    requires last { last ≡ length lists.now.positions }
+    requires few { last ≤ POSITIONS }
+    requires empty { table.old ≡ [] }
+    requires room { steps.old < 2 ^ 126 }
+    ensures fewest { let n = lists.entry.now in IfOk result (IsFewest n.positions) }
+    ensures asked { let n = lists.entry.now in IfOk result (λ nulls. Asked n (IsWholeFrom 0 (suc nulls)) table.old table.new) }
+    ensures steps { OnOk result (IsCounted 0 steps.old table.old steps.new table.new) }
+{
+    for nulls in 0..last {
+        if visit(alloc, lists, table, Key::Whole { nulls }, steps)? {
+            return Ok(nulls);
+        }
+    }
+    visit(alloc, lists, table, Key::Whole { nulls: last }, steps)?;
+    Ok(last)
+}

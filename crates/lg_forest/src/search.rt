@@ -1,0 +1,159 @@
+//! The search: each key that is asked for is expanded once, depth first.
+ghost use Rattle.std.specs.Prelude.{◌≡◌, ◌↔◌, suc, Some, IsTrue, IfOk, OnOk, IfSome};
+ghost use Rattle.lg_region.specs.Keys.{IsValidKey};
+ghost use Rattle.lg_forest.specs.Demands.{HasLinkageUnder, AsksNext};
+ghost use Rattle.lg_forest.specs.Forests.{IsLive, AreLive};
+ghost use Rattle.lg_forest.specs.Search.{KeysAreDecided, IsTable, HasValidKeys, IsLast, Asked, AsksOf, key_width, part_bound, alt_bound, HasRoom, IsCounted};
+
+use crate::table::Table;
+use lg_base::{NoMemory, Steps};
+use lg_region::{Alt, Alts, Key, Lists, expand_key};
+use std::alloc::Global;
+
+/// The left key that was asked for last, and whether it has a linkage. Alternatives with the same left key stand together.
+#[derive(Clone, Copy)]
+struct Last {
+    key: Option<Key>,
+    live: bool,
+}
+
+/// Whether some linkage lies under a key. Puts the key into the table, with all that is asked for from it.
+#[cycle(search)]
+pub(crate) fn visit<L>(
+    alloc: Global,
+    lists: &Lists<'_>,
+    table: &mut Table,
+    key: Key,
+    steps: &mut Steps<L>,
+) -> Result<bool, NoMemory>
+    requires decided { KeysAreDecided lists.now }
+    requires key { IsValidKey lists.now.positions lists.now.lists key }
+    requires table { IsTable lists.now table.old }
+    requires room { HasRoom (suc (key_width lists.now.positions key)) steps.old table.old }
+    ensures found { let n = lists.entry.now in IfOk result (λ found. IsTrue found ↔ HasLinkageUnder n.positions n.lists key) }
+    ensures asked { OnOk result (Asked lists.entry.now (λ k. k ≡ key) table.old table.new) }
+    ensures steps { OnOk result (IsCounted 0 steps.old table.old steps.new table.new) }
+{
+    if let Some(alts) = table.get(&key) {
+        return Ok(!alts.is_empty());
+    }
+    let live = explore(alloc, lists, table, key, steps)?;
+    let found = !live.is_empty();
+    table.add(key, live)?;
+    Ok(found)
+}
+
+// The live alternatives of a key. Puts all that the key asks for into the table.
+#[cycle(search)]
+fn explore<L>(
+    alloc: Global,
+    lists: &Lists<'_>,
+    table: &mut Table,
+    key: Key,
+    steps: &mut Steps<L>,
+) -> Result<Alts, NoMemory>
+    requires decided { KeysAreDecided lists.now }
+    requires key { IsValidKey lists.now.positions lists.now.lists key }
+    requires table { IsTable lists.now table.old }
+    requires room { HasRoom (suc (key_width lists.now.positions key)) steps.old table.old }
+    ensures live { let n = lists.entry.now in IfOk result (AreLive n.positions n.lists key) }
+    ensures asked { let n = lists.entry.now in OnOk result (Asked n (AsksNext n.positions n.lists key) table.old table.new) }
+    ensures steps { OnOk result (IsCounted 1 steps.old table.old steps.new table.new) }
+{
+    // the call tells that the table is short
+    let _known = table.len();
+    let alts = expand_key(alloc, lists, key, steps)?;
+    let mut flags = Vec::new(alloc);
+    let mut last = Last {
+        key: None,
+        live: true,
+    };
+    for index in 0..alts.len() {
+        let live = is_live(alloc, lists, table, alts.get(index), &mut last, steps)?;
+        flags.push(live)?;
+    }
+    Ok(alts.keep(flags.as_slice()))
+}
+
+// Whether each key of an alternative has a linkage. The right key is asked for only where the left one has one.
+#[cycle(search)]
+fn is_live<L>(
+    alloc: Global,
+    lists: &Lists<'_>,
+    table: &mut Table,
+    alt: Alt,
+    last: &mut Last,
+    steps: &mut Steps<L>,
+) -> Result<bool, NoMemory>
+    requires decided { KeysAreDecided lists.now }
+    requires keys { HasValidKeys lists.now alt }
+    requires table { IsTable lists.now table.old }
+    requires last { IsLast lists.now table.old last.old }
+    requires room { HasRoom (alt_bound lists.now.positions alt) steps.old table.old }
+    ensures live { let n = lists.entry.now in IfOk result (λ live. IsTrue live ↔ IsLive n.positions n.lists alt) }
+    ensures asked { OnOk result (Asked lists.entry.now (AsksOf lists.entry.now alt) table.old table.new) }
+    ensures last { OnOk result (IsLast lists.entry.now table.new last.new) }
+    ensures steps { OnOk result (IsCounted 0 steps.old table.old steps.new table.new) }
+{
+    match alt {
+        Alt::AllNull => Ok(true),
+        Alt::Split { lkey, rkey, .. } => {
+            if visit_left(alloc, lists, table, lkey, last, steps)? {
+                visit_part(alloc, lists, table, rkey, steps)
+            } else {
+                Ok(false)
+            }
+        }
+    }
+}
+
+// The same as `visit_part`, which is called only where the key is not the last one.
+#[cycle(search)]
+fn visit_left<L>(
+    alloc: Global,
+    lists: &Lists<'_>,
+    table: &mut Table,
+    key: Option<Key>,
+    last: &mut Last,
+    steps: &mut Steps<L>,
+) -> Result<bool, NoMemory>
+    requires decided { KeysAreDecided lists.now }
+    requires key { IfSome key (IsValidKey lists.now.positions lists.now.lists) }
+    requires table { IsTable lists.now table.old }
+    requires last { IsLast lists.now table.old last.old }
+    requires room { HasRoom (part_bound lists.now.positions key) steps.old table.old }
+    ensures found { let n = lists.entry.now in IfOk result (λ found. IsTrue found ↔ IfSome key (HasLinkageUnder n.positions n.lists)) }
+    ensures asked { OnOk result (Asked lists.entry.now (λ k. key ≡ Some k) table.old table.new) }
+    ensures last { OnOk result (IsLast lists.entry.now table.new last.new) }
+    ensures steps { OnOk result (IsCounted 0 steps.old table.old steps.new table.new) }
+{
+    if last.key == key {
+        return Ok(last.live);
+    }
+    let live = visit_part(alloc, lists, table, key, steps)?;
+    *last = Last { key, live };
+    Ok(live)
+}
+
+// Whether some linkage lies under the key of a part; true where there is no key.
+#[cycle(search)]
+fn visit_part<L>(
+    alloc: Global,
+    lists: &Lists<'_>,
+    table: &mut Table,
+    key: Option<Key>,
+    steps: &mut Steps<L>,
+) -> Result<bool, NoMemory>
+    requires decided { KeysAreDecided lists.now }
+    requires key { IfSome key (IsValidKey lists.now.positions lists.now.lists) }
+    requires table { IsTable lists.now table.old }
+    requires room { HasRoom (part_bound lists.now.positions key) steps.old table.old }
+    ensures found { let n = lists.entry.now in IfOk result (λ found. IsTrue found ↔ IfSome key (HasLinkageUnder n.positions n.lists)) }
+    ensures asked { OnOk result (Asked lists.entry.now (λ k. key ≡ Some k) table.old table.new) }
+    ensures steps { OnOk result (IsCounted 0 steps.old table.old steps.new table.new) }
+{
+    match key {
+        None => Ok(true),
+        Some(key) => visit(alloc, lists, table, key, steps),
+    }
+}

@@ -1,0 +1,103 @@
+-- What is kept of lists tells their ends, and the lists of disjuncts.
+use Rattle.std.proofs.Common.{◌≡◌, ◌≢◌, ℕ, zero, suc, ◌+◌, ◌-◌, ◌<◌, ◌≤◌, ◌^◌, List, [], ◌∷◌, ◌++◌, length, take, get_or, map, refl, sym, ◌∙◌, ap, subst, Some, ◌⊎◌, inl, inr, Contains, arith, length-append}
+use Rattle.std.specs.List.{AllZip, flat_map, range_with_len, slice_get}
+use Rattle.std.proofs.lemmas.Bool.{cases_lt}
+use Rattle.std.proofs.lemmas.List.{get_or-map, take_at, get_or_past}
+use Rattle.std.proofs.lemmas.List.Elements.{All-contains, Contains-append_cases, Contains-get_or}
+use Rattle.std.proofs.lemmas.Option.{slice_get-get_or, slice_get_within, get_or_from_slice_get}
+use Rattle.std.proofs.Math.Seq.{get_or-append_seam}
+use Rattle.lg_gram.specs.Connectors.{Connector}
+use Rattle.lg_gram.specs.Limits.{SIDE}
+use Rattle.lg_gram.specs.Problems.{IsProblem, IsPosition, FitsProblem}
+use Rattle.lg_gram.specs.declared.disjunct.Disjunct.{Disjunct}
+use Rattle.lg_region.specs.Fronts.{fronts, fronts_of, all_fronts, AreListsOf, list_of}
+use Rattle.lg_region.specs.Keys.{IsDisjunctAt}
+use Rattle.lg_region.specs.Numbered.{IsTailOf, AreTailsOf, HasSides, AreSidesOf}
+use Rattle.lg_region.specs.Ways.{IsEndOf}
+use Rattle.lg_region.specs.declared.numbering.Tail.{Tail}
+use Rattle.lg_region.specs.declared.numbering.Sides.{Sides}
+use Rattle.lg_region.specs.declared.ways.End.{End}
+use Rattle.lg_region.proofs.Elements.{zip_at, zip_length}
+use Rattle.lg_region.proofs.Valid.{take_short}
+use Rattle.lg_region.proofs.Numbers.{map_out, flat_out, range_out, get_contains}
+
+-- an element that was read, of a list that is seen through a function
+pub map_at : {X Y : Type 0} (g : X → Y) (xs : List X) (n : ℕ) (x : X) (d : Y) → n < length xs → x ≡ get_or xs n x → get_or (map g xs) n d ≡ g x
+map_at g xs n x d l e = get_or-map g xs n x d l ∙ ap g (sym e)
+
+last_of : (xs : List Connector) (c : Connector) (cs : List Connector) → cs ≡ xs ++ c ∷ [] → (suc (length cs - 1) ≡ length cs) × (length cs - 1 ≡ length xs)
+last_of xs c cs e =
+    let l : length cs ≡ length xs + 1 = ap (λ z. length z) e ∙ length-append xs (c ∷ []) in
+    (omega arith, omega arith)
+
+pub end_of : (lists : List (List Connector)) (tails : List Tail) (n m : ℕ) (t : Tail) → AreTailsOf lists tails → slice_get tails n ≡ Some t → m ≡ length (get_or lists n [])
+    → IsEndOf lists (suc n) (record { id = suc n; place = m - 1; last = t.last; shorter = t.shorter })
+end_of lists tails n m t are g e =
+    let is = are.each n t g in
+    let l = slice_get_within tails n t g in
+    let same = are.same_length in
+    let before = is.shorter in
+    let xs = list_of lists t.shorter in
+    let cs = get_or lists n [] in
+    let p = last_of xs t.last cs is.list in
+    let q : m - 1 ≡ length xs = ap (λ z. z - 1) e ∙ p.1 in
+    let u = is.list in
+    let at : get_or (xs ++ t.last ∷ []) (length xs) t.last ≡ t.last = get_or-append_seam xs t.last [] t.last in
+    let in' : length xs < length (xs ++ t.last ∷ []) = (let k = length-append xs (t.last ∷ []) in omega arith) in
+    let s : slice_get (xs ++ t.last ∷ []) (length xs) ≡ Some t.last = slice_get-get_or (xs ++ t.last ∷ []) (length xs) t.last in' ∙ ap (λ z. Some z) at in
+    record {
+      itself = refl;
+      known = omega arith;
+      known_shorter = omega arith;
+      at_end = ap (λ z. suc (z - 1)) e ∙ p.0;
+      is_last = subst (λ z. slice_get z (m - 1) ≡ Some t.last) (sym u) (subst (λ z. slice_get (xs ++ t.last ∷ []) z ≡ Some t.last) (sym q) s);
+      rest = sym (subst (λ z. take (m - 1) z ≡ xs) (sym u) (subst (λ z. take z (xs ++ t.last ∷ []) ≡ xs) (sym q) (take_at xs (t.last ∷ []) (length xs) refl)));
+    }
+
+front_short : (cs x : List Connector) (n : ℕ) → length cs ≤ n → Contains (fronts cs) x → length x ≤ n
+front_short cs x n l c =
+    let r = map_out (λ n. take n cs) (range_with_len 1 (length cs)) x c in
+    let b = range_out 1 (length cs) r.0 r.1 in
+    let s = take_short cs r.0 in
+    let e = ap (λ z. length z) r.2 in
+    omega arith
+
+-- each list of a problem is short
+pub all_short : (positions : List (List Disjunct)) (x : List Connector) → IsProblem positions → Contains (all_fronts positions) x → length x ≤ SIDE
+all_short positions x is c =
+    let r = flat_out (flat_map fronts_of) positions x c in
+    let s = flat_out fronts_of r.0 x r.2 in
+    let f : FitsProblem s.0 = All-contains FitsProblem r.0 s.0 (All-contains IsPosition positions r.0 is.each r.1).fit s.1 in
+    elim (Contains-append_cases (fronts s.0.left) (fronts s.0.right) x s.2) [
+      | inl h ↦ front_short s.0.left x SIDE f.left h
+      | inr h ↦ front_short s.0.right x SIDE f.right h
+    ]
+
+pub list_short : (positions : List (List Disjunct)) (lists : List (List Connector)) (n : ℕ) → IsProblem positions → AreListsOf positions lists → n < length lists → length (get_or lists n []) ≤ SIDE
+list_short positions lists n is are l = all_short positions (get_or lists n []) is ((are.same (get_or lists n [])).0 (Contains-get_or lists n [] l))
+
+within_rows : (positions : List (List Disjunct)) (word number : ℕ) → number < length (get_or positions word []) → word < length positions
+within_rows positions word number l =
+    elim (cases_lt word (length positions)) [
+      | inl p ↦ p
+      | inr p ↦ (let e = ap (λ z. length z) (get_or_past positions word [] p) in absurd (omega arith))
+    ]
+
+pub row_within : (lists : List (List Connector)) (positions : List (List Disjunct)) (rows : List (List Sides)) (word number : ℕ) → AreSidesOf lists positions rows → number < length (get_or positions word []) → word < length rows
+row_within lists positions rows word number are l =
+    let w = within_rows positions word number l in
+    let e = zip_length (AllZip (HasSides lists)) positions rows are in
+    omega arith
+
+pub row_at : (lists : List (List Connector)) (positions : List (List Disjunct)) (rows : List (List Sides)) (word number : ℕ) → AreSidesOf lists positions rows → number < length (get_or positions word []) → AllZip (HasSides lists) (get_or positions word []) (get_or rows word [])
+row_at lists positions rows word number are l = zip_at (AllZip (HasSides lists)) positions rows word [] [] are (within_rows positions word number l)
+
+pub number_within : (lists : List (List Connector)) (ds : List Disjunct) (row : List Sides) (number : ℕ) → AllZip (HasSides lists) ds row → number < length ds → number < length row
+number_within lists ds row number are l = let e = zip_length (HasSides lists) ds row are in omega arith
+
+pub sides_at : (lists : List (List Connector)) (positions : List (List Disjunct)) (row : List Sides) (word number : ℕ) (s : Sides) (d : Disjunct) → AllZip (HasSides lists) (get_or positions word []) row → s ≡ get_or row number s → IsDisjunctAt positions word number d → HasSides lists d s
+sides_at lists positions row word number s d are e is =
+    let ds = get_or positions word [] in
+    let l = slice_get_within ds number d is in
+    let h = zip_at (HasSides lists) ds row number d s are l in
+    subst (λ z. HasSides lists d z) (sym e) (subst (λ z. HasSides lists z (get_or row number s)) (get_or_from_slice_get ds number d d is) h)

@@ -1,0 +1,87 @@
+-- What the numbering keeps, for its methods.
+use Rattle.std.proofs.Common.{◌≡◌, ◌≢◌, ℕ, zero, suc, ◌-◌, ◌<◌, ◌≤◌, List, [], length, get_or, map, refl, sym, ◌∙◌, ap, subst, Some, Vec, Global, Bor, arith}
+use Rattle.std.specs.List.{slice_get}
+use Rattle.std.proofs.lemmas.List.{length-map}
+use Rattle.std.proofs.lemmas.Option.{slice_get_within}
+use Rattle.lg_gram.specs.Connectors.{Connector}
+use Rattle.lg_gram.specs.Limits.{SIDE}
+use Rattle.lg_gram.specs.declared.disjunct.Disjunct.{Disjunct}
+use Rattle.lg_region.specs.Fronts.{Numbering, list_of}
+use Rattle.lg_region.specs.Keys.{IsDisjunctAt}
+use Rattle.lg_region.specs.Kept.{IsKept, lists_in, numbering}
+use Rattle.lg_region.specs.Numbered.{HasSides}
+use Rattle.lg_region.specs.Ways.{IsEndOf}
+use Rattle.lg_region.specs.declared.lists.Lists.TheInside.{Inside}
+use Rattle.lg_region.specs.declared.numbering.Tail.{Tail}
+use Rattle.lg_region.specs.declared.numbering.Sides.{Sides}
+use Rattle.lg_region.proofs.Ends.{map_at, end_of, list_short, row_within, row_at, number_within, sides_at}
+
+-- the rows of the numbers of disjuncts
+abbrev pub rows_in : Inside → List (List Sides)
+rows_in a = map (λ v. v.items) a.sides.items
+
+pub word_within : (a : Inside) (v : Numbering) (word number : ℕ) → IsKept a → numbering a ≡ v → number < length (get_or v.positions word []) → word < length a.sides.items
+word_within a v word number is e l =
+    let h : number < length (get_or a.problem.now word []) = subst (λ z. number < length (get_or z.positions word [])) (sym e) l in
+    let r = row_within (lists_in a) a.problem.now (rows_in a) word number is.sides h in
+    let m : length (rows_in a) ≡ length a.sides.items = length-map a.sides.items (λ v. v.items) in
+    omega arith
+
+row_is : (a : Inside) (word : ℕ) (row : Vec Sides Global) → word < length a.sides.items → row ≡ get_or a.sides.items word row → get_or (rows_in a) word [] ≡ row.items
+row_is a word row l e = map_at {X = Vec Sides Global} (λ v. v.items) a.sides.items word row [] l e
+
+pub number_within_row : (a : Inside) (v : Numbering) (word number : ℕ) (row : Vec Sides Global) → IsKept a → numbering a ≡ v → row ≡ get_or a.sides.items word row → number < length (get_or v.positions word []) → number < length row.items
+number_within_row a v word number row is e r l =
+    let h : number < length (get_or a.problem.now word []) = subst (λ z. number < length (get_or z.positions word [])) (sym e) l in
+    let w = row_is a word row (word_within a v word number is e l) r in
+    let z = row_at (lists_in a) a.problem.now (rows_in a) word number is.sides h in
+    let n = number_within (lists_in a) (get_or a.problem.now word []) (get_or (rows_in a) word []) number z h in
+    subst (λ z. number < length z) w n
+
+pub sides_are : (a : Inside) (v : Numbering) (word number : ℕ) (row : Vec Sides Global) (s : Sides) → IsKept a → numbering a ≡ v → row ≡ get_or a.sides.items word row → s ≡ get_or row.items number s → number < length (get_or v.positions word [])
+    → (d : Disjunct) → IsDisjunctAt v.positions word number d → HasSides v.lists d s
+sides_are a v word number row s is e r t l d at =
+    let h : number < length (get_or a.problem.now word []) = subst (λ z. number < length (get_or z.positions word [])) (sym e) l in
+    let w = row_is a word row (word_within a v word number is e l) r in
+    let z = row_at (lists_in a) a.problem.now (rows_in a) word number is.sides h in
+    let u : s ≡ get_or (get_or (rows_in a) word []) number s = t ∙ ap (λ x. get_or x number s) (sym w) in
+    let at' : IsDisjunctAt a.problem.now word number d = subst (λ z. IsDisjunctAt z.positions word number d) (sym e) at in
+    subst (λ x. HasSides x.lists d s) e (sides_at (lists_in a) a.problem.now (get_or (rows_in a) word []) word number s d z u at')
+
+fronts_count : (a : Inside) → IsKept a → length (lists_in a) ≡ length a.fronts.items
+fronts_count a is = length-map a.fronts.items (λ f. f.now)
+
+pub front_is : (a : Inside) (v : Numbering) (n : ℕ) (f : Bor (List Connector)) → IsKept a → numbering a ≡ v → n < length a.fronts.items → f ≡ get_or a.fronts.items n f → (suc n ≤ length v.lists) × (get_or v.lists n [] ≡ f.now)
+front_is a v n f is e l t =
+    let c = fronts_count a is in
+    let k : suc n ≤ length (lists_in a) = omega arith in
+    (subst (λ z. suc n ≤ length z.lists) e k, subst (λ z. get_or z.lists n [] ≡ f.now) e (map_at {X = Bor (List Connector)} (λ f. f.now) a.fronts.items n f [] l t))
+
+pub beyond : (a : Inside) (v : Numbering) (n : ℕ) → IsKept a → numbering a ≡ v → length a.fronts.items ≤ n → length v.lists < suc n
+beyond a v n is e l =
+    let c = fronts_count a is in
+    let k : length (lists_in a) < suc n = omega arith in
+    subst (λ z. length z.lists < suc n) e k
+
+-- the end of a list, from its tail and its front
+pub kept_end : (a : Inside) (v : Numbering) (n : ℕ) (t : Tail) (f : Bor (List Connector)) → IsKept a → numbering a ≡ v → slice_get a.tails.keys n ≡ Some t → f ≡ get_or a.fronts.items n f
+    → IsEndOf v.lists (suc n) (record { id = suc n; place = length f.now - 1; last = t.last; shorter = t.shorter }) × (1 ≤ length f.now) × (length f.now ≤ SIDE)
+kept_end a v n t f is e g r =
+    let l = slice_get_within a.tails.keys n t g in
+    let s = is.tails.same_length in
+    let c = fronts_count a is in
+    let w : n < length a.fronts.items = omega arith in
+    let m : get_or (lists_in a) n [] ≡ f.now = map_at {X = Bor (List Connector)} (λ f. f.now) a.fronts.items n f [] w r in
+    let h = end_of (lists_in a) a.tails.keys n (length f.now) t is.tails g (ap (λ z. length z) (sym m)) in
+    let at = h.at_end in
+    let b = list_short a.problem.now (lists_in a) n is.problem is.lists (omega arith) in
+    let k = ap (λ z. length z) m in
+    let x : 1 ≤ length (get_or (lists_in a) n []) = omega arith in
+    (
+      subst (λ z. IsEndOf z.lists (suc n) (record { id = suc n; place = length f.now - 1; last = t.last; shorter = t.shorter })) e h,
+      omega arith,
+      omega arith,
+    )
+
+pub pred_of : (n : ℕ) → n ≢ 0 → n ≡ suc (n - 1)
+pred_of n h = omega arith

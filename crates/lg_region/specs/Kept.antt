@@ -1,0 +1,19 @@
+-- How the numbers of lists are kept.
+use Rattle.std.specs.Prelude.{List, map}
+use Rattle.lg_gram.specs.Connectors.{Connector}
+use Rattle.lg_gram.specs.Problems.{IsProblem}
+use Rattle.lg_region.specs.Fronts.{AreListsOf, Numbering}
+use Rattle.lg_region.specs.Numbered.{AreTailsOf, AreSidesOf}
+use Rattle.lg_region.specs.declared.lists.Lists.TheInside.{Inside}
+
+abbrev pub lists_in : Inside → List (List Connector)
+lists_in a = map (λ f. f.now) a.fronts.items
+
+abbrev pub numbering : Inside → Numbering
+numbering a = record { positions = a.problem.now; lists = lists_in a }
+
+pub record IsKept (a : Inside) : Type 0 where
+  pub problem : IsProblem a.problem.now
+  pub lists : AreListsOf a.problem.now (lists_in a)
+  pub tails : AreTailsOf (lists_in a) a.tails.keys
+  pub sides : AreSidesOf (lists_in a) a.problem.now (map (λ v. v.items) a.sides.items)

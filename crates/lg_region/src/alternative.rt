@@ -1,0 +1,86 @@
+//! Alternatives of a key.
+ghost use Rattle.std.specs.Prelude.{◌≡◌, ◌<◌, ◌↔◌, IsTrue, [], length, Some, slice_get};
+ghost use Rattle.lg_region.specs.Keys.{kept};
+
+use crate::key::{Joint, Key};
+use std::marker::Model;
+
+/// One way to cut what a key stands for: nothing is linked, or a word is, with the disjunct of that number, from 0, in its
+/// position's list, the joints with the two ends, and the keys of what is left on both sides.
+///
+/// Under `Key::Whole` the words before the first linked one are unlinked: there are no joints, and `lkey` is None.
+#[derive(Clone, Copy, Debug, PartialEq, Eq)]
+pub enum Alt {
+    AllNull,
+    Split {
+        word: u32,
+        disjunct: u32,
+        to_left: Option<Joint>,
+        to_right: Option<Joint>,
+        lkey: Option<Key>,
+        rkey: Option<Key>,
+    },
+}
+
+/// Alternatives. Contracts see their list.
+#[derive(Debug, Drop)]
+pub struct Alts {
+    items: Vec<Alt>,
+}
+
+impl Model for Alts {
+    ghost use Rattle.std.specs.Prelude.{List};
+    ghost use Rattle.lg_region.specs.declared.alternative.Alt.{Alt as Seen};
+
+    ghost Value = { List Seen };
+
+    ghost view = { λ a. a.items.items };
+}
+
+impl Alts {
+    /// The list of these alternatives.
+    pub(crate) fn of(items: Vec<Alt>) -> Alts
+        ensures { result ≡ items.items }
+    {
+        Alts { items }
+    }
+
+    /// How many there are.
+    pub fn len(&self) -> usize
+        ensures { result ≡ length self.now }
+    {
+        self.items.len()
+    }
+
+    /// Whether there is none.
+    pub fn is_empty(&self) -> bool
+        ensures { IsTrue result ↔ (self.now ≡ []) }
+    {
+        self.items.is_empty()
+    }
+
+    /// The alternative at an index, from 0.
+    pub fn get(&self, index: usize) -> Alt
+        requires { index < length self.now }
+        ensures { slice_get self.now index ≡ Some result }
+    {
+        self.items[index]
+    }
+
+    /// Those whose flag is true, in order. No memory.
+    pub fn keep(self, live: &[bool]) -> Alts
+        requires { length live.now ≡ length self }
+        ensures { result ≡ kept self live.now }
+    {
+        let Alts { mut items } = self;
+        let mut count = 0;
+        for index in 0..items.len() {
+            if live[index] {
+                items[count] = items[index];
+                count += 1;
+            }
+        }
+        items.truncate(count);
+        Alts { items }
+    }
+}

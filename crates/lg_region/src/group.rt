@@ -1,0 +1,152 @@
+//! The alternatives of a region that cut it at one word, by disjuncts with the same left list.
+ghost use Rattle.std.specs.Prelude.{◌≡◌, ◌≤◌, ◌++◌, map, IfOk, OnOk};
+ghost use Rattle.lg_region.specs.Ways.{AreExactly};
+ghost use Rattle.lg_region.specs.Groups.{AddsIn, IsGroup, IsKnownGap, IsRightOf, right_of, split_of, splits_with};
+
+use crate::alternative::Alt;
+use crate::key::Key;
+use crate::lists::Lists;
+use crate::ways::{Way, ways_between};
+use lg_base::NoMemory;
+use std::alloc::Global;
+
+/// A region in numbers.
+#[derive(Clone, Copy, Debug)]
+pub(crate) struct Gap {
+    pub(crate) left: u32,
+    pub(crate) right: u32,
+    pub(crate) llist: u32,
+    pub(crate) rlist: u32,
+    pub(crate) nulls: u32,
+}
+
+/// Disjuncts of a word, from one number up to another, that have the same left list, by its number.
+#[derive(Clone, Copy, Debug)]
+pub(crate) struct Group {
+    pub(crate) word: u32,
+    pub(crate) left: u32,
+    pub(crate) from: u32,
+    pub(crate) to: u32,
+}
+
+/// A disjunct of a word by its number, and how its right list goes on.
+#[derive(Clone, Copy, Debug)]
+pub(crate) struct Right {
+    pub(crate) disjunct: u32,
+    pub(crate) way: Way,
+}
+
+/// Adds the alternatives of a region that cut it at the word of a group with one of its disjuncts. Those with the same left
+/// key stand together.
+pub(crate) fn push_group(
+    alloc: Global,
+    lists: &Lists<'_>,
+    gap: &Gap,
+    group: &Group,
+    out: &mut Vec<Alt>,
+) -> Result<(), NoMemory>
+    requires gap { IsKnownGap lists.now.lists gap.now }
+    requires group { IsGroup lists.now gap.now group.now }
+    ensures { OnOk result (AddsIn lists.entry.now gap.now group.now.word group.now.from group.now.to out.old.items out.new.items) }
+{
+    lists.are_numbered();
+    let lefts = ways_between(alloc, lists, gap.llist, group.left, gap.llist == 0)?;
+    if lefts.is_empty() {
+        return Ok(());
+    }
+    let rights = rights(alloc, lists, gap, group)?;
+    let least = gap.nulls.saturating_sub(gap.right - group.word - 1);
+    let most = gap.nulls.min(group.word - gap.left - 1);
+    for nulls in least..most + 1 {
+        push_splits(gap, group.word, nulls, &lefts, &rights, out)?;
+    }
+    Ok(())
+}
+
+// The disjuncts of the group with each way on of their right lists.
+fn rights(
+    alloc: Global,
+    lists: &Lists<'_>,
+    gap: &Gap,
+    group: &Group,
+) -> Result<Vec<Right>, NoMemory>
+    requires gap { IsKnownGap lists.now.lists gap.now }
+    requires group { IsGroup lists.now gap.now group.now }
+    ensures { IfOk result (λ rights. AreExactly rights.items (IsRightOf lists.entry.now gap.now group.now)) }
+{
+    let mut rights = Vec::new(alloc);
+    for number in group.from..group.to {
+        let sides = lists.sides(group.word, number);
+        let ways = ways_between(alloc, lists, sides.right, gap.rlist, gap.llist != 0)?;
+        push_rights(number, &ways, &mut rights)?;
+    }
+    Ok(rights)
+}
+
+fn push_rights(number: u32, ways: &[Way], rights: &mut Vec<Right>) -> Result<(), NoMemory>
+    ensures { OnOk result (rights.new.items ≡ rights.old.items ++ map (right_of number) ways.now) }
+{
+    for way in ways {
+        rights.push(Right {
+            disjunct: number,
+            way: *way,
+        })?;
+    }
+    Ok(())
+}
+
+// The alternatives with so many unlinked words on the left.
+fn push_splits(
+    gap: &Gap,
+    word: u32,
+    nulls: u32,
+    lefts: &[Way],
+    rights: &[Right],
+    out: &mut Vec<Alt>,
+) -> Result<(), NoMemory>
+    requires { nulls ≤ gap.now.nulls }
+    ensures { OnOk result (out.new.items ≡ out.old.items ++ splits_with gap.now word lefts.now rights.now nulls) }
+{
+    for left in lefts {
+        push_with_left(gap, word, nulls, left, rights, out)?;
+    }
+    Ok(())
+}
+
+fn push_with_left(
+    gap: &Gap,
+    word: u32,
+    nulls: u32,
+    left: &Way,
+    rights: &[Right],
+    out: &mut Vec<Alt>,
+) -> Result<(), NoMemory>
+    requires { nulls ≤ gap.now.nulls }
+    ensures { OnOk result (out.new.items ≡ out.old.items ++ map (split_of gap.now word nulls left.now) rights.now) }
+{
+    let lkey = Key::Region {
+        left: gap.left,
+        right: word,
+        llist: left.near,
+        rlist: left.far,
+        nulls,
+    };
+    for right in rights {
+        let rkey = Key::Region {
+            left: word,
+            right: gap.right,
+            llist: right.way.near,
+            rlist: right.way.far,
+            nulls: gap.nulls - nulls,
+        };
+        out.push(Alt::Split {
+            word,
+            disjunct: right.disjunct,
+            to_left: left.joint,
+            to_right: right.way.joint,
+            lkey: Some(lkey),
+            rkey: Some(rkey),
+        })?;
+    }
+    Ok(())
+}

@@ -1,0 +1,126 @@
+//! Numbers of the lists of a problem.
+ghost use Rattle.std.specs.Prelude.{◌≡◌, ◌<◌, ◌≤◌, [], length, slice_index_or, MatchOption, IfOk};
+ghost use Rattle.lg_gram.specs.declared.disjunct.Disjunct.{Disjunct};
+ghost use Rattle.lg_region.specs.Fronts.{AreListsOf, list_of};
+ghost use Rattle.lg_region.specs.Keys.{IsDisjunctAt};
+ghost use Rattle.lg_region.specs.Numbered.{HasSides};
+ghost use Rattle.lg_region.specs.Ways.{IsEndOf};
+
+use crate::numbering::{Sides, Tail, numbered};
+use crate::ways::End;
+use indexmap::IndexSet;
+use lg_base::NoMemory;
+use lg_gram::{Connector, Problem};
+use std::alloc::Global;
+use std::marker::Model;
+
+/// The numbers of the lists of a problem: 0 is the empty list, and 1, 2, .. are the front parts of the lists of its
+/// disjuncts, each once, in the order in which they are met: by position, by disjunct, the left list before the right one,
+/// shorter front parts first.
+///
+/// Contracts see `{ positions, lists }`: the problem, and the lists of the numbers from 1 on.
+#[derive(Drop)]
+pub struct Lists<'a> {
+    problem: &'a Problem,
+    fronts: Vec<&'a [Connector]>,
+    tails: IndexSet<Tail>,
+    sides: Vec<Vec<Sides>>,
+}
+
+impl<'a> Model for Lists<'a> {
+    ghost use Rattle.lg_region.specs.Fronts.{Numbering};
+
+    ghost Value = { Numbering };
+
+    ghost use Rattle.lg_region.specs.Kept.{numbering, IsKept};
+
+    ghost view = { numbering };
+
+    ghost invariant = { IsKept };
+}
+
+impl<'a> Lists<'a> {
+    /// The numbers of the lists of a problem. It takes some ten bytes for each disjunct, and less than a hundred for each
+    /// list.
+    pub fn of(alloc: Global, problem: &'a Problem) -> Result<Lists<'a>, NoMemory>
+        ensures positions { IfOk result (λ lists. lists.positions ≡ problem.now) }
+        ensures lists { IfOk result (λ lists. AreListsOf problem.now lists.lists) }
+    {
+        let mut fronts = Vec::new(alloc);
+        let mut tails = IndexSet::new(alloc);
+        let sides = numbered(alloc, &mut fronts, &mut tails, problem.positions())?;
+        Ok(Lists {
+            problem,
+            fronts,
+            tails,
+            sides,
+        })
+    }
+
+    /// The list of a number, from near to far. None where the number is above the last. No memory.
+    pub fn get(&self, id: u32) -> Option<&[Connector]>
+        ensures value { MatchOption result (length self.now.lists < id) (λ list. (id ≤ length self.now.lists) × (list.now ≡ list_of self.now.lists id)) }
+        ensures lists { AreListsOf self.now.positions self.now.lists }
+    {
+        let fronts = &self.fronts;
+        if id == 0 {
+            return Some(&[]);
+        }
+        let index = id as usize - 1;
+        if index < fronts.len() {
+            Some(fronts[index])
+        } else {
+            None
+        }
+    }
+
+    /// The lists are numbered as said above. The function does nothing: a caller whose proof needs the fact calls it.
+    pub fn are_numbered(&self)
+        ensures { AreListsOf self.now.positions self.now.lists }
+    {
+        let _fronts = &self.fronts;
+    }
+
+    /// How many words there are. No memory.
+    pub(crate) fn words(&self) -> u32
+        ensures { result ≡ length self.now.positions }
+    {
+        self.problem.positions().len() as u32
+    }
+
+    /// How many disjuncts a word has. No memory.
+    pub(crate) fn count(&self, word: u32) -> u32
+        requires { word < length self.now.positions }
+        ensures { result ≡ length (slice_index_or self.now.positions word []) }
+    {
+        self.problem.positions()[word as usize].items().len() as u32
+    }
+
+    /// The numbers of the two lists of a disjunct. No memory.
+    pub(crate) fn sides(&self, word: u32, number: u32) -> Sides
+        requires { number < length (slice_index_or self.now.positions word []) }
+        ensures { (d : Disjunct) → IsDisjunctAt self.now.positions word number d → HasSides self.now.lists d result }
+    {
+        self.sides[word as usize][number as usize]
+    }
+
+    /// The end of a list. None where it is empty. No memory.
+    pub(crate) fn end(&self, id: u32) -> Option<End>
+        requires { id ≤ length self.now.lists }
+        ensures value { MatchOption result (id ≡ 0) (IsEndOf self.now.lists id) }
+        ensures lists { AreListsOf self.now.positions self.now.lists }
+    {
+        let fronts = &self.fronts;
+        if id == 0 {
+            return None;
+        }
+        let index = id as usize - 1;
+        let tail = self.tails[index];
+        Some(End {
+            id,
+            place: fronts[index].len() as u32 - 1,
+            last: tail.last,
+            shorter: tail.shorter,
+        })
+    }
+}

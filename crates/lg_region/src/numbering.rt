@@ -1,0 +1,108 @@
+//! The work of numbering lists.
+ghost use Rattle.std.specs.Prelude.{◌≡◌, ◌+◌, ◌<◌, ◌^◌, map, length, IfOk, OnOk};
+ghost use Rattle.std.specs.List.{flat_map};
+ghost use Rattle.lg_gram.specs.Problems.{IsProblem};
+ghost use Rattle.lg_region.specs.Fronts.{all_fronts, fronts as front_parts, fronts_of};
+ghost use Rattle.lg_region.specs.Numbered.{Admits, AreNumbered, AreSidesOf, GivesNumber, GivesSides, Numbers};
+
+use indexmap::IndexSet;
+use lg_base::NoMemory;
+use lg_gram::{Connector, Disjunct, Disjuncts};
+use std::alloc::Global;
+
+/// A list but the empty one: the number of the list without its last connector, and that connector.
+#[derive(Clone, Copy, Debug, PartialEq, Eq, Hash)]
+pub(crate) struct Tail {
+    pub(crate) shorter: u32,
+    pub(crate) last: Connector,
+}
+
+/// The numbers of the two lists of a disjunct.
+#[derive(Clone, Copy, Debug)]
+pub(crate) struct Sides {
+    pub(crate) left: u32,
+    pub(crate) right: u32,
+}
+
+/// The numbers of the lists of all disjuncts. `fronts` becomes the lists of the numbers from 1 on, and `tails` the table by
+/// which they are found; both are empty at first.
+pub(crate) fn numbered<'a>(
+    alloc: Global,
+    fronts: &mut Vec<&'a [Connector]>,
+    tails: &mut IndexSet<Tail>,
+    positions: &'a [Disjuncts],
+) -> Result<Vec<Vec<Sides>>, NoMemory>
+    requires problem { IsProblem positions.now }
+    requires empty { length fronts.old.items ≡ 0 }
+    requires no_tails { length tails.old.keys ≡ 0 }
+    ensures lists { OnOk result (AreNumbered (all_fronts positions.now) (map (λ f. f.now) fronts.new.items) tails.new.keys) }
+    ensures sides { IfOk result (λ sides. AreSidesOf (map (λ f. f.now) fronts.new.items) positions.now (map (λ v. v.items) sides.items)) }
+{
+    let mut rows = Vec::new(alloc);
+    for position in positions {
+        let row = row_of(alloc, fronts, tails, position.items())?;
+        rows.push(row)?;
+    }
+    Ok(rows)
+}
+
+// The numbers of the lists of the disjuncts of one position.
+fn row_of<'a>(
+    alloc: Global,
+    fronts: &mut Vec<&'a [Connector]>,
+    tails: &mut IndexSet<Tail>,
+    disjuncts: &'a [Disjunct],
+) -> Result<Vec<Sides>, NoMemory>
+    requires level { length tails.old.keys ≡ length fronts.old.items }
+    requires room { length fronts.old.items + length (flat_map fronts_of disjuncts.now) < 2 ^ 32 }
+    ensures numbers { OnOk result (Numbers (map (λ f. f.now) fronts.old.items) tails.old.keys (map (λ f. f.now) fronts.new.items) tails.new.keys (flat_map fronts_of disjuncts.now)) }
+    ensures sides { IfOk result (λ row. GivesSides (map (λ f. f.now) fronts.old.items) tails.old.keys (map (λ f. f.now) fronts.new.items) disjuncts.now row.items) }
+{
+    let mut row = Vec::new(alloc);
+    for disjunct in disjuncts {
+        let left = number_of(fronts, tails, disjunct.left.items())?;
+        let right = number_of(fronts, tails, disjunct.right.items())?;
+        row.push(Sides { left, right })?;
+    }
+    Ok(row)
+}
+
+// The number of a list, whose front parts get numbers too.
+fn number_of<'a>(
+    fronts: &mut Vec<&'a [Connector]>,
+    tails: &mut IndexSet<Tail>,
+    list: &'a [Connector],
+) -> Result<u32, NoMemory>
+    requires level { length tails.old.keys ≡ length fronts.old.items }
+    requires room { length fronts.old.items + length (front_parts list.now) < 2 ^ 32 }
+    ensures numbers { OnOk result (Numbers (map (λ f. f.now) fronts.old.items) tails.old.keys (map (λ f. f.now) fronts.new.items) tails.new.keys (front_parts list.now)) }
+    ensures id { IfOk result (λ id. GivesNumber (map (λ f. f.now) fronts.old.items) tails.old.keys (map (λ f. f.now) fronts.new.items) list.now id) }
+{
+    let mut id = 0;
+    for index in 0..list.len() {
+        let tail = Tail {
+            shorter: id,
+            last: list[index],
+        };
+        id = admit(fronts, tails, tail, &list[..index + 1])?;
+    }
+    Ok(id)
+}
+
+// The number of a list with this end: a new one where the list has none yet.
+fn admit<'a>(
+    fronts: &mut Vec<&'a [Connector]>,
+    tails: &mut IndexSet<Tail>,
+    tail: Tail,
+    front: &'a [Connector],
+) -> Result<u32, NoMemory>
+    requires level { length tails.old.keys ≡ length fronts.old.items }
+    requires room { length fronts.old.items + 1 < 2 ^ 32 }
+    ensures { IfOk result (λ id. Admits (map (λ f. f.now) fronts.old.items) tails.old.keys (map (λ f. f.now) fronts.new.items) tails.new.keys tail front.now id) }
+{
+    let (index, is_new) = tails.insert_full(tail)?;
+    if is_new {
+        fronts.push(front)?;
+    }
+    Ok(index as u32 + 1)
+}
