@@ -107,14 +107,14 @@ admits_old lists tails t x front i level g e = record {
   few = omega arith;
   level = level;
   admitted = λ met is l f.
-    let l' = slice_get_within tails i x g in
-    let same : x ≡ t = sym ((tail_Decides t x).0 e) in
-    let has = is.tailed.each i t (g ∙ ap (λ z. Some z) same) in
-    let list : list_of lists (suc i) ≡ front = has.list ∙ sym f in
-    let at : slice_get lists i ≡ Some front = slice_get-get_or lists i [] (omega arith) ∙ ap (λ z. Some z) list in (
-      record { first_met = met_again met lists front is.first_met (get_contains lists i front at); tailed = is.tailed },
-      record { known = omega arith; list = subst (λ z. list_of lists z ≡ front) (sym (add-one i)) list },
-    );
+      let l' = slice_get_within tails i x g in
+      let same : x ≡ t = sym ((tail_Decides t x).0 e) in
+      let has = is.tailed.each i t (g ∙ ap (λ z. Some z) same) in
+      let list : list_of lists (suc i) ≡ front = has.list ∙ sym f in
+      let at : slice_get lists i ≡ Some front = slice_get-get_or lists i [] (omega arith) ∙ ap (λ z. Some z) list in (
+        record { first_met = met_again met lists front is.first_met (get_contains lists i front at); tailed = is.tailed },
+        record { known = omega arith; list = subst (λ z. list_of lists z ≡ front) (sym (add-one i)) list },
+      );
 }
 
 -- a tail of the lists before
@@ -136,11 +136,11 @@ new_tails lists tails t front are l f = record {
   each = λ n x g. elim (push_cases tails t n x g) [
     | inl h ↦ (let b = h.0 in let e = are.same_length in tail_grown lists front n x (omega arith) (are.each n x h.1))
     | inr h ↦ (
-      let e : n ≡ length lists = h.0 ∙ are.same_length in
-      let s : t.shorter < suc (length lists) = omega arith in
-      let k : IsTailOf (lists ++ front ∷ []) (suc (length lists)) t = record { shorter = s; list = end_list lists front ∙ f ∙ ap (λ z. z ++ t.last ∷ []) (sym (list_of_grown lists (front ∷ []) t.shorter l)) } in
-      subst (λ z. IsTailOf (lists ++ front ∷ []) (suc z) x) (sym e) (subst (λ z. IsTailOf (lists ++ front ∷ []) (suc (length lists)) z) h.1 k)
-    )
+        let e : n ≡ length lists = h.0 ∙ are.same_length in
+        let s : t.shorter < suc (length lists) = omega arith in
+        let k : IsTailOf (lists ++ front ∷ []) (suc (length lists)) t = record { shorter = s; list = end_list lists front ∙ f ∙ ap (λ z. z ++ t.last ∷ []) (sym (list_of_grown lists (front ∷ []) t.shorter l)) } in
+        subst (λ z. IsTailOf (lists ++ front ∷ []) (suc z) x) (sym e) (subst (λ z. IsTailOf (lists ++ front ∷ []) (suc (length lists)) z) h.1 k)
+        )
   ];
 }
 
@@ -156,14 +156,14 @@ admits_new lists tails t x front i level none g e =
       few = omega arith;
       level = omega arith;
       admitted = λ met is l f.
-        let at : i ≡ length lists = elim (push_cases tails t i x g) [
-          | inr h ↦ h.0 ∙ level
-          | inl h ↦ (let same : x ≡ t = sym ((tail_Decides t x).0 e) in absurd (true≢false (sym (found_in t tails i (h.1 ∙ ap (λ z. Some z) same)) ∙ none)))
-        ] in
-        let not : Contains lists front → ⊥ = λ c. unmet lists tails t is.first_met.once is.tailed l none (subst (λ z. Contains lists z) f c) in (
-          record { first_met = met_new met lists front is.first_met not; tailed = new_tails lists tails t front is.tailed l f },
-          record { known = omega arith; list = subst (λ z. list_of (lists ++ front ∷ []) z ≡ front) (ap (λ z. suc z) (sym at) ∙ sym (add-one i)) (end_list lists front) },
-        );
+          let at : i ≡ length lists = elim (push_cases tails t i x g) [
+            | inr h ↦ h.0 ∙ level
+            | inl h ↦ (let same : x ≡ t = sym ((tail_Decides t x).0 e) in absurd (true≢false (sym (found_in t tails i (h.1 ∙ ap (λ z. Some z) same)) ∙ none)))
+          ] in
+          let not : Contains lists front → ⊥ = λ c. unmet lists tails t is.first_met.once is.tailed l none (subst (λ z. Contains lists z) f c) in (
+            record { first_met = met_new met lists front is.first_met not; tailed = new_tails lists tails t front is.tailed l f },
+            record { known = omega arith; list = subst (λ z. list_of (lists ++ front ∷ []) z ≡ front) (ap (λ z. suc z) (sym at) ∙ sym (add-one i)) (end_list lists front) },
+          );
     }
 
 -- both cases, by what the table answers
@@ -173,19 +173,19 @@ pub admits : (old lists : List (List Connector)) (old_tails tails : List Tail) (
 admits old lists old_tails tails t x front i is_new level n e l g s =
     elim (cases_Bool (list_any (tail_eq t) old_tails)) [
       | inl found ↦ (
-        let a : tails ≡ old_tails = rw found at e in
-        let m : is_new ≡ false = rw found at n in
-        let b : lists ≡ old = rw m at l in
-        subst (λ z. Admits old old_tails z tails t front (i + 1)) (sym b) (subst (λ z. Admits old old_tails old z t front (i + 1)) (sym a)
-            (admits_old old old_tails t x front i level (subst (λ z. slice_get z i ≡ Some x) a g) s))
-      )
+          let a : tails ≡ old_tails = rw found at e in
+          let m : is_new ≡ false = rw found at n in
+          let b : lists ≡ old = rw m at l in
+          subst (λ z. Admits old old_tails z tails t front (i + 1)) (sym b) (subst (λ z. Admits old old_tails old z t front (i + 1)) (sym a)
+          (admits_old old old_tails t x front i level (subst (λ z. slice_get z i ≡ Some x) a g) s))
+          )
       | inr none ↦ (
-        let a : tails ≡ old_tails ++ t ∷ [] = rw none at e in
-        let m : is_new ≡ true = rw none at n in
-        let b : lists ≡ old ++ front ∷ [] = rw m at l in
-        subst (λ z. Admits old old_tails z tails t front (i + 1)) (sym b) (subst (λ z. Admits old old_tails (old ++ front ∷ []) z t front (i + 1)) (sym a)
-            (admits_new old old_tails t x front i level none (subst (λ z. slice_get z i ≡ Some x) a g) s))
-      )
+          let a : tails ≡ old_tails ++ t ∷ [] = rw none at e in
+          let m : is_new ≡ true = rw none at n in
+          let b : lists ≡ old ++ front ∷ [] = rw m at l in
+          subst (λ z. Admits old old_tails z tails t front (i + 1)) (sym b) (subst (λ z. Admits old old_tails (old ++ front ∷ []) z t front (i + 1)) (sym a)
+          (admits_new old old_tails t x front i level none (subst (λ z. slice_get z i ≡ Some x) a g) s))
+          )
     ]
 
 -- the lists after one was pushed, or none

@@ -221,9 +221,8 @@ first_is positions lists nulls word number s (At w n None None None (Some rk)) a
     let h = sides c.disjunct at in
     let ew : c.word ≡ word = i.place ∙ t.0 in
     let k : c.rkey ≡ region_of_numbers lists word (length positions) s.right 0 (nulls - word) =
-      subst (λ z. c.rkey ≡ record { left = word; right = length positions; llist = z; rlist = []; nulls = nulls - word }) (sym h.right.list)
-      (subst (λ z. c.rkey ≡ record { left = z; right = length positions; llist = c.disjunct.right; rlist = []; nulls = nulls - z }) ew i.first.rkey) in
-    (
+    subst (λ z. c.rkey ≡ record { left = word; right = length positions; llist = z; rlist = []; nulls = nulls - word }) (sym h.right.list)
+    (subst (λ z. c.rkey ≡ record { left = z; right = length positions; llist = c.disjunct.right; rlist = []; nulls = nulls - z }) ew i.first.rkey) in (
       apart positions lists are s.left 0 h.left.known (omega arith) (h.left.list ∙ i.first.left),
       first_same word w number n (Between word (length positions) s.right 0 (nulls - word)) rk (sym t.0) (sym en) (one_key positions lists are (Between word (length positions) s.right 0 (nulls - word)) rk c.rkey (h.right.known, omega arith, k) i.behind),
     )
@@ -238,20 +237,22 @@ is_first positions lists nulls word number s few enough l sides e =
     let d = some_number positions word number l in
     let h = sides d.0 d.1 in
     let key = region_of_numbers lists word (length positions) s.right 0 (nulls - word) in
-    let c : First = record { word = word; disjunct = d.0; rkey = key } in
-    (c, record {
-      first = record {
-        before = omega arith;
-        enough = enough;
-        listed = get_contains (get_or positions word []) number d.0 d.1;
-        left = sym h.left.list ∙ ap (list_of lists) e;
-        rkey = subst (λ z. key ≡ record { left = word; right = length positions; llist = z; rlist = []; nulls = nulls - word }) h.right.list refl;
-        few = omega arith;
-      };
-      place = refl;
-      chosen = d.1;
-      behind = (h.right.known, omega arith, refl);
-    })
+    let c : First = record { word = word; disjunct = d.0; rkey = key } in (
+      c,
+      record {
+        first = record {
+          before = omega arith;
+          enough = enough;
+          listed = get_contains (get_or positions word []) number d.0 d.1;
+          left = sym h.left.list ∙ ap (list_of lists) e;
+          rkey = subst (λ z. key ≡ record { left = word; right = length positions; llist = z; rlist = []; nulls = nulls - word }) h.right.list refl;
+          few = omega arith;
+        };
+        place = refl;
+        chosen = d.1;
+        behind = (h.right.known, omega arith, refl);
+      },
+    )
 
 pub no_first : (numbers : Numbering) (nulls word number : ℕ) (s : Sides) (out : List Alt) → AreListsOf numbers.positions numbers.lists → ((d : Disjunct) → IsDisjunctAt numbers.positions word number d → HasSides numbers.lists d s) → s.left ≢ 0 → AddsFirst numbers nulls word number (number + 1) out out
 no_first numbers nulls word number s out are sides n =

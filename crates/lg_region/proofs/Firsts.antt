@@ -36,13 +36,13 @@ again_first all met v is c i j q x y l ex ey eq =
     elim (push_cases all v q y eq) [
       | inl h ↦ (let r = is.first i j q x y l ex ey h.1 in (r.0, r.1, left_place all (v ∷ []) r.0 x r.2))
       | inr h ↦ (
-        let w = contains_get all y ((is.same y).0 (get_contains met j y ey)) in
-        let r = is.first i j w.0 x y l ex ey w.2 in
-        let e = h.0 in
-        let b = w.1 in
-        let d = r.1 in
-        (r.0, omega arith, left_place all (v ∷ []) r.0 x r.2)
-      )
+          let w = contains_get all y ((is.same y).0 (get_contains met j y ey)) in
+          let r = is.first i j w.0 x y l ex ey w.2 in
+          let e = h.0 in
+          let b = w.1 in
+          let d = r.1 in
+          (r.0, omega arith, left_place all (v ∷ []) r.0 x r.2)
+          )
     ]
 
 -- a value that was met is met again

@@ -26,10 +26,10 @@ rest_in lists number e true t is rest c =
       | inl s ↦ (let k = is.known_shorter in (omega arith, (is.at_end, inl (ap (list_of lists) (sym s) ∙ is.rest))))
       | inr h ↦ elim (contains_cases e.id [] rest h) [
         | inl s ↦ (
-          let r : rest ≡ number = sym s ∙ is.itself in
-          let k = is.known in
-          (omega arith, (is.at_end, inr (ap (list_of lists) r, λ c g. ap (λ z. z.multi) (same_Some c e.last (sym g ∙ is.is_last)) ∙ t)))
-        )
+            let r : rest ≡ number = sym s ∙ is.itself in
+            let k = is.known in
+            (omega arith, (is.at_end, inr (ap (list_of lists) r, λ c g. ap (λ z. z.multi) (same_Some c e.last (sym g ∙ is.is_last)) ∙ t)))
+            )
         | inr h ↦ absurd (contains_none rest h)
       ]
     ]
@@ -109,21 +109,21 @@ joined_are positions lists near far e f are ie if' m =
         joined = λ a. refl;
       }),
       λ is.
-        let o = some_of w.joint (is.joined refl) in
-        let c : IsCutAt (Some o.0) (list_of lists near) (list_of lists far) (list_of lists w.near) (list_of lists w.far) = subst (λ z. IsCutAt z (list_of lists near) (list_of lists far) (list_of lists w.near) (list_of lists w.far)) o.1 is.cut in
-        let a = c.0.0 in
-        let b = c.1.0 in
-        let x = ie.at_end in
-        let y = if'.at_end in
-        let pn : o.0.near ≡ e.place = omega arith in
-        let pf : o.0.far ≡ f.place = omega arith in
-        let k = joint_is o.0 e.place f.place pn pf in (
-          w.near,
-          w.far,
-          (is.known_near, subst (λ z. GoesOn (list_of lists near) z (list_of lists w.near)) pn c.0),
-          (is.known_far, subst (λ z. GoesOn (list_of lists far) z (list_of lists w.far)) pf c.1),
-          way_is w j w.near w.far (o.1 ∙ ap (λ z. Some z) (sym k)) refl refl,
-        ),
+          let o = some_of w.joint (is.joined refl) in
+          let c : IsCutAt (Some o.0) (list_of lists near) (list_of lists far) (list_of lists w.near) (list_of lists w.far) = subst (λ z. IsCutAt z (list_of lists near) (list_of lists far) (list_of lists w.near) (list_of lists w.far)) o.1 is.cut in
+          let a = c.0.0 in
+          let b = c.1.0 in
+          let x = ie.at_end in
+          let y = if'.at_end in
+          let pn : o.0.near ≡ e.place = omega arith in
+          let pf : o.0.far ≡ f.place = omega arith in
+          let k = joint_is o.0 e.place f.place pn pf in (
+            w.near,
+            w.far,
+            (is.known_near, subst (λ z. GoesOn (list_of lists near) z (list_of lists w.near)) pn c.0),
+            (is.known_far, subst (λ z. GoesOn (list_of lists far) z (list_of lists w.far)) pf c.1),
+            way_is w j w.near w.far (o.1 ∙ ap (λ z. Some z) (sym k)) refl refl,
+          ),
     ))
     product
 

@@ -80,8 +80,8 @@ partly_more old old_tails lists tails lists' tails' cs front i id id' c p l e f 
     let t : take (i + 1) cs ≡ xs ++ c ∷ [] = take_more cs i c l ∙ ap (λ z. xs ++ z ∷ []) (sym e) in
     let more : fronts (take (i + 1) cs) ≡ fronts xs ++ front ∷ [] = ap fronts t ∙ fronts_more xs c ∙ ap (λ z. fronts xs ++ z ∷ []) (sym (f ∙ t)) in
     let admitted = λ (met : List (List Connector)) (is : AreNumbered met old old_tails).
-      let n = p.number met is in
-      a.admitted (met ++ fronts xs) (p.numbers.numbered met is) n.known (f ∙ t ∙ ap (λ z. z ++ c ∷ []) (sym n.list)) in
+    let n = p.number met is in
+    a.admitted (met ++ fronts xs) (p.numbers.numbered met is) n.known (f ∙ t ∙ ap (λ z. z ++ c ∷ []) (sym n.list)) in
     let one : Numbers lists tails lists' tails' (front ∷ []) → Numbers old old_tails lists' tails' (fronts (take (i + 1) cs)) = λ y. subst (λ z. Numbers old old_tails lists' tails' z) (sym more) (numbers_then old old_tails lists tails lists' tails' (fronts xs) (front ∷ []) p.numbers y) in
     record {
       numbers = record {
@@ -140,10 +140,10 @@ row_more old old_tails a ta b tb c tc ds d row left right so x gx y gy =
     record {
       numbers = subst (λ z. Numbers old old_tails c tc z) e (numbers_then old old_tails a ta c tc m (fronts_of d) so.numbers both);
       sides = λ met is.
-        let n = so.numbers.numbered met is in
-        let k = x.numbered (met ++ m) n in
-        zip_push (HasSides c) ds row d (record { left = left; right = right }) (row_grows a c both.grown ds row both.grows (so.sides met is))
-        (record { left = number_grows b c y.grown left d.left y.grows (gx (met ++ m) n); right = gy ((met ++ m) ++ fronts d.left) k });
+          let n = so.numbers.numbered met is in
+          let k = x.numbered (met ++ m) n in
+          zip_push (HasSides c) ds row d (record { left = left; right = right }) (row_grows a c both.grown ds row both.grows (so.sides met is))
+          (record { left = number_grows b c y.grown left d.left y.grows (gx (met ++ m) n); right = gy ((met ++ m) ++ fronts d.left) k });
     }
 
 -- and after some positions
@@ -160,9 +160,9 @@ rows_more old old_tails a ta b tb positions ds rows row so x s =
     record {
       numbers = subst (λ z. Numbers old old_tails b tb z) e (numbers_then old old_tails a ta b tb m n so.numbers x);
       sides = λ met is.
-        zip_push (AllZip (HasSides b)) positions rows ds row
-        (zip_map (AllZip (HasSides a)) (AllZip (HasSides b)) (λ ds' row'. row_grows a b x.grown ds' row' x.grows) positions rows (so.sides met is))
-        (s (met ++ m) (so.numbers.numbered met is));
+          zip_push (AllZip (HasSides b)) positions rows ds row
+          (zip_map (AllZip (HasSides a)) (AllZip (HasSides b)) (λ ds' row'. row_grows a b x.grown ds' row' x.grows) positions rows (so.sides met is))
+          (s (met ++ m) (so.numbers.numbered met is));
     }
 
 few_of_row : (ds : List Disjunct) → AllByRecursion FitsProblem ds → length (flat_map fronts_of ds) ≤ 510 * length ds

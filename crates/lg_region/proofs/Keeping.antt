@@ -76,8 +76,7 @@ kept_end a v n t f is e g r =
     let at = h.at_end in
     let b = list_short a.problem.now (lists_in a) n is.problem is.lists (omega arith) in
     let k = ap (λ z. length z) m in
-    let x : 1 ≤ length (get_or (lists_in a) n []) = omega arith in
-    (
+    let x : 1 ≤ length (get_or (lists_in a) n []) = omega arith in (
       subst (λ z. IsEndOf z.lists (suc n) (record { id = suc n; place = length f.now - 1; last = t.last; shorter = t.shorter })) e h,
       omega arith,
       omega arith,

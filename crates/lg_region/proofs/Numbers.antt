@@ -121,7 +121,7 @@ one_key positions lists are (Between l r ll rl n) (Whole m) k x y = absurd y
 one_key positions lists are (Between l r ll rl n) (Between l' r' ll' rl' n') k x y =
     let e : region_of_numbers lists l r ll rl n ≡ region_of_numbers lists l' r' ll' rl' n' = sym x.2 ∙ y.2 in
     same_key l r ll rl n l' r' ll' rl' n' (ap (λ z. z.left) e) (ap (λ z. z.right) e)
-        (apart positions lists are ll ll' x.0 y.0 (ap (λ z. z.llist) e)) (apart positions lists are rl rl' x.1 y.1 (ap (λ z. z.rlist) e)) (ap (λ z. z.nulls) e)
+    (apart positions lists are ll ll' x.0 y.0 (ap (λ z. z.llist) e)) (apart positions lists are rl rl' x.1 y.1 (ap (λ z. z.rlist) e)) (ap (λ z. z.nulls) e)
 
 all_of : (cs : List Connector) → (cs ≡ []) ⊎ Contains (fronts cs) cs
 all_of [] = inl refl
@@ -172,7 +172,7 @@ region_again : (k : Region) (a b : List Connector) → a ≡ k.llist → b ≡ k
 region_again k a b e f =
     let g : k ≡ record { left = k.left; right = k.right; llist = k.llist; rlist = k.rlist; nulls = k.nulls } = refl in
     subst (λ z. k ≡ record { left = k.left; right = k.right; llist = z; rlist = b; nulls = k.nulls }) (sym e)
-        (subst (λ z. k ≡ record { left = k.left; right = k.right; llist = k.llist; rlist = z; nulls = k.nulls }) (sym f) g)
+    (subst (λ z. k ≡ record { left = k.left; right = k.right; llist = k.llist; rlist = z; nulls = k.nulls }) (sym f) g)
 
 some_key : (positions : List (List Disjunct)) (lists : List (List Connector)) → AreListsOf positions lists → (k : Region) → IsValid positions k → (key : Key) × IsKeyOf lists key k
 some_key positions lists are k v =

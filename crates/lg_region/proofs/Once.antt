@@ -89,7 +89,7 @@ exactly_product f xs ys P Q a b inj = record {
     λ (x, y, p, q, e). flat_in (λ x. map (f x) ys) xs x z ((a.each x).1 p) (subst (λ v. Contains (map (f x) ys) v) e (map_in (f x) ys y ((b.each y).1 q))),
   );
   once = once_flat (λ x. map (f x) ys) xs a.once (λ x. once_map (f x) ys (λ y y' e. (inj x x y y' e).1) b.once)
-    (λ x x' z c d. let r = map_out (f x) ys z c in let s = map_out (f x') ys z d in (inj x x' r.0 s.0 (r.2 ∙ sym s.2)).0);
+      (λ x x' z c d. let r = map_out (f x) ys z c in let s = map_out (f x') ys z d in (inj x x' r.0 s.0 (r.2 ∙ sym s.2)).0);
 }
 
 pub exactly_range : (a n : ℕ) → AreExactly (range_with_len a n) (λ i. (a ≤ i) × (i < a + n))

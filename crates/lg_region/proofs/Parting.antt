@@ -28,7 +28,7 @@ one_made positions k c g h is sg sh l r =
     let b = part_of c.word k.right g in
     let y = spelled_glued positions k c h is.after is.before sh in
     glued_same positions k c a b g h (spelled_glued positions k c g is.after is.before sg)
-        (subst (λ z. Glued positions k c a z h) (sym r) (subst (λ z. Glued positions k c z (part_of c.word k.right h) h) (sym l) y))
+    (subst (λ z. Glued positions k c a z h) (sym r) (subst (λ z. Glued positions k c z (part_of c.word k.right h) h) (sym l) y))
 
 some_begun : (positions : List (List Disjunct)) (nulls : ℕ) (c : First) (gb : Linkage) → IsFirst positions nulls c → Under positions c.rkey gb → (g : Linkage) × SpellsFirst positions c g × (part_of c.word (length positions) g ≡ gb)
 some_begun positions nulls c gb is u = let s = begun_spells positions nulls c gb is u in (begun c.word c.disjunct gb, s.0, s.1)

@@ -73,27 +73,34 @@ rights_more numbers gap group number s may rights rights' ways from to listed si
     (λ r. (
       λ h. elim h [
         | inl p ↦ (let b = p.1 in (p.0, omega arith))
-        | inr (w, is, q) ↦ (subst (λ z. IsRightOf numbers gap group z) q (record {
-          from = from;
-          to = to;
-          known_near = is.known_near;
-          known_far = is.known_far;
-          cut = λ d at. cut_as w.joint w.joint (list_of lists s.right) d.right (list_of lists gap.rlist) (list_of lists gap.rlist) (list_of lists w.near) (list_of lists w.near) (list_of lists w.far) (list_of lists w.far) refl (sides d at).right.list refl refl refl is.cut;
-          joined = λ z. is.joined (m ∙ zero_false gap.llist z);
-        }), (let f = ap (λ z. z.disjunct) q in omega arith))
+        | inr (w, is, q) ↦ (
+          subst (λ z. IsRightOf numbers gap group z) q (record {
+            from = from;
+            to = to;
+            known_near = is.known_near;
+            known_far = is.known_far;
+            cut = λ d at. cut_as w.joint w.joint (list_of lists s.right) d.right (list_of lists gap.rlist) (list_of lists gap.rlist) (list_of lists w.near) (list_of lists w.near) (list_of lists w.far) (list_of lists w.far) refl (sides d at).right.list refl refl refl is.cut;
+            joined = λ z. is.joined (m ∙ zero_false gap.llist z);
+          }),
+          (let f = ap (λ z. z.disjunct) q in omega arith),
+        )
       ],
       λ (is, l). elim (cases_lt r.disjunct number) [
         | inl b ↦ inl (is, b)
         | inr b ↦ (
-          let f : r.disjunct ≡ number = omega arith in
-          inr (r.way, record {
-            known_near = is.known_near;
-            known_far = is.known_far;
-            cut = cut_as r.way.joint r.way.joint d0.0.right (list_of lists s.right) (list_of lists gap.rlist) (list_of lists gap.rlist) (list_of lists r.way.near) (list_of lists r.way.near) (list_of lists r.way.far) (list_of lists r.way.far) refl (sym side) refl refl refl
-                (is.cut d0.0 (subst (λ z. IsDisjunctAt numbers.positions group.word z d0.0) (sym f) d0.1));
-            joined = λ z. is.joined (false_zero gap.llist (sym m ∙ z));
-          }, right_made r number f)
-        )
+            let f : r.disjunct ≡ number = omega arith in
+            inr (
+              r.way,
+              record {
+                known_near = is.known_near;
+                known_far = is.known_far;
+                cut = cut_as r.way.joint r.way.joint d0.0.right (list_of lists s.right) (list_of lists gap.rlist) (list_of lists gap.rlist) (list_of lists r.way.near) (list_of lists r.way.near) (list_of lists r.way.far) (list_of lists r.way.far) refl (sym side) refl refl refl
+                    (is.cut d0.0 (subst (λ z. IsDisjunctAt numbers.positions group.word z d0.0) (sym f) d0.1));
+                joined = λ z. is.joined (false_zero gap.llist (sym m ∙ z));
+              },
+              right_made r number f,
+            )
+            )
       ],
     ))
     (exactly_append rights (map (right_of number) ways) P Q so these (λ r p (w, is, q). let f = ap (λ z. z.disjunct) q in let b = p.1 in omega arith)))
@@ -184,15 +191,18 @@ made_is positions lists gap group may nulls l r is m are known room il ir =
       few_right = room.2;
       nulls = omega arith;
     } in (
-      (c, record {
-        cut = cut;
-        place = refl;
-        chosen = d.1;
-        joint_left = refl;
-        joint_right = refl;
-        before = (il.known_near, il.known_far, refl);
-        behind = (ir.known_near, ir.known_far, refl);
-      }),
+      (
+        c,
+        record {
+          cut = cut;
+          place = refl;
+          chosen = d.1;
+          joint_left = refl;
+          joint_right = refl;
+          before = (il.known_near, il.known_far, refl);
+          behind = (ir.known_near, ir.known_far, refl);
+        },
+      ),
       (refl, ir.from, ir.to),
     )
 
@@ -233,8 +243,14 @@ made_of positions lists gap group may l' r' ll rl n l2 r2 ll2 rl2 n2 w number tl
       joined = λ z. subst (λ v. IsSome v) s.joint_right (cut.by_rlist (ap (list_of lists) z));
     } in (
       (omega arith, omega arith, omega arith),
-      (l, r, il, ir, at_same group.word number w number tl tr gap.left group.word ll rl n group.word gap.right ll2 rl2 (gap.nulls - n) l' r' l2 r2 n2 (sym ew) refl
-          (sym cut.ends_left.0 ∙ ap (λ z. z.left) lk) (sym word ∙ sym cut.ends_left.1 ∙ ap (λ z. z.right) lk) (sym word ∙ sym cut.ends_right.0 ∙ ap (λ z. z.left) rk) (sym cut.ends_right.1 ∙ ap (λ z. z.right) rk) (omega arith)),
+      (
+        l,
+        r,
+        il,
+        ir,
+        at_same group.word number w number tl tr gap.left group.word ll rl n group.word gap.right ll2 rl2 (gap.nulls - n) l' r' l2 r2 n2 (sym ew) refl
+            (sym cut.ends_left.0 ∙ ap (λ z. z.left) lk) (sym word ∙ sym cut.ends_left.1 ∙ ap (λ z. z.right) lk) (sym word ∙ sym cut.ends_right.0 ∙ ap (λ z. z.left) rk) (sym cut.ends_right.1 ∙ ap (λ z. z.right) rk) (omega arith),
+      ),
     )
 
 alt_made : (positions : List (List Disjunct)) (lists : List (List Connector)) (gap : Gap) (group : Group) (may : Bool) (a : Alt) → IsGroup (record { positions = positions; lists = lists }) gap group → may ≡ (gap.llist == 0) → AreListsOf positions lists → gap.llist ≤ length lists
@@ -265,7 +281,7 @@ group_is positions lists gap group may lefts rights least most is m are known x 
     exactly_as (flat_map (splits_with gap word lefts rights) (range_with_len least count)) (λ a. (n : ℕ) × P n × Q n a) (λ a. IsAltOfRegion positions lists (region_of_gap lists gap) a × StandsIn word group.from group.to a)
     (λ a. (
       λ (n, p, (l, r, il, ir, e)). subst (λ z. IsAltOfRegion positions lists (region_of_gap lists gap) z × StandsIn word group.from group.to z) e
-      (let b = p.0 in let t = p.1 in made_is positions lists gap group may n l r is m are known (omega arith, omega arith, omega arith) il ir),
+          (let b = p.0 in let t = p.1 in made_is positions lists gap group may n l r is m are known (omega arith, omega arith, omega arith) il ir),
       λ (i, s). let q = alt_made positions lists gap group may a is m are known i s in let h = q.1 in let u = h.0 in let v = h.1 in let w = h.2 in (q.0, (omega arith, omega arith), q.2),
     ))
     (exactly_flat (splits_with gap word lefts rights) (range_with_len least count) P Q (exactly_range least count) each

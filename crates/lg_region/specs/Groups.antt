@@ -48,7 +48,7 @@ right_of number way = record { disjunct = number; way = way }
 abbrev pub split_of : Gap → ℕ → ℕ → Way → Right → Alt
 split_of gap word nulls left right =
     At word right.disjunct left.joint right.way.joint
-        (Some (Between gap.left word left.near left.far nulls)) (Some (Between word gap.right right.way.near right.way.far (gap.nulls - nulls)))
+    (Some (Between gap.left word left.near left.far nulls)) (Some (Between word gap.right right.way.near right.way.far (gap.nulls - nulls)))
 
 abbrev pub splits_with : Gap → ℕ → List Way → List Right → ℕ → List Alt
 splits_with gap word lefts rights nulls = flat_map (λ left. map (split_of gap word nulls left) rights) lefts

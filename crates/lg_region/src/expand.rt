@@ -128,12 +128,7 @@ fn of_whole(alloc: Global, lists: &Lists<'_>, nulls: u32) -> Result<Vec<Alt>, No
 }
 
 // Adds those whose first linked word is this one.
-fn push_firsts(
-    lists: &Lists<'_>,
-    nulls: u32,
-    word: u32,
-    out: &mut Vec<Alt>,
-) -> Result<(), NoMemory>
+fn push_firsts(lists: &Lists<'_>, nulls: u32, word: u32, out: &mut Vec<Alt>) -> Result<(), NoMemory>
     requires few { nulls < length lists.now.positions }
     requires enough { word ≤ nulls }
     ensures { OnOk result (AddsFirst lists.entry.now nulls word 0 (length (slice_index_or lists.entry.now.positions word [])) out.old.items out.new.items) }

@@ -85,12 +85,7 @@ pub(crate) fn ways_between(
 }
 
 // The ways on with a joint.
-fn push_joints(
-    lists: &Lists<'_>,
-    near: u32,
-    far: u32,
-    ways: &mut Vec<Way>,
-) -> Result<(), NoMemory>
+fn push_joints(lists: &Lists<'_>, near: u32, far: u32, ways: &mut Vec<Way>) -> Result<(), NoMemory>
     requires near { near ≤ length lists.now.lists }
     requires far { far ≤ length lists.now.lists }
     ensures { OnOk result (AddsExactly ways.old.items ways.new.items (IsWayOf lists.entry.now.lists near far false)) }

@@ -15,8 +15,8 @@ pub loop-nulls-preserved : goal.loop-nulls-preserved
 loop-nulls-preserved c =
     let splits = splits_with c.args.gap.now c.args.group.now.word c.in_ok-lefts.lefts.items c.in_ok-rights.rights.items in
     range_step splits c.loop-nulls.out.items c.push_splits.new.out.items _ c.loop-nulls.nulls (c.min-most.result + 1) c.loop-nulls-test.true (c.in_ok-push_splits.ensures
-        ∙ ap (λ z. c.loop-nulls.out.items ++ splits_with c.args.gap.now c.args.group.now.word z c.deref-in-loop-nulls.result.now c.loop-nulls.nulls) c.deref.ensures.value
-        ∙ ap (λ z. c.loop-nulls.out.items ++ splits_with c.args.gap.now c.args.group.now.word c.in_ok-lefts.lefts.items z c.loop-nulls.nulls) c.deref-in-loop-nulls.ensures.value) c.loop-nulls.invariant
+    ∙ ap (λ z. c.loop-nulls.out.items ++ splits_with c.args.gap.now c.args.group.now.word z c.deref-in-loop-nulls.result.now c.loop-nulls.nulls) c.deref.ensures.value
+    ∙ ap (λ z. c.loop-nulls.out.items ++ splits_with c.args.gap.now c.args.group.now.word c.in_ok-lefts.lefts.items z c.loop-nulls.nulls) c.deref-in-loop-nulls.ensures.value) c.loop-nulls.invariant
 
 pub returns : goal.returns
 returns c =

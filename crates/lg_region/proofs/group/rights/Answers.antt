@@ -9,7 +9,7 @@ loop-number-init c = rights_none c.args.lists.now c.args.gap.now c.args.group.no
 pub loop-number-preserved : goal.loop-number-preserved
 loop-number-preserved c =
     rights_more c.args.lists.now c.args.gap.now c.args.group.now c.loop-number.number c.sides-sides.result _ c.loop-number.rights.items c.push_rights.new.rights.items c.in_ok-ways.ways.items
-        c.loop-number.auto.number c.loop-number-test.true c.requires.group.listed c.sides-sides.ensures refl c.in_ok-ways.ensures (c.in_ok-push_rights.ensures ∙ ap (λ z. c.loop-number.rights.items ++ map (right_of c.loop-number.number) z) c.deref.ensures.value) c.loop-number.invariant
+    c.loop-number.auto.number c.loop-number-test.true c.requires.group.listed c.sides-sides.ensures refl c.in_ok-ways.ensures (c.in_ok-push_rights.ensures ∙ ap (λ z. c.loop-number.rights.items ++ map (right_of c.loop-number.number) z) c.deref.ensures.value) c.loop-number.invariant
 
 pub returns : goal.returns
 returns c = rights_all c.args.lists.now c.args.gap.now c.args.group.now c.loop-number.rights.items c.loop-number.number c.loop-number-test.false c.loop-number.invariant

@@ -17,4 +17,4 @@ returns c =
       | else-is_new w ↦ unpushed fs c.if-is_new.fronts.items c.args.front c.in_ok-index.is_new w.if-is_new.false (ap (λ v. v.items) w.fronts-is)
     ] in
     admits (map now fs) (map now c.if-is_new.fronts.items) c.args.tails.now.keys c.insert_full.new.self.keys c.args.tail s.0 c.args.front.now c.in_ok-index.index c.in_ok-index.is_new
-        level c.in_ok-index.ensures.added c.in_ok-index.ensures.keys l s.1 s.2
+    level c.in_ok-index.ensures.added c.in_ok-index.ensures.keys l s.1 s.2

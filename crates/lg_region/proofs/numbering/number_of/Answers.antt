@@ -22,7 +22,7 @@ pub loop-index-preserved : goal.loop-index-preserved
 loop-index-preserved c =
     let now : Bor (List Connector) → List Connector = λ f. f.now in
     partly_more (map now c.args.fronts.now.items) c.args.tails.now.keys (map now c.loop-index.fronts.items) c.loop-index.tails.keys (map now c.admit.new.fronts.items) c.admit.new.tails.keys
-        c.args.list.now _ c.loop-index.index c.loop-index.id c.in_ok-id.id c.index-list-index.result c.loop-index.invariant c.loop-index-test.true c.index-list-index.is refl c.in_ok-id.ensures
+    c.args.list.now _ c.loop-index.index c.loop-index.id c.in_ok-id.id c.index-list-index.result c.loop-index.invariant c.loop-index-test.true c.index-list-index.is refl c.in_ok-id.ensures
 
 pub returns-clause-id : goal.returns-clause-id
 returns-clause-id c =

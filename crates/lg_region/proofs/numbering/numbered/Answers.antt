@@ -33,9 +33,9 @@ row_of-requires-clause-room c =
 pub loop-position-preserved : goal.loop-position-preserved
 loop-position-preserved c =
     rows_step (map now c.args.fronts.now.items) c.args.tails.now.keys (map now c.loop-position.fronts.items) c.loop-position.tails.keys (map now c.row_of.new.fronts.items) c.row_of.new.tails.keys
-        c.args.positions.now c.loop-position.position-index c.position-item.result c.items.result.now (map row_items c.loop-position.rows.items) (map row_items c.push.new.self.items) c.in_ok-row.row.items
-        c.loop-position-test.true c.position-item.is c.items.ensures (ap (map row_items) c.in_ok-push.ensures.items ∙ map-append row_items c.loop-position.rows.items (c.in_ok-row.row ∷ []))
-        c.loop-position.invariant c.in_ok-row.ensures.numbers c.in_ok-row.ensures.sides
+    c.args.positions.now c.loop-position.position-index c.position-item.result c.items.result.now (map row_items c.loop-position.rows.items) (map row_items c.push.new.self.items) c.in_ok-row.row.items
+    c.loop-position-test.true c.position-item.is c.items.ensures (ap (map row_items) c.in_ok-push.ensures.items ∙ map-append row_items c.loop-position.rows.items (c.in_ok-row.row ∷ []))
+    c.loop-position.invariant c.in_ok-row.ensures.numbers c.in_ok-row.ensures.sides
 
 pub returns-clause-lists : goal.returns-clause-lists
 returns-clause-lists c =

@@ -14,9 +14,9 @@ loop-disjunct-init c = row_none (map now c.args.fronts.now.items) c.args.tails.n
 pub loop-disjunct-preserved : goal.loop-disjunct-preserved
 loop-disjunct-preserved c =
     row_step (map now c.args.fronts.now.items) c.args.tails.now.keys (map now c.loop-disjunct.fronts.items) c.loop-disjunct.tails.keys (map now c.number_of.new.fronts.items) c.number_of.new.tails.keys
-        (map now c.number_of-in-loop-disjunct.new.fronts.items) c.number_of-in-loop-disjunct.new.tails.keys c.args.disjuncts.now c.loop-disjunct.disjunct-index c.disjunct-item.result
-        c.items.result.now c.items-in-loop-disjunct.result.now c.loop-disjunct.row.items c.push.new.self.items c.in_ok-left.left c.in_ok-right.right c.loop-disjunct-test.true c.disjunct-item.is
-        c.items.ensures c.items-in-loop-disjunct.ensures c.in_ok-push.ensures.items c.loop-disjunct.invariant c.in_ok-left.ensures.numbers c.in_ok-left.ensures.id c.in_ok-right.ensures.numbers c.in_ok-right.ensures.id
+    (map now c.number_of-in-loop-disjunct.new.fronts.items) c.number_of-in-loop-disjunct.new.tails.keys c.args.disjuncts.now c.loop-disjunct.disjunct-index c.disjunct-item.result
+    c.items.result.now c.items-in-loop-disjunct.result.now c.loop-disjunct.row.items c.push.new.self.items c.in_ok-left.left c.in_ok-right.right c.loop-disjunct-test.true c.disjunct-item.is
+    c.items.ensures c.items-in-loop-disjunct.ensures c.in_ok-push.ensures.items c.loop-disjunct.invariant c.in_ok-left.ensures.numbers c.in_ok-left.ensures.id c.in_ok-right.ensures.numbers c.in_ok-right.ensures.id
 
 pub number_of-requires-clause-room : goal.number_of-requires-clause-room
 number_of-requires-clause-room c =

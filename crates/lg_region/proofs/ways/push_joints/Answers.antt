@@ -24,4 +24,4 @@ pub returns : goal.returns
 returns c =
     on_ok c.push_joined.result c.push_joined.ensures
     (adds_joined c.args.lists.now.positions c.args.lists.now.lists c.args.near c.args.far c.in-Some.first c.in-Some-end.second c.args.ways.now.items c.push_joined.new.ways.items
-        c.in-Some.ensures.lists c.in-Some.ensures.value c.in-Some-end.ensures.value (c.if-not-matches.ensures.0 refl))
+    c.in-Some.ensures.lists c.in-Some.ensures.value c.in-Some-end.ensures.value (c.if-not-matches.ensures.0 refl))
