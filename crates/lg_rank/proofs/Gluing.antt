@@ -12,7 +12,8 @@ use Rattle.lg_gram.specs.Linkages.{Linkage, link_cmp}
 use Rattle.lg_gram.specs.Rules.{HasLink, IsLinked, chosen_at}
 use Rattle.lg_gram.specs.declared.disjunct.Disjunct.{Disjunct}
 use Rattle.lg_gram.specs.declared.linkage.Link.{Link}
-use Rattle.lg_region.specs.Cuts.{Joint, IsJoint, Split, IsCut, IsValid, Spells, split}
+use Rattle.lg_region.specs.declared.key.Joint.{Joint}
+use Rattle.lg_region.specs.Cuts.{IsJoint, Split, IsCut, IsValid, Spells, split}
 use Rattle.lg_region.specs.Laws.{RegionsAreCutOnce, SentencesAreCutOnce}
 use Rattle.lg_region.specs.Parts.{Region, part_of, choice_within, is_within}
 use Rattle.lg_region.specs.Whole.{First, IsFirst, SpellsFirst}

@@ -14,7 +14,8 @@ use Rattle.lg_gram.specs.Problems.{IsProblem}
 use Rattle.lg_gram.specs.Rules.{chosen_at, HasLink, IsLinked, IsExclusive, Belongs}
 use Rattle.lg_gram.specs.declared.disjunct.Disjunct.{Disjunct}
 use Rattle.lg_gram.specs.declared.linkage.Link.{Link}
-use Rattle.lg_region.specs.Cuts.{Joint, IsCutAt, Split, IsCut, IsValid, IsEmpty, Spells, Alternative, all_null, split, IsAlternative, SpelledBy}
+use Rattle.lg_region.specs.declared.key.Joint.{Joint}
+use Rattle.lg_region.specs.Cuts.{IsCutAt, Split, IsCut, IsValid, IsEmpty, Spells, Alternative, all_null, split, IsAlternative, SpelledBy}
 use Rattle.lg_region.specs.Laws.{RegionsAreCutOnce, SentencesAreCutOnce, CutsAreValid, PartsMakeLinkages}
 use Rattle.lg_region.specs.Parts.{Region, IsPart, Under, UnderWhole, part_of}
 use Rattle.lg_region.specs.Whole.{First, IsFirst, SpellsFirst, WholeAlternative, nothing as no_word, first, IsWholeAlternative, WholeSpelledBy}

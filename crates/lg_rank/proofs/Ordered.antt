@@ -15,7 +15,8 @@ use Rattle.lg_gram.specs.Connectors.{Connector}
 use Rattle.lg_gram.specs.Rules.{HasLink, IsExclusive, Belongs, Good, chosen_at, left_list}
 use Rattle.lg_gram.specs.declared.disjunct.Disjunct.{Disjunct}
 use Rattle.lg_gram.specs.declared.linkage.Link.{Link}
-use Rattle.lg_region.specs.Cuts.{Joint, Split, IsCut, IsValid, Spells, Alternative, all_null, split}
+use Rattle.lg_region.specs.declared.key.Joint.{Joint}
+use Rattle.lg_region.specs.Cuts.{Split, IsCut, IsValid, Spells, Alternative, all_null, split}
 use Rattle.lg_region.specs.Parts.{Region, Under, part_of, lefts_in}
 use Rattle.lg_region.specs.Whole.{First, IsFirst, SpellsFirst, WholeAlternative, nothing as no_word, first}
 use Rattle.lg_rank.specs.Meanings.{IsPacked, IsWord, joint_link, length_of, unlinked_of, Subject, whole, region, IsUnder, IsSubject, IsPartFor, IsSplitWay, IsFirstWay, Cutting, split_at, begins_at, IsWayFor, IsForestOf, ForestsStandForLinkages}

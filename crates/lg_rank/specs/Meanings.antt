@@ -5,7 +5,8 @@ use Rattle.lg_gram.specs.Problems.{IsProblem}
 use Rattle.lg_gram.specs.Rules.{chosen_at}
 use Rattle.lg_gram.specs.declared.disjunct.Disjunct.{Disjunct}
 use Rattle.lg_gram.specs.declared.linkage.Link.{Link}
-use Rattle.lg_region.specs.Cuts.{Joint, Split, IsCut, IsValid}
+use Rattle.lg_region.specs.declared.key.Joint.{Joint}
+use Rattle.lg_region.specs.Cuts.{Split, IsCut, IsValid}
 use Rattle.lg_region.specs.Laws.{HasLinkage}
 use Rattle.lg_region.specs.Parts.{Region, Under, UnderWhole}
 use Rattle.lg_region.specs.Whole.{First, IsFirst}
