@@ -24,3 +24,4 @@ pub mod Gluing
 pub mod Sizes
 pub mod Meaning
 pub mod Ordered
+pub mod Unpacking

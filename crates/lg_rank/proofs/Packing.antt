@@ -76,7 +76,7 @@ code_apart ds (Some d) (Some e) n p q =
     let u = q.2 in
     let f : d ≡ e = cc in ap Some f
 
-abbrev Coded : (ℕ → List Disjunct) → List (Option Disjunct) → List ℕ → Type 0
+abbrev pub Coded : (ℕ → List Disjunct) → List (Option Disjunct) → List ℕ → Type 0
 Coded P xs ns = (i : ℕ) → IsCodeOf (P i) (get_or xs i None) (get_or ns i 0)
 
 choices_order : (P : ℕ → List Disjunct) → ((i : ℕ) → IsStrictlySortedBy disjunct_cmp (P i)) → (xs ys : List (Option Disjunct)) (ns ms : List ℕ) → length ns ≡ length xs → length ms ≡ length ys → length xs ≡ length ys → Coded P xs ns → Coded P ys ms
@@ -91,7 +91,7 @@ choices_order P up (x ∷ xs) [] ns ms e f g p q = absurd (omega arith)
 choices_order P up (x ∷ xs) (y ∷ ys) (n ∷ ns) (m ∷ ms) e f g p q =
     λ k. ordering_then (code_order (P 0) x y n m (up 0) (p 0) (q 0) k) (choices_order (λ i. P (suc i)) (λ i. up (suc i)) xs ys ns ms (omega arith) (omega arith) (omega arith) (λ i. p (suc i)) (λ i. q (suc i)) k)
 
-choices_apart : (P : ℕ → List Disjunct) (xs ys : List (Option Disjunct)) (ns : List ℕ) → length xs ≡ length ys → Coded P xs ns → Coded P ys ns → xs ≡ ys
+pub choices_apart : (P : ℕ → List Disjunct) (xs ys : List (Option Disjunct)) (ns : List ℕ) → length xs ≡ length ys → Coded P xs ns → Coded P ys ns → xs ≡ ys
 choices_apart P [] [] ns e p q = refl
 choices_apart P [] (y ∷ ys) ns e p q = absurd (omega arith)
 choices_apart P (x ∷ xs) [] ns e p q = absurd (omega arith)

@@ -19,6 +19,11 @@ abbrev pub IsCodeOf : List Disjunct → Option Disjunct → ℕ → Type 0
 IsCodeOf ds None n = n ≡ 0
 IsCodeOf ds (Some d) n = (m : ℕ) × (n ≡ suc m) × (slice_get ds m ≡ Some d)
 
+-- the choices of the numbers, one for each
+pub record AreCodesOf (positions : List (List Disjunct)) (choices : List (Option Disjunct)) (codes : List ℕ) : Type 0 where
+  pub long : length choices ≡ length codes
+  pub each : (i : ℕ) → i < length codes → IsCodeOf (slice_index_or positions i []) (slice_index_or choices i None) (slice_index_or codes i 0)
+
 -- a linkage in numbers
 pub record IsPacked (positions : List (List Disjunct)) (g : Linkage) (v : Value) : Type 0 where
   pub cost : v.cost ≡ total_cost g

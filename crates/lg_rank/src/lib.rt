@@ -8,5 +8,6 @@ pub mod law;
 pub mod node;
 pub mod part;
 pub mod table;
+pub mod unpack;
 
 pub use law::{cuts_keep_order, joins_grow, values_are_linkages};
