@@ -25,3 +25,4 @@ pub mod Sizes
 pub mod Meaning
 pub mod Ordered
 pub mod Unpacking
+pub mod Listing

@@ -57,7 +57,7 @@ unlinked_part positions L R = record {
   inside = λ i h. absurd (let e = subst (λ (o : Option Disjunct). IsSome o) (none_at (length positions) i) h in cc);
 }
 
-unlinked_empty : (positions : List (List Disjunct)) → IsEmpty (unlinked_of (length positions))
+pub unlinked_empty : (positions : List (List Disjunct)) → IsEmpty (unlinked_of (length positions))
 unlinked_empty positions = record { unlinked = λ i h. (let e = subst (λ (o : Option Disjunct). IsSome o) (none_at (length positions) i) h in absurd cc); no_links = λ l h. contains_none l h }
 
 no_more : (xs : List Link) → ((l : Link) → Contains xs l → ⊥) → xs ≡ []
@@ -70,7 +70,7 @@ nones (suc n) [] e h = absurd (omega arith)
 nones zero (o ∷ os) e h = absurd (omega arith)
 nones (suc n) (o ∷ os) e h = λ k. h 0 k ∷ nones n os (omega arith) (λ i. h (suc i)) k
 
-empty_is : (positions : List (List Disjunct)) (g : Linkage) → Belongs positions g → IsEmpty g → g ≡ unlinked_of (length positions)
+pub empty_is : (positions : List (List Disjunct)) (g : Linkage) → Belongs positions g → IsEmpty g → g ≡ unlinked_of (length positions)
 empty_is positions g b e =
     let chosen = nones (length positions) g.chosen b.same_length (λ i. not_linked (chosen_at g i) (e.unlinked i)) in
     let links = no_more g.links e.no_links in

@@ -280,7 +280,7 @@ not_same : (a b : ℕ) → (a ≡ b → ⊥) → (a == b) ≡ false
 not_same a b h = grind (arith, nat_tests)
 
 -- a link of a good linkage, or of one under a region, ends within the sentence, or at its end
-good_end : (positions : List (List Disjunct)) (g : Linkage) (l : Link) → Good positions g → HasLink g l → l.right < length positions
+pub good_end : (positions : List (List Disjunct)) (g : Linkage) (l : Link) → Good positions g → HasLink g l → l.right < length positions
 good_end positions g l good i =
     let j = good.rules.matched.joins l i in
     let e = good.belongs.same_length in
@@ -338,4 +338,5 @@ pub forests_stand : Laws → ForestsStandForLinkages
 forests_stand laws = record {
   forest = forest_is laws;
   values = λ positions z forest subjects k v is within. ((λ h. sound laws positions z forest subjects is (Some k) v h k refl), packed_values laws positions z forest subjects k v is within);
+  numbers = λ positions z forest subjects k g is within u. (let m = complete laws positions z forest subjects is k g within u in (m.0, m.2));
 }

@@ -83,10 +83,10 @@ held_grown z g m n k j r table b grown at =
     ap (λ t. t.value) same ∙ ap (λ (t : List (List Way)). (seen z t (parts z n) k r).value) (sym grown.forest)
 
 -- ---- the value at a place is that of the list
-pub nth_read : (z : Value) (old new : List Node) (k i : ℕ) (b : Bool) (all : List Value) → IsForest z (forest_of old) → IsTable z new → forest_of new ≡ forest_of old → IsNth z new (Some k) i b → IsListOf value_cmp (Has z (forest_of old) (Some k)) all → slice_get all i ≡ slice_get (made_at new k) i
-nth_read z old new k i b all forest table same nth is =
-    nth_listed (forest.laws k).total (Has z (forest_of new) (Some k)) (made_at new k) all i (slice_get (made_at new k) i) (parts_front z new table (Some k)) (subst (λ (f : List (List Way)). IsListOf value_cmp (Has z f (Some k)) all) (sym same) is) refl (all_made b nth)
+pub nth_read : (z : Value) (old new : List Node) (o : Option ℕ) (i : ℕ) (b : Bool) (all : List Value) → IsForest z (forest_of old) → IsTable z new → forest_of new ≡ forest_of old → IsNth z new o i b → IsListOf value_cmp (Has z (forest_of old) o) all → slice_get all i ≡ slice_get (parts z new o) i
+nth_read z old new o i b all forest table same nth is =
+    nth_listed (forest.laws 0).total (Has z (forest_of new) o) (parts z new o) all i (slice_get (parts z new o) i) (parts_front z new table o) (subst (λ (f : List (List Way)). IsListOf value_cmp (Has z f o) all) (sym same) is) refl (all_made b nth)
   where
-    all_made : (b : Bool) → IsNth z new (Some k) i b → slice_get (made_at new k) i ≡ None → IsAll (Has z (forest_of new) (Some k)) (made_at new k)
-    all_made true less none = absurd (let e : slice_get (made_at new k) i ≡ Some (get_or (made_at new k) i z) = slice_get-get_or (made_at new k) i z less in let f : ◌≡◌ {A = Option Value} None (Some (get_or (made_at new k) i z)) = sym none ∙ e in cc)
+    all_made : (b : Bool) → IsNth z new o i b → slice_get (parts z new o) i ≡ None → IsAll (Has z (forest_of new) o) (parts z new o)
+    all_made true less none = absurd (let e : slice_get (parts z new o) i ≡ Some (get_or (parts z new o) i z) = slice_get-get_or (parts z new o) i z less in let f : ◌≡◌ {A = Option Value} None (Some (get_or (parts z new o) i z)) = sym none ∙ e in cc)
     all_made false nth none = λ v h. (let j = nth v h in (j.0, j.2))

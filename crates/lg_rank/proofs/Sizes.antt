@@ -106,6 +106,9 @@ below_pair : (l : Link) → l.left < l.right → l.right < 256 → pair_of l < 2
 unfolding pair_of
 below_pair l a b = omega arith
 
+pub count_links : (xs : List Link) → IsSet xs → IsExclusive (Contains xs) → ((l : Link) → Contains xs l → (l.left < l.right) × (l.right < 256)) → length xs ≤ 2 ^ 16
+count_links xs up one h = (let few = few_links 0 xs (omega arith) up one (λ l i. (omega arith, below_pair l (h l i).0 (h l i).1, (h l i).1)) in omega arith)
+
 pub short_links : (xs : List Link) → IsSet xs → IsExclusive (Contains xs) → ((l : Link) → Contains xs l → (l.left < l.right) × (l.right < 256)) → sum_by link_length xs ≤ 2 ^ 60
 short_links xs up one h =
     let few = few_links 0 xs (omega arith) up one (λ l i. (omega arith, below_pair l (h l i).0 (h l i).1, (h l i).1)) in

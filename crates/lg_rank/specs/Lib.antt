@@ -6,3 +6,4 @@ pub mod Candidates
 pub mod Nodes
 pub mod Tables
 pub mod Meanings
+pub mod Rankings

@@ -117,3 +117,4 @@ pub record ForestsStandForLinkages : Type 0 where
   pub forest : (positions : List (List Disjunct)) (z : Value) (forest : List (List Way)) (subjects : ℕ → Subject) → IsForestOf positions z forest subjects → IsForest z forest
   pub values : (positions : List (List Disjunct)) (z : Value) (forest : List (List Way)) (subjects : ℕ → Subject) (k : ℕ) (v : Value) → IsForestOf positions z forest subjects → k < length forest
       → Has z forest (Some k) v ↔ ((g : Linkage) × IsUnder positions (subjects k) g × IsPacked positions g v)
+  pub numbers : (positions : List (List Disjunct)) (z : Value) (forest : List (List Way)) (subjects : ℕ → Subject) (k : ℕ) (g : Linkage) → IsForestOf positions z forest subjects → k < length forest → IsUnder positions (subjects k) g → (v : Value) × IsPacked positions g v

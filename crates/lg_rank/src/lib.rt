@@ -7,7 +7,9 @@ pub mod candidate;
 pub mod law;
 pub mod node;
 pub mod part;
+mod ranked;
 pub mod table;
 pub mod unpack;
 
+pub use ranked::Ranked;
 pub use law::{cuts_keep_order, joins_grow, values_are_linkages};

@@ -215,24 +215,24 @@ impl Table {
 }
 
 impl Table {
-    /// Whether node `k` has a part at `i`, counted from 0 in the order of its parts. It stands in the table then. After an error
-    /// what was made is kept, and the next call goes on.
+    /// Whether a part has a value at `i`, counted from 0 in order. It stands in the table then. After an error what was made is
+    /// kept, and the next call goes on.
     pub fn has_part(
         &mut self,
         alloc: Global,
         nothing: &Part,
-        k: usize,
+        part: Option<usize>,
         i: usize,
     ) -> Result<bool, NoMemory>
-        requires within { k < length self.old.nodes.items }
+        requires within { IsPart self.old.nodes.items part }
         requires forest { IsForest (value_of nothing.now) (forest_of self.old.nodes.items) }
         requires table { IsTable (value_of nothing.now) self.old.nodes.items }
         ensures table { IsTable (value_of nothing.now) self.new.nodes.items }
         ensures same { forest_of self.new.nodes.items ≡ forest_of self.old.nodes.items }
-        ensures value { IfOk result (λ r. IsNth (value_of nothing.now) self.new.nodes.items (Some k) i r) }
-        ensures listed { (all : List Value) → IsListOf value_cmp (Has (value_of nothing.now) (forest_of self.old.nodes.items) (Some k)) all → IfOk result (λ r. slice_get all i ≡ slice_get (made_at self.new.nodes.items k) i) }
+        ensures value { IfOk result (λ r. IsNth (value_of nothing.now) self.new.nodes.items part i r) }
+        ensures listed { (all : List Value) → IsListOf value_cmp (Has (value_of nothing.now) (forest_of self.old.nodes.items) part) all → IfOk result (λ r. slice_get all i ≡ slice_get (parts (value_of nothing.now) self.new.nodes.items part) i) }
     {
-        match self.nth(alloc, nothing, k, i) {
+        match self.part(alloc, nothing, part, i) {
             Ok(there) => Ok(there),
             Err(error) => Err(error),
         }
