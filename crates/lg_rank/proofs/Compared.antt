@@ -1,5 +1,5 @@
 -- Lists compared place by place.
-use Rattle.std.proofs.Common.{◌≡◌, ℕ, zero, suc, min, [], ◌∷◌, drop, ◌+◌, ◌<◌, ◌≤◌, List, length, Bool, true, false, not, ◌==◌, Some, slice_get, refl, sym, ap, ◌∙◌, arith, Less, Equal, Greater}
+use Rattle.std.proofs.Common.{◌≡◌, ℕ, zero, suc, min, [], ◌∷◌, drop, ◌+◌, ◌<◌, List, length, true, false, not, ◌==◌, Some, slice_get, refl, sym, ◌∙◌, arith, Less, Equal, Greater}
 use Rattle.std.specs.declared.cmp.Ordering.{Ordering}
 use Rattle.std.specs.Ordering.{nat_cmp, ordering_then, ordering_index}
 use Rattle.std.proofs.lemmas.Bool.Decides.{nat_tests}

@@ -1,11 +1,11 @@
 -- What is not taken yet is at least the value of some row.
-use Rattle.std.proofs.Common.{◌≡◌, ◌≢◌, ℕ, zero, suc, ◌+◌, ◌<◌, ◌≤◌, List, [], ◌∷◌, ◌++◌, length, Option, Some, None, slice_get, ◌⊎◌, inl, inr, refl, sym, ap, ◌∙◌, subst, arith, Less, Equal, Greater}
+use Rattle.std.proofs.Common.{◌≡◌, ℕ, ◌<◌, ◌≤◌, List, [], ◌∷◌, ◌++◌, length, Option, Some, None, slice_get, ◌⊎◌, inl, inr, refl, sym, ap, ◌∙◌, subst, arith, Less}
 use Rattle.std.proofs.lemmas.Bool.{cases_lt}
 use Rattle.std.proofs.lemmas.Option.{slice_get_within}
 use Rattle.std.specs.declared.cmp.Ordering.{Ordering}
-use Rattle.lg_rank.specs.Fronts.{IsIn, AtMost, IsFront, AllBefore}
-use Rattle.lg_rank.specs.Merges.{Setting, Makes, Laws, Row, HasRow, Ahead, IsRow, Open, Closed, Opened, Merged, PartsAre, IsBelow, IsLeast}
-use Rattle.lg_rank.proofs.Elements.{less_not, most_less, less_most, most_trans, push_old, push_here, push_from}
+use Rattle.lg_rank.specs.Fronts.{IsIn, AtMost, IsFront}
+use Rattle.lg_rank.specs.Merges.{Setting, Makes, Laws, Row, HasRow, Ahead, Open, Merged, PartsAre, IsBelow, IsLeast}
+use Rattle.lg_rank.proofs.Elements.{most_trans, push_old, push_here, push_from}
 
 -- an element at a place is at most those at later places, and those that are not there
 pub at_most_later : {V : Type 0} {cmp : V → V → Ordering} {Has : V → Type 0} (made : List V) → IsFront cmp Has made → (h i : ℕ) (a x : V) → h ≤ i → slice_get made h ≡ Some a → slice_get made i ≡ Some x → AtMost cmp a x

@@ -1,9 +1,8 @@
 -- Elements by their places.
-use Rattle.std.proofs.Common.{◌≡◌, ◌≢◌, ℕ, zero, suc, ◌+◌, ◌<◌, ◌≤◌, List, [], ◌∷◌, ◌++◌, length, Option, Some, None, slice_get, ◌⊎◌, inl, inr, refl, sym, ap, ◌∙◌, subst, arith, Less, Equal, Greater}
+use Rattle.std.proofs.Common.{◌≡◌, ℕ, zero, suc, List, [], ◌∷◌, ◌++◌, length, Some, slice_get, ◌⊎◌, inl, inr, refl, sym, ap, subst, Less, Equal, Greater}
 use Rattle.std.specs.declared.cmp.Ordering.{Ordering}
 use Rattle.std.specs.Cmp.{IsTotalOrder}
-use Rattle.std.proofs.lemmas.Option.{slice_get_within}
-use Rattle.lg_rank.specs.Fronts.{IsIn, AtMost, IsFront, AllBefore}
+use Rattle.lg_rank.specs.Fronts.{AtMost}
 
 pub push_old : {V : Type 0} (xs : List V) (y : V) (i : ℕ) (v : V) → slice_get xs i ≡ Some v → slice_get (xs ++ y ∷ []) i ≡ Some v
 push_old [] y i v h = absurd cc

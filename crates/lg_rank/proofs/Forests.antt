@@ -1,18 +1,18 @@
 -- The values of a node are what its ways make, and what was made of them is the first of them.
-use Rattle.std.proofs.Common.{◌≡◌, ◌≢◌, ℕ, zero, suc, ◌+◌, ◌<◌, ◌≤◌, Bool, true, false, List, [], ◌∷◌, ◌++◌, length, set, get_or, map, Option, Some, None, slice_get, ◌⊎◌, inl, inr, refl, sym, ap, ◌∙◌, subst, arith, Less, Equal, Greater}
+use Rattle.std.proofs.Common.{◌≡◌, ℕ, suc, ◌≤◌, Bool, true, false, List, [], ◌∷◌, length, set, Option, Some, None, slice_get, inl, inr, refl, sym, ap, ◌∙◌, subst, arith}
 use Rattle.std.proofs.lemmas.Option.{slice_get_within, slice_get-get_or, get_or_from_slice_get}
-use Rattle.lg_rank.specs.Fronts.{IsIn, IsAll, IsFront, AllBefore, Extends}
-use Rattle.lg_rank.specs.Merges.{Setting, Makes, Laws, Merged, PartsAre}
+use Rattle.lg_rank.specs.Fronts.{IsFront, Extends}
+use Rattle.lg_rank.specs.Merges.{Makes, PartsAre}
 use Rattle.lg_rank.proofs.Placing.{merged_placed}
 use Rattle.lg_rank.proofs.Taking.{same_or}
-use Rattle.lg_rank.specs.Values.{Value, value_of, value_cmp, combine}
+use Rattle.lg_rank.specs.Values.{Value, value_cmp, combine}
 use Rattle.lg_rank.specs.Nodes.{Has, no_way, ways_of, way_at, setting, IsForest}
 use Rattle.lg_rank.specs.Nodes.Has.{nothing, made}
-use Rattle.lg_rank.specs.Tables.{seen, place_of, forest_of, values_of, made_in, made_at, parts, IsNode, IsTable, RowsOf, Grown, end_of, IsNth, IsBegun}
+use Rattle.lg_rank.specs.Tables.{place_of, forest_of, values_of, made_in, made_at, parts, IsNode, IsTable, RowsOf, Grown, IsBegun}
 use Rattle.lg_rank.specs.declared.part.Way.{Way}
 use Rattle.lg_rank.specs.declared.node.Node.{Node}
 use Rattle.lg_rank.specs.declared.node.Row.{Row}
-use Rattle.lg_rank.proofs.Places.{set_here, set_other, set_long, map_set, map_at}
+use Rattle.lg_rank.proofs.Places.{set_here, set_other, set_long, map_set}
 
 makes_has : (z : Value) (forest : List (List Way)) (k : ℕ) (v : Value) → Makes (setting z forest k) (length (ways_of forest k)) v → Has z forest (Some k) v
 makes_has z forest k v m =

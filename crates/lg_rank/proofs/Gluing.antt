@@ -1,29 +1,28 @@
 -- What a cut spells is its two parts with a disjunct between them, and the links of the joints.
-use Rattle.std.proofs.Common.{◌≡◌, ℕ, zero, suc, ◌+◌, ◌<◌, ◌≤◌, Bool, true, false, cond, not, nat_lt, nat_le, ◌&&◌, ◌||◌, ◌==◌, List, [], ◌∷◌, ◌++◌, length, take, drop, get_or, replicate, Option, Some, None, IsSome, Contains, ◌⊎◌, inl, inr, refl, sym, ap, ◌∙◌, subst, arith, Less}
-use Rattle.std.specs.List.{count_by, filter}
+use Rattle.std.proofs.Common.{◌≡◌, ℕ, zero, suc, ◌+◌, ◌<◌, ◌≤◌, Bool, true, false, cond, not, nat_lt, nat_le, ◌&&◌, ◌==◌, List, [], ◌∷◌, ◌++◌, length, take, drop, get_or, replicate, Option, Some, None, Contains, ◌⊎◌, inl, inr, refl, sym, ap, ◌∙◌, subst, arith, Less}
+use Rattle.std.specs.List.{count_by}
 use Rattle.std.specs.List.Sorted.{IsStrictlySortedBy}
 use Rattle.std.proofs.lemmas.Bool.{cases_lt, cases_Bool}
 use Rattle.std.proofs.lemmas.Bool.Decides.{nat_tests}
 use Rattle.std.proofs.lemmas.List.{length-replicate}
 use Rattle.std.proofs.lemmas.List.Kept.{IsStrictlySortedBy-filter}
 use Rattle.std.proofs.lemmas.List.Sums.{sum_by-cons}
-use Rattle.std.proofs.lemmas.Map.Keys.{sorted_head, sorted_tail}
 use Rattle.lg_gram.specs.Linkages.{Linkage, link_cmp}
-use Rattle.lg_gram.specs.Rules.{HasLink, IsLinked, chosen_at}
+use Rattle.lg_gram.specs.Rules.{HasLink, chosen_at}
 use Rattle.lg_gram.specs.declared.disjunct.Disjunct.{Disjunct}
 use Rattle.lg_gram.specs.declared.linkage.Link.{Link}
 use Rattle.lg_region.specs.declared.key.Joint.{Joint}
 use Rattle.lg_region.specs.Cuts.{IsJoint, Split, IsCut, IsValid, Spells, split}
-use Rattle.lg_region.specs.Laws.{RegionsAreCutOnce, SentencesAreCutOnce}
+use Rattle.lg_region.specs.Laws.{RegionsAreCutOnce}
 use Rattle.lg_region.specs.Parts.{Region, part_of, choice_within, is_within}
 use Rattle.lg_region.specs.Whole.{First, IsFirst, SpellsFirst}
 use Rattle.lg_rank.specs.Meanings.{joint_link, unlinked_of}
 use Rattle.lg_rank.specs.Values.{comes_before, with_link}
-use Rattle.lg_rank.proofs.Lists.{contains_here, contains_later, contains_cases, contains_none, filter_in, filter_out}
+use Rattle.lg_rank.proofs.Lists.{contains_here, contains_later, contains_cases, contains_none, filter_out}
 use Rattle.lg_rank.proofs.Orders.{links_total}
 use Rattle.lg_rank.proofs.Sets.{IsSet, after_head, before_all, same_set}
-use Rattle.lg_rank.proofs.Ties.{Earlier, SamePair, earlier_trans, earlier_along, cmp_less, pair_cases}
-use Rattle.lg_rank.proofs.Cuts.{choice_in, within_length, not_linked, beyond, first_outside}
+use Rattle.lg_rank.proofs.Ties.{Earlier, SamePair, earlier_trans, cmp_less, pair_cases}
+use Rattle.lg_rank.proofs.Cuts.{choice_in, within_length, not_linked, beyond}
 use Rattle.lg_rank.proofs.Packing.{IsGlued}
 
 -- ---- one more link in a set

@@ -1,9 +1,8 @@
 -- The rows where the parts have more values, and where one more alternative begins.
-use Rattle.std.proofs.Common.{◌≡◌, ◌≢◌, ℕ, zero, suc, ◌+◌, ◌<◌, ◌≤◌, List, [], ◌∷◌, ◌++◌, length, set, Option, Some, None, slice_get, ◌⊎◌, inl, inr, refl, sym, ap, ◌∙◌, subst, arith, Less, Equal, Greater}
+use Rattle.std.proofs.Common.{◌≡◌, ℕ, suc, ◌<◌, List, [], ◌∷◌, ◌++◌, length, set, Option, Some, None, slice_get, ◌⊎◌, inl, inr, refl, sym, ap, ◌∙◌, subst, arith}
 use Rattle.std.proofs.lemmas.Bool.{cases_lt}
-use Rattle.std.proofs.lemmas.Option.{slice_get_within}
-use Rattle.lg_rank.specs.Fronts.{IsIn, AtMost, IsFront, AllBefore, Extends}
-use Rattle.lg_rank.specs.Merges.{Setting, Makes, Laws, Row, HasRow, Ahead, IsRow, Open, Closed, Opened, Merged, PartsAre, IsBelow, IsLeast, Advanced, Following, Begins, Turn}
+use Rattle.lg_rank.specs.Fronts.{IsFront, Extends}
+use Rattle.lg_rank.specs.Merges.{Setting, Makes, Row, HasRow, Ahead, IsRow, Opened, Merged, Advanced, Begins}
 use Rattle.lg_rank.proofs.Elements.{push_old, push_here, push_from}
 use Rattle.lg_rank.proofs.Places.{set_here, set_other, set_long}
 use Rattle.lg_rank.proofs.Taking.{same_or}

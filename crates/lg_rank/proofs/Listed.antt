@@ -1,11 +1,11 @@
 -- The first elements that were made are the first elements of the list.
-use Rattle.std.proofs.Common.{◌≡◌, ℕ, zero, suc, ◌+◌, ◌<◌, ◌≤◌, List, [], ◌∷◌, length, Option, Some, None, slice_get, ◌⊎◌, inl, inr, refl, sym, ap, ◌∙◌, subst, arith, Less, Equal, Greater, Contains}
+use Rattle.std.proofs.Common.{◌≡◌, ℕ, zero, suc, List, [], ◌∷◌, Option, Some, None, slice_get, ◌⊎◌, inl, inr, refl, sym, ◌∙◌, subst, arith, Less, Contains}
 use Rattle.std.specs.declared.cmp.Ordering.{Ordering}
 use Rattle.std.specs.Cmp.{IsTotalOrder}
 use Rattle.std.specs.List.Sorted.{IsStrictlySortedBy}
 use Rattle.std.proofs.lemmas.Map.Keys.{sorted_head, sorted_tail}
 use Rattle.std.proofs.lemmas.List.Elements.{All-from_recursion, All-contains}
-use Rattle.lg_rank.specs.Fronts.{IsIn, AtMost, IsFront, IsAll, AllBefore, IsListOf}
+use Rattle.lg_rank.specs.Fronts.{IsIn, IsFront, IsAll, IsListOf}
 use Rattle.lg_rank.proofs.Elements.{less_not}
 
 in_tail : {V : Type 0} (y x : V) (xs : List V) → Contains (y ∷ xs) x → (y ≡ x) ⊎ Contains xs x

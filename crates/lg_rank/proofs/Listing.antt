@@ -1,25 +1,20 @@
 -- The values of the whole sentence are its good linkages, in order.
-use Rattle.std.proofs.Common.{◌≡◌, ◌↔◌, ℕ, zero, suc, ◌+◌, ◌-◌, ◌*◌, ◌^◌, ◌<◌, ◌≤◌, Bool, true, false, List, [], ◌∷◌, length, get_or, Option, Some, None, IsSome, Contains, inl, inr, slice_get, refl, sym, ap, ◌∙◌, subst, arith, Less, Equal}
+use Rattle.std.proofs.Common.{◌≡◌, ◌↔◌, ℕ, zero, suc, ◌<◌, false, List, [], ◌∷◌, length, get_or, Option, Some, None, Contains, inl, inr, slice_get, refl, sym, ap, ◌∙◌, subst, arith, Less}
 use Rattle.std.specs.Cmp.{IsTotalOrder}
-use Rattle.std.specs.List.{All, AllByRecursion}
 use Rattle.std.specs.List.Sorted.{IsStrictlySortedBy}
-use Rattle.std.proofs.lemmas.Bool.{cases_lt}
 use Rattle.std.proofs.lemmas.List.{get_or_default}
 use Rattle.std.proofs.lemmas.List.Elements.{All-from_recursion, recursion_from_All, All-contains, Contains-get_or}
-use Rattle.std.proofs.lemmas.Map.Keys.{sorted_head, sorted_tail}
-use Rattle.std.proofs.lemmas.Option.{slice_get_within, slice_get-get_or, get_or_from_slice_get}
 use Rattle.lg_gram.specs.Levels.{IsLevel}
-use Rattle.lg_gram.specs.Linkages.{Linkage, link_cmp, linkage_cmp, unlinked, IsLinkage, IsForward, HasSmallCost}
+use Rattle.lg_gram.specs.Linkages.{Linkage, linkage_cmp, IsLinkage, HasSmallCost}
 use Rattle.lg_gram.specs.Problems.{IsProblem}
-use Rattle.lg_gram.specs.Rules.{Good, HasLink, chosen_at}
+use Rattle.lg_gram.specs.Rules.{Good}
 use Rattle.lg_gram.specs.declared.disjunct.Disjunct.{Disjunct}
-use Rattle.lg_gram.specs.declared.linkage.Link.{Link}
 use Rattle.lg_region.specs.Parts.{UnderWhole}
-use Rattle.lg_region.specs.Whole.{First, IsFirst, WholeAlternative, nothing as no_word, first, IsWholeAlternative, WholeSpelledBy}
-use Rattle.lg_rank.specs.Fronts.{IsListOf, IsFront}
+use Rattle.lg_region.specs.Whole.{WholeAlternative, nothing as no_word, first, IsWholeAlternative, WholeSpelledBy}
+use Rattle.lg_rank.specs.Fronts.{IsListOf}
 use Rattle.lg_rank.specs.Meanings.{IsPacked, unlinked_of, Subject, whole, IsUnder, IsForestOf, ForestsStandForLinkages}
-use Rattle.lg_rank.specs.Nodes.{Has, IsForest}
-use Rattle.lg_rank.specs.Nodes.Has.{nothing, made}
+use Rattle.lg_rank.specs.Nodes.{Has}
+use Rattle.lg_rank.specs.Nodes.Has.{nothing}
 use Rattle.lg_rank.specs.Rankings.{IsRoot, IsListing}
 use Rattle.lg_rank.specs.Tables.{forest_of, parts, IsTable, IsNth}
 use Rattle.lg_rank.specs.Values.{Value, value_cmp}
@@ -52,11 +47,12 @@ root_values laws positions z nodes nulls None is v = (
   (λ h. (
     unlinked_of (length positions),
     laws.sentences.sound positions nulls (unlinked_of (length positions)) no_word is.root_is ((unlinked_part positions 0 0).belongs, unlinked_empty positions),
-    subst (λ t. IsPacked positions (unlinked_of (length positions)) t) (sym (has_nothing z (forest_of nodes) None v h refl)) is.forest.nothing)),
+    subst (λ t. IsPacked positions (unlinked_of (length positions)) t) (sym (has_nothing z (forest_of nodes) None v h refl)) is.forest.nothing,
+  )),
   (λ p. (
-    let a = laws.sentences.some positions nulls p.0 p.1 in
-    let e = only_one positions nulls p.0 a.0 is.root_is a.1 a.2 in
-    nothing None v refl (packed_same positions (unlinked_of (length positions)) v z is.forest.problem (subst (λ t. IsPacked positions t v) e p.2) is.forest.nothing))),
+      let a = laws.sentences.some positions nulls p.0 p.1 in
+      let e = only_one positions nulls p.0 a.0 is.root_is a.1 a.2 in
+      nothing None v refl (packed_same positions (unlinked_of (length positions)) v z is.forest.problem (subst (λ t. IsPacked positions t v) e p.2) is.forest.nothing))),
 )
 
 -- ---- the level in numbers
@@ -110,8 +106,8 @@ paired_rise P order [] (v ∷ vs) h up = absurd h
 paired_rise P order (g ∷ gs) [] h up = absurd h
 paired_rise P order (g ∷ gs) (v ∷ vs) h up =
     let first : (w : Value) → Contains vs w → value_cmp v w ≡ Less = λ w i. (
-      let r = paired_in P gs vs h.1 w i in
-      order g r.0 v w h.0 r.2 (All-contains (λ t. linkage_cmp g t ≡ Less) gs r.0 (All-from_recursion (λ t. linkage_cmp g t ≡ Less) gs up.0) r.1)) in
+    let r = paired_in P gs vs h.1 w i in
+    order g r.0 v w h.0 r.2 (All-contains (λ t. linkage_cmp g t ≡ Less) gs r.0 (All-from_recursion (λ t. linkage_cmp g t ≡ Less) gs up.0) r.1)) in
     (recursion_from_All (λ w. value_cmp v w ≡ Less) vs (λ k d l. first (get_or vs k d) (Contains-get_or vs k d l)), paired_rise P order gs vs h.1 up.1)
 
 numbers_of : Laws → (positions : List (List Disjunct)) (z : Value) (nodes : List Node) (nulls : ℕ) (root : Option ℕ) (g : Linkage) → IsListing positions z nodes nulls root → UnderWhole positions nulls g → (v : Value) × IsPacked positions g v
@@ -133,10 +129,10 @@ level_packed laws positions z nodes nulls root level is lev =
     let problem = is.forest.problem in
     let values = root_values laws positions z nodes nulls root is in
     let entry : (g : Linkage) → Contains level g → (v : Value) × IsEntry positions nulls g v = λ g i. (
-      let good = (lev.exactly g).0 i in
-      let u : UnderWhole positions nulls g = record { good = good.0; count = good.1 } in
-      let p = numbers_of laws positions z nodes nulls root g is u in
-      (p.0, (u, p.1))) in
+    let good = (lev.exactly g).0 i in
+    let u : UnderWhole positions nulls g = record { good = good.0; count = good.1 } in
+    let p = numbers_of laws positions z nodes nulls root g is u in
+    (p.0, (u, p.1))) in
     let r = all_paired (IsEntry positions nulls) level entry in
     record {
       all = r.0;

@@ -1,37 +1,29 @@
 -- The values of a forest that stands for regions are the linkages under them.
-use Rattle.std.proofs.Common.{◌≡◌, ◌↔◌, ℕ, zero, suc, ◌+◌, ◌-◌, ◌^◌, ◌<◌, ◌≤◌, List, [], ◌∷◌, length, get_or, replicate, Option, Some, None, IsSome, Contains, ◌⊎◌, inl, inr, slice_get, refl, sym, ap, ◌∙◌, subst, arith, Less, Equal, ℤ, pos, neg_ℤ, ◌≤ℤ◌}
-use Rattle.std.specs.Cmp.{IsTotalOrder}
+use Rattle.std.proofs.Common.{◌≡◌, ℕ, zero, suc, ◌<◌, ◌≤◌, List, [], ◌∷◌, length, get_or, replicate, Option, Some, None, IsSome, Contains, inl, inr, refl, sym, ap, ◌∙◌, subst, arith}
 use Rattle.std.specs.List.Sorted.{IsStrictlySortedBy}
-use Rattle.std.specs.Ordering.{nat_cmp}
 use Rattle.std.proofs.lemmas.Bool.{cases_lt}
-use Rattle.std.proofs.lemmas.Cmp.{on_total, then_total, nat_cmp_total, int_cmp_total, lists_total}
-use Rattle.std.proofs.lemmas.Int.{ints}
 use Rattle.std.proofs.lemmas.List.{length-replicate, get_or_past}
 use Rattle.std.proofs.lemmas.Option.{slice_get_within, slice_get-get_or, get_or_from_slice_get}
 use Rattle.lg_gram.specs.Connectors.{Connector}
-use Rattle.lg_gram.specs.Linkages.{Linkage, link_cmp, linkage_cmp, unlinked}
-use Rattle.lg_gram.specs.Problems.{IsProblem}
-use Rattle.lg_gram.specs.Rules.{chosen_at, HasLink, IsLinked, IsExclusive, Belongs}
+use Rattle.lg_gram.specs.Linkages.{Linkage}
+use Rattle.lg_gram.specs.Rules.{chosen_at, Belongs}
 use Rattle.lg_gram.specs.declared.disjunct.Disjunct.{Disjunct}
 use Rattle.lg_gram.specs.declared.linkage.Link.{Link}
 use Rattle.lg_region.specs.declared.key.Joint.{Joint}
-use Rattle.lg_region.specs.Cuts.{IsCutAt, Split, IsCut, IsValid, IsEmpty, Spells, Alternative, all_null, split, IsAlternative, SpelledBy}
+use Rattle.lg_region.specs.Cuts.{IsCutAt, Split, IsValid, IsEmpty, Spells, Alternative, all_null, split, IsAlternative, SpelledBy}
 use Rattle.lg_region.specs.Laws.{RegionsAreCutOnce, SentencesAreCutOnce, CutsAreValid, PartsMakeLinkages}
-use Rattle.lg_region.specs.Parts.{Region, IsPart, Under, UnderWhole, part_of}
-use Rattle.lg_region.specs.Whole.{First, IsFirst, SpellsFirst, WholeAlternative, nothing as no_word, first, IsWholeAlternative, WholeSpelledBy}
+use Rattle.lg_region.specs.Parts.{Region, IsPart, Under, part_of}
+use Rattle.lg_region.specs.Whole.{First, SpellsFirst, WholeAlternative, nothing as no_word, first, IsWholeAlternative, WholeSpelledBy}
 use Rattle.lg_rank.specs.Joins.{CutsKeepOrder}
-use Rattle.lg_rank.specs.Meanings.{IsPacked, IsWord, joint_link, length_of, unlinked_of, Subject, whole, region, IsUnder, IsSubject, IsPartFor, IsSplitWay, IsFirstWay, Cutting, split_at, begins_at, IsWayFor, IsCutting, IsForestOf}
-use Rattle.lg_rank.specs.Nodes.{Has, no_way, ways_of, way_at, setting, IsForest}
+use Rattle.lg_rank.specs.Meanings.{IsPacked, joint_link, unlinked_of, Subject, whole, region, IsUnder, IsSubject, IsPartFor, IsSplitWay, IsFirstWay, Cutting, split_at, begins_at, IsWayFor, IsCutting, IsForestOf}
+use Rattle.lg_rank.specs.Nodes.{Has, no_way, ways_of, way_at}
 use Rattle.lg_rank.specs.Nodes.Has.{nothing, made}
-use Rattle.lg_rank.specs.Values.{Value, value_cmp, combine, IsSmall, IsSmallWay}
+use Rattle.lg_rank.specs.Values.{Value, combine}
 use Rattle.lg_rank.specs.declared.part.Way.{Way}
-use Rattle.lg_rank.proofs.Choosing.{same_value}
 use Rattle.lg_rank.proofs.Cuts.{not_linked}
 use Rattle.lg_rank.proofs.Gluing.{spelled_glue, first_glue, none_at}
 use Rattle.lg_rank.proofs.Lists.{contains_here, contains_none}
-use Rattle.lg_rank.proofs.Orders.{ties_total}
-use Rattle.lg_rank.proofs.Packing.{glued_packed, packed_order, packed_apart}
-use Rattle.lg_rank.proofs.Sizes.{same_unlinked, small_packed, disjunct_cost}
+use Rattle.lg_rank.proofs.Packing.{glued_packed}
 
 -- the laws that are needed
 pub record Laws : Type 0 where
@@ -206,7 +198,7 @@ below_made laws positions z forest subjects is (suc n) le j g less u =
       | inr h ↦ (
           let e : n ≡ j = omega arith in
           subst (λ (i : ℕ). Made positions z forest (Some i) g) e
-              (node_made laws positions z forest subjects is n (omega arith) (subjects n) g refl (is.each n (omega arith)) (subst (λ (i : ℕ). IsUnder positions (subjects i) g) (sym e) u) below))
+          (node_made laws positions z forest subjects is n (omega arith) (subjects n) g refl (is.each n (omega arith)) (subst (λ (i : ℕ). IsUnder positions (subjects i) g) (sym e) u) below))
     ]
 
 pub complete : Laws → (positions : List (List Disjunct)) (z : Value) (forest : List (List Way)) (subjects : ℕ → Subject) → IsForestOf positions z forest subjects → (k : ℕ) (g : Linkage) → k < length forest → IsUnder positions (subjects k) g → Made positions z forest (Some k) g

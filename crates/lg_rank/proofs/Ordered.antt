@@ -1,33 +1,32 @@
 -- A forest that stands for regions keeps the laws of the merge.
-use Rattle.std.proofs.Common.{◌≡◌, ◌↔◌, ℕ, zero, suc, ◌+◌, ◌-◌, ◌^◌, ◌<◌, ◌≤◌, Bool, false, cond, ◌==◌, IsSome, List, [], ◌∷◌, length, get_or, Option, Some, None, Contains, inl, inr, slice_get, refl, sym, ap, ◌∙◌, subst, arith, Less, Equal, ℤ, pos, neg_ℤ, ◌≤ℤ◌}
+use Rattle.std.proofs.Common.{◌≡◌, ℕ, ◌^◌, ◌<◌, ◌≤◌, Bool, false, cond, ◌==◌, IsSome, List, [], length, get_or, Option, Some, None, Contains, inl, inr, slice_get, refl, sym, ap, ◌∙◌, subst, arith, Less, ℤ, pos, neg_ℤ, ◌≤ℤ◌}
 use Rattle.std.specs.Cmp.{IsTotalOrder}
-use Rattle.std.specs.Ordering.{nat_cmp}
 use Rattle.std.proofs.lemmas.Bool.{cases_lt}
 use Rattle.std.proofs.lemmas.Bool.Decides.{nat_tests}
 use Rattle.std.proofs.lemmas.Cmp.{on_total, then_total, nat_cmp_total, int_cmp_total, lists_total, tied_itself}
 use Rattle.std.proofs.lemmas.Int.{ints}
 use Rattle.std.proofs.lemmas.List.{length-replicate, get_or_past}
-use Rattle.std.proofs.lemmas.Option.{slice_get_within, get_or_from_slice_get}
-use Rattle.lg_gram.specs.Limits.{POSITIONS, DISJUNCT_COST}
-use Rattle.lg_gram.specs.Linkages.{Linkage, linkage_cmp, unlinked}
-use Rattle.lg_gram.specs.Problems.{IsProblem, IsDisjunctCost}
+use Rattle.std.proofs.lemmas.Option.{slice_get_within}
+use Rattle.lg_gram.specs.Limits.{DISJUNCT_COST}
+use Rattle.lg_gram.specs.Linkages.{Linkage, linkage_cmp}
+use Rattle.lg_gram.specs.Problems.{IsProblem}
 use Rattle.lg_gram.specs.Connectors.{Connector}
-use Rattle.lg_gram.specs.Rules.{HasLink, IsExclusive, Belongs, Good, chosen_at, left_list}
+use Rattle.lg_gram.specs.Rules.{HasLink, Good, chosen_at, left_list}
 use Rattle.lg_gram.specs.declared.disjunct.Disjunct.{Disjunct}
 use Rattle.lg_gram.specs.declared.linkage.Link.{Link}
 use Rattle.lg_region.specs.declared.key.Joint.{Joint}
-use Rattle.lg_region.specs.Cuts.{Split, IsCut, IsValid, Spells, Alternative, all_null, split}
+use Rattle.lg_region.specs.Cuts.{Split, IsValid, Spells, Alternative, all_null, split}
 use Rattle.lg_region.specs.Parts.{Region, Under, part_of, lefts_in}
-use Rattle.lg_region.specs.Whole.{First, IsFirst, SpellsFirst, WholeAlternative, nothing as no_word, first}
+use Rattle.lg_region.specs.Whole.{First, SpellsFirst, WholeAlternative, nothing as no_word, first}
 use Rattle.lg_rank.specs.Meanings.{IsPacked, IsWord, joint_link, length_of, unlinked_of, Subject, whole, region, IsUnder, IsSubject, IsPartFor, IsSplitWay, IsFirstWay, Cutting, split_at, begins_at, IsWayFor, IsForestOf, ForestsStandForLinkages}
 use Rattle.lg_rank.specs.Merges.{Laws as MergeLaws}
-use Rattle.lg_rank.specs.Nodes.{Has, no_way, ways_of, way_at, setting, IsForest}
+use Rattle.lg_rank.specs.Nodes.{Has, ways_of, way_at, setting, IsForest}
 use Rattle.lg_rank.specs.Nodes.Has.{nothing, made}
 use Rattle.lg_rank.specs.Values.{Value, value_cmp, combine, IsSmall, IsSmallWay}
 use Rattle.lg_rank.specs.declared.part.Way.{Way}
 use Rattle.lg_rank.proofs.Choosing.{same_value}
 use Rattle.lg_rank.proofs.Lists.{contains_none}
-use Rattle.lg_rank.proofs.Meaning.{Laws, Packs, Halves, split_packed, first_packed, part_sound, has_nothing, in_forest, sound, complete, unlinked_part}
+use Rattle.lg_rank.proofs.Meaning.{Laws, Packs, split_packed, first_packed, part_sound, has_nothing, in_forest, sound, complete, unlinked_part}
 use Rattle.lg_rank.proofs.Orders.{ties_total}
 use Rattle.lg_rank.proofs.Packing.{packed_order, packed_apart, packed_same}
 use Rattle.lg_rank.proofs.Sizes.{same_unlinked, small_packed, disjunct_cost}

@@ -6,7 +6,7 @@ use Rattle.std.specs.List.Sorted.{IsStrictlySortedBy}
 use Rattle.std.specs.Ordering.{nat_cmp, int_cmp, ordering_then, ordering_reverse}
 use Rattle.std.specs.Option.{option_cmp}
 use Rattle.std.specs.Cmp.Lexicographic.{slice_cmp}
-use Rattle.std.proofs.Math.IntN.{+ℤ_idl, +ℤ_idr}
+use Rattle.std.proofs.Math.IntN.{+ℤ_idl}
 use Rattle.std.proofs.lemmas.Bool.{cases_lt}
 use Rattle.std.proofs.lemmas.Bool.Decides.{nat_tests}
 use Rattle.std.proofs.lemmas.Cmp.{tied_itself}
@@ -18,7 +18,7 @@ use Rattle.std.proofs.lemmas.Map.Keys.{sorted_head, sorted_tail}
 use Rattle.std.proofs.lemmas.List.Elements.{All-from_recursion, All-contains}
 use Rattle.lg_gram.specs.Disjuncts.{disjunct_cmp}
 use Rattle.lg_gram.specs.Linkages.{Linkage, link_length, cost_of, cost_sum, unlinked, linkage_cmp, tie_cmp}
-use Rattle.lg_gram.specs.Problems.{IsProblem, IsPosition}
+use Rattle.lg_gram.specs.Problems.{IsProblem}
 use Rattle.lg_gram.specs.Rules.{chosen_at}
 use Rattle.lg_gram.specs.declared.disjunct.Disjunct.{Disjunct}
 use Rattle.lg_gram.specs.declared.linkage.Link.{Link}
@@ -199,8 +199,8 @@ glued_packed positions W d near far a b g x y w u is p q =
               | inl m ↦ subst (λ (n : ℕ). IsCodeOf (get_or positions i []) (chosen_at g i) n) (sym (mixed_after W x.choices y.choices w.choice i (let s = p.long in let t = u.long_a in let v = u.within in omega arith) m)) (subst (λ (o : Option Disjunct). IsCodeOf (get_or positions i []) o (get_or y.choices i 0)) (sym (u.after i m)) (q.choices i))
               | inr m ↦ (let e : W ≡ i = omega arith in
                   subst (λ (j : ℕ). IsCodeOf (get_or positions j []) (chosen_at g j) (get_or (take W x.choices ++ w.choice ∷ drop (suc W) y.choices) j 0)) e
-                      (subst (λ (n : ℕ). IsCodeOf (get_or positions W []) (chosen_at g W) n) (sym (mixed_here W x.choices y.choices w.choice (let s = p.long in let t = u.long_a in let v = u.within in omega arith)))
-                      (subst (λ (o : Option Disjunct). IsCodeOf (get_or positions W []) o w.choice) (sym u.word) is.choice)))
+                  (subst (λ (n : ℕ). IsCodeOf (get_or positions W []) (chosen_at g W) n) (sym (mixed_here W x.choices y.choices w.choice (let s = p.long in let t = u.long_a in let v = u.within in omega arith)))
+                  (subst (λ (o : Option Disjunct). IsCodeOf (get_or positions W []) o w.choice) (sym u.word) is.choice)))
             ]
           ]);
       links = (λ k. with_link (is.near_is k) (p.links k) ++ with_link (is.far_is k) (q.links k)) ∙ sym u.links;
@@ -208,23 +208,27 @@ glued_packed positions W d near far a b g x y w u is p q =
   where
     moved : (c a b : ℤ) → c +ℤ (a +ℤ b) ≡ a +ℤ (c +ℤ b)
     moved c a b = omega (arith, ints)
+
     coded_long : (n : ℕ) (xs ys : List ℕ) (c m : ℕ) → length xs ≡ m → length ys ≡ m → n < m → length (take n xs ++ c ∷ drop (suc n) ys) ≡ m
     coded_long n [] ys c m e f l = absurd (omega arith)
     coded_long n xs [] c m e f l = absurd (omega arith)
     coded_long zero (x ∷ xs) (y ∷ ys) c m e f l = f
     coded_long (suc n) (x ∷ xs) (y ∷ ys) c zero e f l = absurd (omega arith)
     coded_long (suc n) (x ∷ xs) (y ∷ ys) c (suc m) e f l = ap suc (coded_long n xs ys c m (omega arith) (omega arith) (omega arith))
+
     mixed_before : (n : ℕ) (xs ys : List ℕ) (c i : ℕ) → n < length xs → i < n → get_or (take n xs ++ c ∷ drop (suc n) ys) i 0 ≡ get_or xs i 0
     mixed_before zero xs ys c i l m = absurd (omega arith)
     mixed_before (suc n) [] ys c i l m = absurd (omega arith)
     mixed_before (suc n) (x ∷ xs) ys c zero l m = refl
     mixed_before (suc n) (x ∷ xs) [] c (suc i) l m = mixed_before n xs [] c i (omega arith) (omega arith)
     mixed_before (suc n) (x ∷ xs) (y ∷ ys) c (suc i) l m = mixed_before n xs ys c i (omega arith) (omega arith)
+
     mixed_here : (n : ℕ) (xs ys : List ℕ) (c : ℕ) → n < length xs → get_or (take n xs ++ c ∷ drop (suc n) ys) n 0 ≡ c
     mixed_here zero xs ys c l = refl
     mixed_here (suc n) [] ys c l = absurd (omega arith)
     mixed_here (suc n) (x ∷ xs) [] c l = mixed_here n xs [] c (omega arith)
     mixed_here (suc n) (x ∷ xs) (y ∷ ys) c l = mixed_here n xs ys c (omega arith)
+
     mixed_after : (n : ℕ) (xs ys : List ℕ) (c i : ℕ) → n < length xs → n < i → get_or (take n xs ++ c ∷ drop (suc n) ys) i 0 ≡ get_or ys i 0
     mixed_after n xs ys c zero l m = absurd (omega arith)
     mixed_after n [] ys c (suc i) l m = absurd (omega arith)

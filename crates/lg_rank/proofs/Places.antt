@@ -1,5 +1,5 @@
 -- Lists in which one element has changed.
-use Rattle.std.proofs.Common.{◌≡◌, ◌≢◌, ℕ, zero, suc, ◌+◌, ◌<◌, ◌≤◌, List, [], ◌∷◌, ◌++◌, length, set, get_or, map, Option, Some, None, slice_get, refl, sym, ap, ◌∙◌, arith}
+use Rattle.std.proofs.Common.{◌≡◌, ◌≢◌, ℕ, zero, suc, ◌<◌, List, [], ◌∷◌, length, set, get_or, map, Some, slice_get, refl, sym, ap, ◌∙◌, arith}
 
 pub set_here : {V : Type 0} (xs : List V) (m : ℕ) (v : V) → m < length xs → slice_get (set xs m v) m ≡ Some v
 set_here [] m v less = absurd (omega arith)

@@ -1,5 +1,5 @@
 -- Rows that hold places alone mean the same when the parts have more values.
-use Rattle.std.proofs.Common.{◌≡◌, ℕ, ◌<◌, Bool, true, false, List, get_or, Option, Some, None, slice_get, refl, sym, ap, ◌∙◌}
+use Rattle.std.proofs.Common.{◌≡◌, ℕ, ◌<◌, Bool, true, false, List, get_or, Some, slice_get, refl, sym, ◌∙◌}
 use Rattle.std.proofs.lemmas.Option.{get_or_from_slice_get}
 use Rattle.lg_rank.specs.Fronts.{Extends}
 use Rattle.lg_rank.specs.Merges.{Setting, Row, Ahead, IsRow, Merged, PlaceRow, held, seen_by}

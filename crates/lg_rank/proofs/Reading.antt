@@ -1,11 +1,11 @@
 -- What is read of a table.
-use Rattle.std.proofs.Common.{◌≡◌, ℕ, suc, ◌+◌, ◌<◌, ◌≤◌, Bool, true, false, not, List, [], ◌∷◌, length, get_or, map, Option, Some, None, slice_get, inl, inr, refl, sym, ap, ◌∙◌, subst, arith}
-use Rattle.std.proofs.lemmas.Option.{slice_get_within, slice_get-get_or, get_or_from_slice_get, slice_get_read, slice_get_past}
-use Rattle.lg_rank.specs.Fronts.{IsAll, IsListOf, Extends}
-use Rattle.lg_rank.specs.Merges.{Ahead, IsRow, Merged, held}
-use Rattle.lg_rank.specs.Values.{Value, value_of, value_cmp, combine, IsSmall, IsSmallWay}
+use Rattle.std.proofs.Common.{◌≡◌, ℕ, ◌<◌, ◌≤◌, Bool, true, false, not, List, [], length, get_or, Option, Some, None, slice_get, refl, sym, ap, ◌∙◌, subst, arith}
+use Rattle.std.proofs.lemmas.Option.{slice_get_within, slice_get-get_or, get_or_from_slice_get}
+use Rattle.lg_rank.specs.Fronts.{IsAll, IsListOf}
+use Rattle.lg_rank.specs.Merges.{Ahead, IsRow, held}
+use Rattle.lg_rank.specs.Values.{Value, value_cmp}
 use Rattle.lg_rank.specs.Nodes.{Has, ways_of, way_at, no_way, setting, IsForest}
-use Rattle.lg_rank.specs.Tables.{seen, place_of, forest_of, values_of, made_in, made_at, parts, IsNode, IsTable, Grown, end_of, IsNth, IsBegun, IsIdle, IsWayOf, Holds, value_at, held_by, rows_in, rows_at}
+use Rattle.lg_rank.specs.Tables.{seen, place_of, forest_of, values_of, parts, IsTable, Grown, end_of, IsNth, IsBegun, IsIdle, IsWayOf, Holds, value_at, held_by, rows_in, rows_at}
 use Rattle.lg_rank.specs.declared.part.Way.{Way}
 use Rattle.lg_rank.specs.declared.node.Node.{Node}
 use Rattle.lg_rank.specs.declared.node.Row.{Row}

@@ -1,9 +1,8 @@
 -- The rows after the least value was taken keep all that is said of rows.
-use Rattle.std.proofs.Common.{◌≡◌, ◌≢◌, ℕ, zero, suc, ◌+◌, ◌<◌, ◌≤◌, List, [], ◌∷◌, ◌++◌, length, Option, Some, None, slice_get, get_or, ◌⊎◌, inl, inr, refl, sym, ap, ◌∙◌, subst, arith, Less, Equal, Greater}
+use Rattle.std.proofs.Common.{◌≡◌, ◌≢◌, ℕ, suc, ◌<◌, ◌≤◌, List, [], ◌∷◌, ◌++◌, length, Option, Some, None, slice_get, get_or, inl, inr, refl, sym, ap, ◌∙◌, subst, arith}
 use Rattle.std.proofs.lemmas.Bool.{cases_lt}
 use Rattle.std.proofs.lemmas.Option.{slice_get_within, slice_get-get_or}
-use Rattle.lg_rank.specs.Fronts.{IsIn, AtMost, IsFront, AllBefore}
-use Rattle.lg_rank.specs.Merges.{Setting, Makes, Laws, Row, HasRow, Ahead, IsRow, Open, Closed, Opened, Merged, PartsAre, IsBelow, IsLeast, Advanced, Following, Begins, Turn}
+use Rattle.lg_rank.specs.Merges.{Setting, Laws, Row, HasRow, Ahead, Open, Opened, Merged, PartsAre, Advanced, Turn}
 use Rattle.lg_rank.proofs.Taking.{same_or, one_place, Taken, each_after}
 use Rattle.lg_rank.proofs.Covering.{front_more}
 

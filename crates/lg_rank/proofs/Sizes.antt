@@ -1,19 +1,18 @@
 -- The numbers of linkages are far from the ends of their types.
-use Rattle.std.proofs.Common.{◌≡◌, ℕ, zero, suc, ◌+◌, ◌-◌, ◌*◌, ◌^◌, ◌<◌, ◌≤◌, cond, List, [], ◌∷◌, length, get_or, replicate, Option, Some, None, IsSome, is_none, Contains, inl, inr, refl, sym, ap, ◌∙◌, subst, arith, Less, ℤ, pos, neg_ℤ, ◌+ℤ◌, ◌≤ℤ◌}
+use Rattle.std.proofs.Common.{◌≡◌, ℕ, zero, suc, ◌+◌, ◌-◌, ◌*◌, ◌^◌, ◌<◌, ◌≤◌, cond, List, [], ◌∷◌, length, get_or, Option, Some, None, is_none, Contains, inl, inr, refl, sym, ap, ◌∙◌, subst, arith, Less, ℤ, pos, neg_ℤ, ◌+ℤ◌, ◌≤ℤ◌}
 use Rattle.std.specs.List.{count_by, sum_by}
-use Rattle.std.specs.List.Sorted.{IsStrictlySortedBy}
 use Rattle.std.proofs.lemmas.Bool.{cases_lt}
 use Rattle.std.proofs.lemmas.Int.{ints}
 use Rattle.std.proofs.lemmas.List.{get_or_past}
 use Rattle.std.proofs.lemmas.List.Sums.{sum_by-cons}
 use Rattle.std.proofs.lemmas.Map.Keys.{sorted_head, sorted_tail}
-use Rattle.lg_gram.specs.Limits.{POSITIONS, DISJUNCT_COST}
-use Rattle.lg_gram.specs.Linkages.{Linkage, link_cmp, link_length, cost_of, cost_sum, unlinked}
+use Rattle.lg_gram.specs.Limits.{DISJUNCT_COST}
+use Rattle.lg_gram.specs.Linkages.{Linkage, link_cmp, link_length, cost_sum, unlinked}
 use Rattle.lg_gram.specs.Problems.{IsProblem, IsDisjunctCost}
-use Rattle.lg_gram.specs.Rules.{chosen_at, HasLink, IsLinked, IsExclusive, Belongs}
+use Rattle.lg_gram.specs.Rules.{chosen_at, HasLink, IsExclusive, Belongs}
 use Rattle.lg_gram.specs.declared.disjunct.Disjunct.{Disjunct}
 use Rattle.lg_gram.specs.declared.linkage.Link.{Link}
-use Rattle.lg_region.specs.Parts.{Region, Under, IsPart, null_at, nulls_from}
+use Rattle.lg_region.specs.Parts.{Region, Under, null_at, nulls_from}
 use Rattle.lg_rank.specs.Meanings.{IsPacked}
 use Rattle.lg_rank.specs.Values.{Value, IsSmall}
 use Rattle.lg_rank.proofs.Cuts.{not_linked}
@@ -60,11 +59,11 @@ same_unlinked positions k g h lr within u v =
     let a = nulls_same g h 0 (suc k.left) (λ i x y. outside i (λ p q. absurd (omega arith))) in
     let c = nulls_same g h k.right (n - k.right) (λ i x y. outside i (λ p q. absurd (omega arith))) in
     let whole : (t : Linkage) → nulls_from t 0 n ≡ nulls_from t 0 (suc k.left) + (nulls_from t (suc k.left) (k.right - suc k.left) + nulls_from t k.right (n - k.right)) = λ t. (
-      let e : n ≡ suc k.left + ((k.right - suc k.left) + (n - k.right)) = omega arith in
-      let f : suc k.left + (k.right - suc k.left) ≡ k.right = omega arith in
-      let s : 0 + suc k.left ≡ suc k.left = omega arith in
-      ap (nulls_from t 0) e ∙ nulls_add t 0 (suc k.left) ((k.right - suc k.left) + (n - k.right)) ∙ ap (λ x. nulls_from t 0 (suc k.left) + nulls_from t x ((k.right - suc k.left) + (n - k.right))) s
-      ∙ ap (λ x. nulls_from t 0 (suc k.left) + x) (nulls_add t (suc k.left) (k.right - suc k.left) (n - k.right) ∙ ap (λ x. nulls_from t (suc k.left) (k.right - suc k.left) + nulls_from t x (n - k.right)) f)) in
+    let e : n ≡ suc k.left + ((k.right - suc k.left) + (n - k.right)) = omega arith in
+    let f : suc k.left + (k.right - suc k.left) ≡ k.right = omega arith in
+    let s : 0 + suc k.left ≡ suc k.left = omega arith in
+    ap (nulls_from t 0) e ∙ nulls_add t 0 (suc k.left) ((k.right - suc k.left) + (n - k.right)) ∙ ap (λ x. nulls_from t 0 (suc k.left) + nulls_from t x ((k.right - suc k.left) + (n - k.right))) s
+    ∙ ap (λ x. nulls_from t 0 (suc k.left) + x) (nulls_add t (suc k.left) (k.right - suc k.left) (n - k.right) ∙ ap (λ x. nulls_from t (suc k.left) (k.right - suc k.left) + nulls_from t x (n - k.right)) f)) in
     let count : (t : Linkage) → Under positions k t → nulls_from t 0 n ≡ unlinked t = λ t w. ap (nulls_from t 0) (sym w.part.belongs.same_length) ∙ all_nulls t in
     sym (count g u) ∙ whole g ∙ omega (arith, a, c, u.nulls, v.nulls) ∙ sym (whole h) ∙ count h v
 
@@ -87,10 +86,10 @@ few_links m [] small up one h = omega arith
 few_links m (x ∷ xs) small up one h =
     let here = h x (contains_here x xs) in
     let r = few_links (suc (pair_of x)) xs (let a = here.1 in omega arith) (sorted_tail link_cmp x xs up) (λ k l p q. one k l (contains_later x xs k p) (contains_later x xs l q)) (λ l i. (
-      let b = h l (contains_later x xs l i) in
-      let less = after_head x xs l (sorted_head link_cmp x xs up) i in
-      let e = earlier_pair x l here.2 less (λ p q. not_itself x (subst (λ w. link_cmp x w ≡ Less) (sym (one x l (contains_here x xs) (contains_later x xs l i) p q)) less)) in
-      (omega arith, b.1, b.2))) in
+    let b = h l (contains_later x xs l i) in
+    let less = after_head x xs l (sorted_head link_cmp x xs up) i in
+    let e = earlier_pair x l here.2 less (λ p q. not_itself x (subst (λ w. link_cmp x w ≡ Less) (sym (one x l (contains_here x xs) (contains_later x xs l i) p q)) less)) in
+    (omega arith, b.1, b.2))) in
     let a = here.0 in omega arith
 
 long_links : (xs : List Link) → ((l : Link) → Contains xs l → l.right < 256) → sum_by link_length xs ≤ length xs * 256
@@ -155,5 +154,6 @@ small_packed positions g v problem b one links p =
   where
     wider_below : (m n : ℕ) (a : ℤ) → m ≤ n → neg_ℤ (pos m) ≤ℤ a → neg_ℤ (pos n) ≤ℤ a
     wider_below m n a l p = omega (arith, ints)
+
     wider_above : (m n : ℕ) (a : ℤ) → m ≤ n → a ≤ℤ pos m → a ≤ℤ pos n
     wider_above m n a l p = omega (arith, ints)

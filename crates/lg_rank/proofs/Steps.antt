@@ -1,14 +1,13 @@
 -- The steps of the table: what each function's parts come to.
-use Rattle.std.proofs.Common.{◌≡◌, ◌≢◌, ℕ, zero, suc, ◌+◌, ◌<◌, ◌≤◌, Bool, true, false, List, [], ◌∷◌, ◌++◌, length, set, get_or, map, Option, Some, None, slice_get, ◌⊎◌, inl, inr, Result, Ok, Err, refl, sym, ap, ◌∙◌, subst, arith}
+use Rattle.std.proofs.Common.{◌≡◌, ℕ, suc, ◌+◌, ◌<◌, ◌≤◌, Bool, true, false, List, [], ◌∷◌, ◌++◌, length, set, get_or, map, Option, Some, None, slice_get, inl, inr, Result, Ok, Err, refl, sym, ap, ◌∙◌, subst, arith}
 use Rattle.std.specs.Result.{OnOk, OnErr}
-use Rattle.std.proofs.lemmas.Bool.{cases_lt}
 use Rattle.std.proofs.lemmas.Option.{slice_get_within, slice_get-get_or, get_or_from_slice_get}
 use Rattle.lg_rank.specs.Fronts.{IsIn, IsAll, AtMost, Extends}
-use Rattle.lg_rank.specs.Merges.{IsRow, Turn, Begins, Following, Advanced, held}
+use Rattle.lg_rank.specs.Merges.{Turn, Begins, Following, held}
 use Rattle.lg_base.specs.declared.memory.NoMemory.{NoMemory}
 use Rattle.lg_rank.specs.Values.{Value, value_of, value_cmp, combine, IsSmall, IsSmallWay}
 use Rattle.lg_rank.specs.Nodes.{Has, ways_of, way_at, setting, IsForest}
-use Rattle.lg_rank.specs.Tables.{seen, forest_of, values_of, made_in, made_at, parts, IsNode, IsTable, RowsOf, Grown, end_of, IsNth, IsBegun, IsIdle, IsWayOf, Holds, value_at, held_by, rows_in, rows_at, GoesOn, IsFirst, IsFirstOf, Begin, SpentBelow, LeastBelow, BestBelow, Chosen, Puts, IsSameNode, Starts, Stepped, Advances, row_list}
+use Rattle.lg_rank.specs.Tables.{seen, forest_of, values_of, made_in, made_at, parts, IsNode, IsTable, RowsOf, Grown, IsNth, IsBegun, IsIdle, IsWayOf, Holds, value_at, held_by, rows_in, rows_at, GoesOn, IsFirst, IsFirstOf, Begin, SpentBelow, LeastBelow, BestBelow, Chosen, Puts, IsSameNode, Starts, Stepped, Advances, row_list}
 use Rattle.lg_rank.specs.declared.part.Part.{Part}
 use Rattle.lg_rank.specs.declared.part.Way.{Way}
 use Rattle.lg_rank.specs.declared.node.Choice.{Choice}
@@ -19,7 +18,7 @@ use Rattle.lg_rank.proofs.Elements.{push_old}
 use Rattle.lg_rank.proofs.Forests.{rows_more, parts_front, parts_are, has_makes, table_set, grown_set, more_parts, begun_more}
 use Rattle.lg_rank.proofs.Growing.{merged_none, merged_begun, merged_passed}
 use Rattle.lg_rank.proofs.Places.{set_here}
-use Rattle.lg_rank.proofs.Reading.{row_is, live_holds, held_is, held_grown}
+use Rattle.lg_rank.proofs.Reading.{live_holds, held_is, held_grown}
 use Rattle.lg_rank.proofs.Rows.{merged_more}
 use Rattle.lg_rank.proofs.Taking.{same_or}
 
@@ -209,6 +208,7 @@ turn z n k c after first t rows rows_is =
           | inl now ↦ (now, first_row z n k r.way w (suc r.at) b is (subst (λ (o : Option Row). IsFirstOf z n r.way w (suc r.at) o) e (begin.now now)))
           | inr later ↦ absurd (let q = begin.later later in let f : ◌≡◌ {A = Option Row} None (Some b) = sym q ∙ e in cc)
         ]
+
     ends_of : (z : Value) (n : List Node) (k : ℕ) (w : Way) (r : Row) (first : Option Row) (x : Value) → Begin z n w r first → Has z (forest_of n) w.left x → first ≡ None → r.next ≡ 0
         → (y : Value) → Has z (forest_of n) w.right y → (j : ℕ) × (j ≤ r.at) × (slice_get (parts z n w.right) j ≡ Some y)
     ends_of z n k w r first x begin hx e now y hy =

@@ -1,12 +1,11 @@
 -- The rows after the least value was taken.
-use Rattle.std.proofs.Common.{◌≡◌, ◌≢◌, ℕ, zero, suc, ◌+◌, ◌<◌, ◌≤◌, List, [], ◌∷◌, ◌++◌, length, Option, Some, None, slice_get, ◌⊎◌, inl, inr, refl, sym, ap, ◌∙◌, subst, arith, Less, Equal, Greater}
+use Rattle.std.proofs.Common.{◌≡◌, ◌≢◌, ℕ, suc, ◌<◌, List, [], ◌∷◌, ◌++◌, length, Option, Some, None, slice_get, ◌⊎◌, inl, inr, refl, sym, ap, ◌∙◌, subst, arith, Less}
 use Rattle.std.proofs.lemmas.Bool.{cases_lt}
-use Rattle.std.proofs.lemmas.Option.{slice_get_within}
 use Rattle.std.specs.declared.cmp.Ordering.{Ordering}
-use Rattle.lg_rank.specs.Fronts.{IsIn, AtMost, IsFront, AllBefore}
-use Rattle.lg_rank.specs.Merges.{Setting, Makes, Laws, Row, HasRow, Ahead, IsRow, Open, Closed, Opened, Merged, PartsAre, IsBelow, IsLeast, Advanced, Following, Begins, Turn}
-use Rattle.lg_rank.proofs.Elements.{less_not, most_less, less_most, most_trans, push_old, push_here, push_from}
-use Rattle.lg_rank.proofs.Covering.{front_more, value_makes}
+use Rattle.lg_rank.specs.Fronts.{IsIn, IsFront}
+use Rattle.lg_rank.specs.Merges.{Setting, Laws, Row, Ahead, IsRow, Merged, PartsAre, IsLeast, Advanced, Following, Turn}
+use Rattle.lg_rank.proofs.Elements.{less_not, push_old, push_here, push_from}
+use Rattle.lg_rank.proofs.Covering.{value_makes}
 
 pub same_or : (a b : ℕ) → (a ≡ b) ⊎ (a ≢ b)
 same_or a b = elim (cases_lt a b) [ inl h ↦ inr (λ e. omega arith) | inr h ↦ elim (cases_lt b a) [ inl g ↦ inr (λ e. omega arith) | inr g ↦ inl (omega arith) ] ]

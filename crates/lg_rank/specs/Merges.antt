@@ -1,5 +1,5 @@
 -- The values that alternatives make of their parts, in order and on demand.
-use Rattle.std.specs.Prelude.{Bool, true, false, slice_index_or, ◌≡◌, ◌≢◌, ℕ, zero, suc, ◌+◌, ◌<◌, ◌≤◌, List, length, Option, Some, None, slice_get, ◌⊎◌}
+use Rattle.std.specs.Prelude.{Bool, true, false, slice_index_or, ◌≡◌, ◌≢◌, ℕ, suc, ◌<◌, ◌≤◌, List, length, Option, Some, None, slice_get, ◌⊎◌}
 use Rattle.std.specs.Cmp.{IsTotalOrder}
 use Rattle.std.specs.declared.cmp.Ordering.{Ordering}
 use Rattle.std.specs.declared.cmp.Ordering.TheVariants.{Less, Equal}

@@ -11,5 +11,5 @@ mod ranked;
 pub mod table;
 pub mod unpack;
 
-pub use ranked::Ranked;
 pub use law::{cuts_keep_order, joins_grow, values_are_linkages};
+pub use ranked::Ranked;

@@ -93,12 +93,7 @@ pub fn part_count(nothing: &Part, nodes: &[Node], part: Option<usize>) -> usize
 }
 
 /// The value at `i` of a part.
-pub fn part_of<'a>(
-    nothing: &'a Part,
-    nodes: &'a [Node],
-    part: Option<usize>,
-    i: usize,
-) -> &'a Part
+pub fn part_of<'a>(nothing: &'a Part, nodes: &'a [Node], part: Option<usize>, i: usize) -> &'a Part
     requires { i < length (parts (value_of nothing.now) nodes.now part) }
     ensures { slice_get (parts (value_of nothing.now) nodes.now part) i ≡ Some (value_of result.now) }
 {

@@ -1,5 +1,4 @@
 use Rattle.lg_rank.proofs.Ordered.{forests_stand}
-use Rattle.lg_rank.proofs.Listing.{level_some}
 use Rattle.lg_rank.proofs.law.values_are_linkages.Goals as goal
 
 pub returns : goal.returns

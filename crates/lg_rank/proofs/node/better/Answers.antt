@@ -1,4 +1,4 @@
-use Rattle.std.proofs.Common.{◌≡◌, subst, sym, ap, ◌∙◌, Less}
+use Rattle.std.proofs.Common.{◌≡◌, subst, sym, Less}
 use Rattle.lg_rank.specs.Values.{value_of, value_cmp}
 use Rattle.lg_rank.specs.Tables.{held_by, rows_at, value_at}
 use Rattle.lg_rank.proofs.Choosing.{best_first, best_new, best_old}

@@ -1,4 +1,3 @@
-use Rattle.std.proofs.Common.{sym, ◌∙◌}
 use Rattle.lg_rank.specs.Values.{value_of}
 use Rattle.lg_rank.proofs.Steps.{candidate_sound}
 use Rattle.lg_rank.proofs.node.candidate.Goals as goal

@@ -1,4 +1,4 @@
-use Rattle.std.proofs.Common.{rules, ◌≡◌, ◌∙◌, ◌-◌, slice_get, arith}
+use Rattle.std.proofs.Common.{◌∙◌, arith}
 use Rattle.lg_rank.proofs.Links.{link_before, link_here, link_after}
 use Rattle.lg_rank.proofs.part.link_at.Goals as goal
 

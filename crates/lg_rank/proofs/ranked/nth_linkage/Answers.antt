@@ -1,4 +1,4 @@
-use Rattle.std.proofs.Common.{◌≡◌, Bool, get_or, length, subst, ap, ◌∙◌}
+use Rattle.std.proofs.Common.{Bool, get_or, subst}
 use Rattle.std.proofs.lemmas.Option.{slice_get-get_or}
 use Rattle.lg_rank.specs.Tables.{forest_of, parts, IsNth}
 use Rattle.lg_rank.specs.Values.{value_of}

@@ -1,6 +1,5 @@
-use Rattle.std.proofs.Common.{◌≡◌, length, subst, sym, ap, ◌∙◌}
+use Rattle.std.proofs.Common.{◌≡◌, subst, sym, ◌∙◌}
 use Rattle.lg_gram.specs.Linkages.{Linkage, IsLinkage}
-use Rattle.lg_rank.specs.Meanings.{AreCodesOf}
 use Rattle.lg_rank.specs.Values.{value_of}
 use Rattle.lg_rank.proofs.Unpacking.{unpacked, some_linkage, that_linkage}
 use Rattle.lg_rank.proofs.unpack.linkage_of.Goals as goal

@@ -1,4 +1,4 @@
-use Rattle.std.proofs.Common.{◌≡◌, slice_get, subst, sym, ap, ◌∙◌}
+use Rattle.std.proofs.Common.{slice_get, subst, sym, ap, ◌∙◌}
 use Rattle.lg_gram.specs.Levels.{IsLevel}
 use Rattle.lg_rank.specs.Rankings.{Ranking}
 use Rattle.lg_rank.proofs.ranked.Ranked.next.Goals as goal

@@ -1,8 +1,8 @@
-use Rattle.std.proofs.Common.{◌≡◌, ℕ, suc, ◌+◌, ◌<◌, ◌≤◌, Bool, true, false, List, [], length, Option, Some, None, refl, sym, ap, ◌∙◌, subst, arith, rules}
+use Rattle.std.proofs.Common.{suc, ◌≤◌, Bool, List, length, sym, subst, arith, rules}
 use Rattle.lg_rank.specs.declared.node.Node.{Node}
 use Rattle.lg_rank.specs.declared.table.Table.{Table}
 use Rattle.lg_rank.specs.Values.{value_of}
-use Rattle.lg_rank.specs.Tables.{IsTable, Grown, IsBegun, IsIdle, Chosen, GoesOn, Stepped, IsNth, IsFirst, Advances, made_at, parts}
+use Rattle.lg_rank.specs.Tables.{IsTable, IsBegun, IsIdle, Chosen, Stepped, IsNth, Advances, made_at}
 use Rattle.lg_rank.proofs.Forests.{begun_more, grown_more, grown_none, forest_more}
 use Rattle.lg_rank.proofs.Reading.{idle_more}
 use Rattle.lg_rank.proofs.Steps.{chosen_left, chosen_right, chosen_grown, goes_on_grown, begin_step, begin_all, nth_none, first_made}
@@ -69,13 +69,19 @@ advance-beginning-requires t c =
     let h = chosen_grown (value_of c.args.nothing.now) c.args.self.now.nodes.items c.following.new.self.nodes.items c.args.k c.in-Some.choice c.requires.table c.following.ensures.grown
     (subst (λ (n : List Node). Chosen (value_of c.args.nothing.now) n c.args.k c.in-Some.choice) c.as_slice.ensures.value c.in-Some.ensures) in (
       search rules,
-      ((let long = c.following.ensures.grown.long in let within = c.requires.within in omega arith), (
-        c.in-Some.ensures.way.left,
-        (c.in-Some.ensures.way.right, (
-          chosen_right (value_of c.args.nothing.now) c.following.new.self.nodes.items c.args.k c.in-Some.choice c.following.ensures.table h,
-          (forest_more (value_of c.args.nothing.now) c.args.k c.args.self.now.nodes.items c.following.new.self.nodes.items c.following.ensures.grown c.requires.forest, c.following.ensures.table),
-        )),
-      )),
+      (
+        (let long = c.following.ensures.grown.long in let within = c.requires.within in omega arith),
+        (
+          c.in-Some.ensures.way.left,
+          (
+            c.in-Some.ensures.way.right,
+            (
+              chosen_right (value_of c.args.nothing.now) c.following.new.self.nodes.items c.args.k c.in-Some.choice c.following.ensures.table h,
+              (forest_more (value_of c.args.nothing.now) c.args.k c.args.self.now.nodes.items c.following.new.self.nodes.items c.following.ensures.grown c.requires.forest, c.following.ensures.table),
+            ),
+          ),
+        ),
+      ),
     )
 
 pub advance-returns-in_err-take_part-clause-grown : goal.advance-returns-in_err-take_part-clause-grown

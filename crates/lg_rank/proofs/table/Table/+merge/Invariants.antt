@@ -1,7 +1,7 @@
-use Rattle.std.proofs.Common.{◌≡◌, ◌+◌, ◌-◌, ◌*◌, suc, length, []}
+use Rattle.std.proofs.Common.{◌≡◌, ◌+◌, ◌-◌, ◌*◌, length, []}
 use Rattle.lg_rank.specs.Nodes.{ways_of}
 use Rattle.lg_rank.specs.Values.{value_of}
-use Rattle.lg_rank.specs.Tables.{end_of, IsTable, Grown, IsBegun, IsIdle, RowsOf, forest_of, parts, made_at, Stepped}
+use Rattle.lg_rank.specs.Tables.{end_of, IsTable, Grown, RowsOf, forest_of, parts, made_at, Stepped}
 use Rattle.lg_rank.proofs.table.Table.+merge.Given as goal
 
 abbrev pub decreases-part : goal.decreases-part
