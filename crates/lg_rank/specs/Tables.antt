@@ -1,0 +1,189 @@
+-- A table of nodes, each with the values that were made so far.
+use Rattle.std.specs.Prelude.{◌≡◌, ◌≢◌, ℕ, suc, ◌+◌, ◌<◌, ◌≤◌, Bool, true, false, List, [], ◌∷◌, ◌++◌, ◌⊎◌, length, Option, Some, None, MatchOption, slice_get, slice_index_or, map}
+use Rattle.lg_rank.specs.Fronts.{IsAll, Extends, AtMost}
+use Rattle.lg_rank.specs.Merges.{Merged, Advanced, PlaceRow, Row as Seen, seen_by}
+use Rattle.lg_rank.specs.Values.{Value, value_of, value_cmp, combine}
+use Rattle.lg_rank.specs.Nodes.{Has, ways_of, way_at, setting}
+use Rattle.lg_rank.specs.declared.part.Part.{Part}
+use Rattle.lg_rank.specs.declared.part.Way.{Way}
+use Rattle.lg_rank.specs.declared.node.Choice.{Choice}
+use Rattle.lg_rank.specs.declared.node.Row.{Row}
+use Rattle.lg_rank.specs.declared.node.Node.{Node}
+
+abbrev pub forest_of : List Node → List (List Way)
+forest_of nodes = map (λ n. n.ways.items) nodes
+
+abbrev pub values_of : Node → List Value
+values_of n = map value_of n.made.items
+
+abbrev pub made_in : Option Node → List Value
+made_in None = []
+made_in (Some n) = values_of n
+
+-- the values of node k that were made
+abbrev pub made_at : List Node → ℕ → List Value
+made_at nodes k = made_in (slice_get nodes k)
+
+-- the values of a part that were made
+abbrev pub parts : Value → List Node → Option ℕ → List Value
+parts z nodes None = z ∷ []
+parts z nodes (Some j) = made_at nodes j
+
+abbrev pub place_of : Row → PlaceRow
+place_of r = record { alt = r.way; at = r.at; next = r.next; live = r.live }
+
+-- a row of node k with the value that its places lead to
+abbrev pub seen : Value → List (List Way) → (Option ℕ → List Value) → ℕ → Row → Seen Value
+seen z forest lists k r = seen_by (setting z forest k) z (λ p. lists (way_at forest k p).left) (λ p. lists (way_at forest k p).right) (place_of r)
+
+-- the rows of the first n ways of node k
+abbrev pub RowsOf : Value → List (List Way) → (Option ℕ → List Value) → ℕ → ℕ → List Value → List Row → Type 0
+RowsOf z forest lists k n made rows = Merged (setting z forest k) (seen z forest lists k) n (λ p. lists (way_at forest k p).left) (λ p. lists (way_at forest k p).right) made rows
+
+pub record IsNode (z : Value) (forest : List (List Way)) (lists : Option ℕ → List Value) (k : ℕ) (node : Node) : Type 0 where
+  pub ways : node.ways.items ≡ ways_of forest k
+  pub idle : node.begun ≡ false → values_of node ≡ []
+  pub busy : node.begun ≡ true → RowsOf z forest lists k (length (ways_of forest k)) (values_of node) node.rows.items
+
+abbrev pub IsTable : Value → List Node → Type 0
+IsTable z nodes = (k : ℕ) (node : Node) → slice_get nodes k ≡ Some node → IsNode z (forest_of nodes) (parts z nodes) k node
+
+-- the nodes below n may have more values, and nothing else has changed
+pub record Grown (n : ℕ) (old new : List Node) : Type 0 where
+  pub forest : forest_of new ≡ forest_of old
+  pub long : length new ≡ length old
+  pub more : (k : ℕ) → Extends (made_at old k) (made_at new k)
+  pub above : (k : ℕ) → n ≤ k → slice_get new k ≡ slice_get old k
+
+-- one more than the node of a part
+abbrev pub end_of : Option ℕ → ℕ
+end_of None = 0
+end_of (Some j) = suc j
+
+-- whether the value at i was made; where it was not, each value of the part stands before i
+abbrev pub IsNth : Value → List Node → Option ℕ → ℕ → Bool → Type 0
+IsNth z nodes part i true = i < length (parts z nodes part)
+IsNth z nodes part i false = (x : Value) → Has z (forest_of nodes) part x → (j : ℕ) × (j < i) × (slice_get (parts z nodes part) j ≡ Some x)
+
+pub record IsBegun (nodes : List Node) (k : ℕ) : Type 0 where
+  pub node : Node
+  pub here : slice_get nodes k ≡ Some node
+  pub begun : node.begun ≡ true
+
+pub record IsIdle (nodes : List Node) (k : ℕ) : Type 0 where
+  pub node : Node
+  pub here : slice_get nodes k ≡ Some node
+  pub idle : node.begun ≡ false
+
+-- the node of a part is one of the table
+abbrev pub IsPart : List Node → Option ℕ → Type 0
+IsPart nodes part = (j : ℕ) → part ≡ Some j → j < length nodes
+
+-- the row r after its value was taken
+pub record GoesOn (z : Value) (nodes : List Node) (w : Way) (r after : Row) : Type 0 where
+  pub way : after.way ≡ r.way
+  pub at : after.at ≡ r.at
+  pub next : after.next ≡ suc r.next
+  pub live : IsNth z nodes w.left (suc r.next) after.live
+
+-- the first row of the right part's value at j
+pub record IsFirst (z : Value) (nodes : List Node) (p : ℕ) (w : Way) (j : ℕ) (b : Row) : Type 0 where
+  pub way : b.way ≡ p
+  pub at : b.at ≡ j
+  pub next : b.next ≡ 0
+  pub live : b.live ≡ true
+  pub left : 0 < length (parts z nodes w.left)
+  pub right : j < length (parts z nodes w.right)
+
+-- that row, or none where a part has no such value
+abbrev pub IsFirstOf : Value → List Node → ℕ → Way → ℕ → Option Row → Type 0
+IsFirstOf z nodes p w j None = IsNth z nodes w.left 0 false ⊎ IsNth z nodes w.right j false
+IsFirstOf z nodes p w j (Some b) = IsFirst z nodes p w j b
+
+-- the row that begins when r is taken: none where r was begun before
+pub record Begin (z : Value) (nodes : List Node) (w : Way) (r : Row) (first : Option Row) : Type 0 where
+  pub later : r.next ≢ 0 → first ≡ None
+  pub now : r.next ≡ 0 → IsFirstOf z nodes r.way w (suc r.at) first
+
+-- the value that a row of node k holds
+abbrev pub held_by : Value → List Node → ℕ → Row → Option Value
+held_by z nodes k r = (seen z (forest_of nodes) (parts z nodes) k r).value
+
+abbrev pub rows_in : Option Node → List Row
+rows_in None = []
+rows_in (Some n) = n.rows.items
+
+abbrev pub rows_at : List Node → ℕ → List Row
+rows_at nodes k = rows_in (slice_get nodes k)
+
+-- none of the first n rows holds a value
+abbrev pub SpentBelow : (Row → Option Value) → List Row → ℕ → Type 0
+SpentBelow held rows n = (k : ℕ) (t : Row) → k < n → slice_get rows k ≡ Some t → held t ≡ None
+
+-- of the first n rows that at m holds the least value
+pub record LeastBelow (held : Row → Option Value) (rows : List Row) (n m : ℕ) : Type 0 where
+  pub row : Row
+  pub here : slice_get rows m ≡ Some row
+  pub value : Value
+  pub live : held row ≡ Some value
+  pub least : (k : ℕ) (t : Row) (v : Value) → k < n → slice_get rows k ≡ Some t → held t ≡ Some v → AtMost value_cmp value v
+
+abbrev pub BestBelow : (Row → Option Value) → List Row → ℕ → Option ℕ → Type 0
+BestBelow held rows n best = MatchOption best (SpentBelow held rows n) (λ m. LeastBelow held rows n m)
+
+-- way p of node k
+pub record IsWayOf (nodes : List Node) (k p : ℕ) (w : Way) : Type 0 where
+  pub is : w ≡ way_at (forest_of nodes) k p
+  pub left : end_of w.left ≤ k
+  pub right : end_of w.right ≤ k
+
+-- the row of node k that holds the least value
+pub record Chosen (z : Value) (nodes : List Node) (k : ℕ) (c : Choice) : Type 0 where
+  pub begun : IsBegun nodes k
+  pub row : slice_get (rows_at nodes k) c.place ≡ Some c.row
+  pub least : LeastBelow (held_by z nodes k) (rows_at nodes k) (length (rows_at nodes k)) c.place
+  pub way : IsWayOf nodes k c.row.way c.way
+
+-- a row whose places are there, and lead to v
+pub record Holds (z : Value) (nodes : List Node) (k : ℕ) (r : Row) : Type 0 where
+  pub way_in : r.way < length (ways_of (forest_of nodes) k)
+  pub left : r.next < length (parts z nodes (way_at (forest_of nodes) k r.way).left)
+  pub right : r.at < length (parts z nodes (way_at (forest_of nodes) k r.way).right)
+
+abbrev pub value_at : Value → List Node → ℕ → Row → Value
+value_at z nodes k r = let w = way_at (forest_of nodes) k r.way in combine w (slice_index_or (parts z nodes w.left) r.next z) (slice_index_or (parts z nodes w.right) r.at z)
+
+-- the node after the value of the row at m was taken
+pub record Puts (old : Node) (m : ℕ) (part : Part) (after : Row) (first : Option Row) (new : Node) : Type 0 where
+  pub made : new.made.items ≡ old.made.items ++ part ∷ []
+  pub rows : Advanced old.rows.items m after first new.rows.items
+  pub ways : new.ways.items ≡ old.ways.items
+  pub begun : new.begun ≡ old.begun
+
+pub record IsSameNode (old new : Node) : Type 0 where
+  pub made : new.made.items ≡ old.made.items
+  pub rows : new.rows.items ≡ old.rows.items
+  pub ways : new.ways.items ≡ old.ways.items
+  pub begun : new.begun ≡ old.begun
+
+-- the rows go to the node, which begins
+pub record Starts (old : Node) (rows : List Row) (new : Node) : Type 0 where
+  pub made : new.made.items ≡ old.made.items
+  pub rows_are : new.rows.items ≡ rows
+  pub ways : new.ways.items ≡ old.ways.items
+  pub begun : new.begun ≡ true
+
+-- node k has changed, and is begun
+pub record Stepped (z : Value) (old new : List Node) (k : ℕ) : Type 0 where
+  pub table : IsTable z new
+  pub grown : Grown (suc k) old new
+  pub begun : IsBegun new k
+
+-- whether one more value was made; where none was, all are there
+abbrev pub Advances : Value → List Node → List Node → ℕ → Bool → Type 0
+Advances z old new k true = length (made_at new k) ≡ length (made_at old k) + 1
+Advances z old new k false = (made_at new k ≡ made_at old k) × IsAll (Has z (forest_of new) (Some k)) (made_at new k)
+
+abbrev pub row_list : Option Row → List Row
+row_list None = []
+row_list (Some r) = r ∷ []

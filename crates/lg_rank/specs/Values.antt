@@ -1,0 +1,63 @@
+-- Parts of linkages in numbers, their order, and what a way makes of two parts.
+use Rattle.std.specs.Prelude.{◌≡◌, ℕ, suc, ◌+◌, ◌<◌, ◌≤◌, ◌^◌, ◌==◌, ◌&&◌, ◌||◌, nat_lt, Bool, List, [], ◌∷◌, ◌++◌, length, take, drop, replicate, Option, None, Some, ℤ, pos, neg_ℤ, ◌+ℤ◌, ◌≤ℤ◌}
+use Rattle.std.specs.List.{count_by}
+use Rattle.std.specs.Ordering.{nat_cmp, int_cmp, on, then_cmp}
+use Rattle.std.specs.declared.cmp.Ordering.{Ordering}
+use Rattle.std.specs.Cmp.Lexicographic.{slice_cmp}
+use Rattle.lg_gram.specs.Linkages.{tie_cmp}
+use Rattle.lg_gram.specs.declared.linkage.Link.{Link}
+use Rattle.lg_rank.specs.declared.part.Part.{Part}
+use Rattle.lg_rank.specs.declared.part.Way.{Way}
+
+-- A part of a linkage: the sum of its costs, the sum of the lengths of its links, for each position 0 or one more than the number
+-- of its disjunct, and the links.
+pub record Value : Type 0 where
+  pub cost : ℤ
+  pub span : ℕ
+  pub choices : List ℕ
+  pub links : List Link
+
+abbrev pub value_of : Part → Value
+value_of p = record { cost = p.cost; span = p.span; choices = p.choices.items; links = p.links.items }
+
+-- the order of parts of one region, which have the same number of unlinked positions
+abbrev pub value_cmp : Value → Value → Ordering
+value_cmp = then_cmp (on (λ v. v.cost) int_cmp)
+    (then_cmp (on (λ v. v.span) nat_cmp)
+    (then_cmp (on (λ v. v.choices) (slice_cmp nat_cmp))
+    (on (λ v. v.links) (slice_cmp tie_cmp))))
+
+-- no position is linked
+abbrev pub nothing_of : ℕ → Value
+nothing_of n = record { cost = pos 0; span = 0; choices = replicate n 0; links = [] }
+
+-- the pair of k stands before that of l
+abbrev pub comes_before : Link → Link → Bool
+comes_before l k = nat_lt k.left l.left || ((k.left == l.left) && nat_lt k.right l.right)
+
+-- one more link, behind those of earlier pairs
+abbrev pub with_link : Option Link → List Link → List Link
+with_link None links = links
+with_link (Some l) links = let n = count_by (comes_before l) links in take n links ++ l ∷ drop n links
+
+-- What a way makes of a part on its left and a part on its right.
+abbrev pub combine : Way → Value → Value → Value
+combine w x y = record {
+  cost = w.cost +ℤ (x.cost +ℤ y.cost);
+  span = w.span + (x.span + y.span);
+  choices = take w.word x.choices ++ w.choice ∷ drop (suc w.word) y.choices;
+  links = with_link w.near x.links ++ with_link w.far y.links;
+}
+
+-- its cost and its length are far from the ends of their types, and it has a choice for each of n positions
+pub record IsSmall (n : ℕ) (v : Value) : Type 0 where
+  pub above : neg_ℤ (pos (2 ^ 60)) ≤ℤ v.cost
+  pub below : v.cost ≤ℤ pos (2 ^ 60)
+  pub span : v.span ≤ 2 ^ 60
+  pub long : length v.choices ≡ n
+
+pub record IsSmallWay (n : ℕ) (w : Way) : Type 0 where
+  pub above : neg_ℤ (pos (2 ^ 60)) ≤ℤ w.cost
+  pub below : w.cost ≤ℤ pos (2 ^ 60)
+  pub span : w.span ≤ 2 ^ 60
+  pub word : w.word < n

@@ -1,0 +1,15 @@
+//! The good linkages of a problem in order, one by one, on demand.
+//!
+//! What stands here so far are the laws: the order of linkages follows that of the parts of a cut.
+#![tactic(auto)]
+
+pub mod candidate;
+pub mod law;
+pub mod node;
+pub mod part;
+mod ranked;
+pub mod table;
+pub mod unpack;
+
+pub use law::{cuts_keep_order, joins_grow, values_are_linkages};
+pub use ranked::Ranked;

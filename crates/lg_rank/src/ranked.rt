@@ -1,0 +1,150 @@
+//! The good linkages of a problem with so many unlinked positions, one by one in order.
+ghost use Rattle.std.specs.Prelude.{◌≡◌, ◌+◌, ◌<◌, ◌^◌, ℕ, List, length, slice_get, IfOk, OnErr};
+ghost use Rattle.lg_gram.specs.Levels.{IsLevel};
+ghost use Rattle.lg_gram.specs.Linkages.{Linkage as Seen};
+ghost use Rattle.lg_rank.specs.Rankings.{Ranking, IsListing, IsLinkageAt, given};
+ghost use Rattle.lg_rank.specs.Tables.{parts};
+ghost use Rattle.lg_rank.specs.Values.{value_of};
+
+use crate::law::values_are_linkages;
+use crate::node::part_of;
+use crate::part::Part;
+use crate::table::Table;
+use crate::unpack::linkage_of;
+use lg_base::NoMemory;
+use lg_gram::{Linkage, Problem};
+use lg_region::sentences_are_cut_once;
+use std::alloc::Global;
+use std::marker::Model;
+
+// The linkage of the value at `i` of the whole sentence, which stands in the table.
+fn linkage_at(
+    alloc: Global,
+    problem: &Problem,
+    nothing: &Part,
+    table: &Table,
+    root: Option<usize>,
+    i: usize,
+) -> Result<Linkage, NoMemory>
+    requires listing { (nulls : ℕ) × IsListing problem.now (value_of nothing.now) table.now.nodes.items nulls root }
+    requires there { i < length (parts (value_of nothing.now) table.now.nodes.items root) }
+    ensures { IfOk result (IsLinkageAt problem.now (parts (value_of nothing.now) table.now.nodes.items root) i) }
+{
+    values_are_linkages();
+    sentences_are_cut_once();
+    let part = part_of(nothing, table.nodes.as_slice(), root, i);
+    linkage_of(alloc, problem, part)
+}
+
+/// The linkage at `i` of the level, counted from 0, or none where it has no more. After an error the next call goes on.
+pub(crate) fn nth_linkage(
+    alloc: Global,
+    problem: &Problem,
+    nothing: &Part,
+    table: &mut Table,
+    root: Option<usize>,
+    i: usize,
+) -> Result<Option<Linkage>, NoMemory>
+    requires listing { (nulls : ℕ) × IsListing problem.now (value_of nothing.now) table.old.nodes.items nulls root }
+    ensures keeps { (nulls : ℕ) → IsListing problem.now (value_of nothing.now) table.old.nodes.items nulls root → IsListing problem.now (value_of nothing.now) table.new.nodes.items nulls root }
+    ensures listed { (nulls : ℕ) (level : List Seen) → IsListing problem.now (value_of nothing.now) table.old.nodes.items nulls root → IsLevel problem.now nulls level → IfOk result (λ g. g ≡ slice_get level i) }
+{
+    values_are_linkages();
+    sentences_are_cut_once();
+    if !table.has_part(alloc, nothing, root, i)? {
+        return Ok(None);
+    }
+    let linkage = linkage_at(alloc, problem, nothing, table, root, i)?;
+    Ok(Some(linkage))
+}
+
+/// The good linkages of a problem with so many unlinked positions, in order: the next is made when it is asked for.
+///
+/// Contracts see `{ positions, nulls, position }`: the problem, how many positions are unlinked, and how many linkages were
+/// given.
+#[derive(Drop)]
+pub struct Ranked {
+    problem: Problem,
+    nothing: Part,
+    table: Table,
+    root: Option<usize>,
+    nulls: u32,
+    position: u64,
+}
+
+impl Model for Ranked {
+    ghost use Rattle.lg_rank.specs.Rankings.{Ranking, IsListing};
+    ghost use Rattle.lg_rank.specs.Values.{value_of};
+
+    ghost Value = { Ranking };
+
+    ghost view = { λ r. record { positions = r.problem; nulls = r.nulls; position = r.position } };
+
+    ghost invariant = { λ r. IsListing r.problem (value_of r.nothing) r.table.nodes.items r.nulls r.root };
+}
+
+impl Ranked {
+    /// The listing of a table, from its first linkage.
+    pub(crate) fn of(
+        problem: Problem,
+        nothing: Part,
+        table: Table,
+        root: Option<usize>,
+        nulls: u32,
+    ) -> Ranked
+        requires { IsListing problem (value_of nothing) table.nodes.items nulls root }
+        ensures { result ≡ record { positions = problem; nulls = nulls; position = 0 } }
+    {
+        Ranked {
+            problem,
+            nothing,
+            table,
+            root,
+            nulls,
+            position: 0,
+        }
+    }
+
+    /// The next linkage, or none where all were given. After an error the next call gives the same one.
+    pub fn next(&mut self, alloc: Global) -> Result<Option<Linkage>, NoMemory>
+        requires { self.old.position < 2 ^ 63 }
+        ensures listed { (level : List Seen) → IsLevel self.old.positions self.old.nulls level → IfOk result (λ g. g ≡ slice_get level self.old.position) }
+        ensures moved { IfOk result (λ g. self.new ≡ record self.old { position = self.old.position + given g }) }
+        ensures unchanged { OnErr result (self.new ≡ self.old) }
+    {
+        let i = self.position as usize;
+        let found = nth_linkage(
+            alloc,
+            &self.problem,
+            &self.nothing,
+            &mut self.table,
+            self.root,
+            i,
+        )?;
+        if found.is_some() {
+            self.position += 1;
+        }
+        Ok(found)
+    }
+
+    /// How many linkages were given.
+    pub fn position(&self) -> u64
+        ensures { result ≡ self.now.position }
+    {
+        self.position
+    }
+
+    /// How many positions are unlinked in each linkage.
+    pub fn nulls(&self) -> u32
+        ensures { result ≡ self.now.nulls }
+    {
+        self.nulls
+    }
+
+    /// The problem.
+    pub fn problem(&self) -> &Problem
+        ensures { result.now ≡ self.now.positions }
+    {
+        &self.problem
+    }
+}
