@@ -7,7 +7,7 @@ use lg_rules::{PLAIN_POSITIONS, plain_list};
 use std::alloc::Global;
 use std::test::Fail;
 
-// `Mary ran`: the two keys of the whole sentence and of its one word pair, and the two parts between and behind.
+// `Mary ran`: the keys of the whole sentence, of what is behind `Mary`, and of the parts before and behind `ran`.
 #[test]
 fn mary_ran(rt: HostRuntime) -> Result<(), Fail> {
     let alloc = rt.alloc();
@@ -26,6 +26,7 @@ fn mary_ran(rt: HostRuntime) -> Result<(), Fail> {
 fn all_words_unlinked(rt: HostRuntime) -> Result<(), Fail> {
     let alloc = rt.alloc();
     let problem = problem(alloc, &["a", "B"])?;
+    assert_eq!(rt; problem.positions().len(), 2);
     let mut steps = Steps::start();
     let forest = solve_at(alloc, &problem, 2, &mut steps)?;
     assert_eq!(rt; forest.nodes(), 1);
@@ -36,9 +37,7 @@ fn all_words_unlinked(rt: HostRuntime) -> Result<(), Fail> {
 
 fn are_same(a: &[Linkage], b: &[Linkage]) -> bool {
     a.len() == b.len()
-        && a.iter()
-            .zip(b)
-            .all(|(g, h)| g.chosen() == h.chosen() && g.links() == h.links())
+        && a.iter().zip(b).all(|(g, h)| g.chosen() == h.chosen() && g.links() == h.links())
 }
 
 fn spelled(alloc: Global, problem: &Problem) -> Result<Vec<Linkage>, Fail> {
