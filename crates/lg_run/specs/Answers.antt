@@ -9,7 +9,7 @@ use Rattle.lg_base.specs.Sinks.{AppendsFront}
 use Rattle.lg_dictread.specs.declared.dict_error.DictError.{DictError}
 use Rattle.lg_knowread.specs.declared.fault.KnowError.{KnowError}
 use Rattle.lg_script.specs.declared.script_error.ScriptError.{ScriptError}
-use Rattle.lg_session.specs.Codes.{AreScripts}
+use Rattle.lg_script.specs.Codes.{AreScripts}
 use Rattle.lg_run.specs.Words.{Task, One, Run, TaskIs, SENTENCE, AreInRange}
 use Rattle.lg_run.specs.Inputs.{Reading, accepted, refused, Given, OneGiven, RunGiven, InputsAre}
 use Rattle.lg_run.specs.Reads.{Comes, IsOfLast}
