@@ -337,15 +337,30 @@ page shown 1 examined 1 next 2 end
 }
 
 #[test]
-fn nine_words_are_too_many(rt: HostRuntime) -> Result<(), Fail> {
-    let page = "too many words 9\n";
-    shows(
-        &rt,
-        rt.alloc(),
-        FIRST,
-        "ran ran ran ran ran ran ran ran ran",
-        page,
-    )
+fn nine_words_stay_unlinked(rt: HostRuntime) -> Result<(), Fail> {
+    let page = "\
+linkage 1 unused 9 cost 0.000 length 0
+word 0 ran null
+word 1 ran null
+word 2 ran null
+word 3 ran null
+word 4 ran null
+word 5 ran null
+word 6 ran null
+word 7 ran null
+word 8 ran null
+page shown 1 examined 1 next 2 end
+";
+    let sentence = "ran ran ran ran ran ran ran ran ran";
+    shows(&rt, rt.alloc(), FIRST, sentence, page)
+}
+
+#[test]
+fn words_past_252_are_too_many(rt: HostRuntime) -> Result<(), Fail> {
+    let sentence = made(rt.alloc(), b"x", b" x", 252, b"")?;
+    let sentence = str::from_utf8(&sentence).ok().ok_or("UTF-8")?;
+    let page = "too many words 253\n";
+    shows(&rt, rt.alloc(), "x: {X-} & {X+};", sentence, page)
 }
 
 #[test]
