@@ -1,6 +1,7 @@
 use lg_gram::CommandKind;
 use lg_script::{Command, Commands, ScriptError, Scripts, read_script};
 use std::alloc::Global;
+use std::test::Fail;
 
 /// The first fault of a script.
 fn fault_of(alloc: Global, text: &[u8]) -> Option<ScriptError> {
@@ -56,18 +57,18 @@ fn each_kind_is_read(rt: HostRuntime) {
 }
 
 #[test]
-fn blank_lines_and_comments_are_passed_over(rt: HostRuntime) {
-    match read_script(rt.alloc(), b"\n \t\r\n% c\n  % parse x\n") {
-        Ok(commands) => {
-            let scripts = Scripts::of(Vec::new(rt.alloc()));
-            assert!(rt; scripts.items().is_empty());
-            assert!(rt; scripts.into_items().is_empty());
-            let commands = Commands::of(commands);
-            assert!(rt; commands.items().is_empty());
-            assert!(rt; commands.into_items().is_empty());
-        }
-        Err(error) => panic!(rt; "{error}"),
-    }
+fn blank_lines_and_comments_are_passed_over(rt: HostRuntime) -> Result<(), Fail> {
+    let commands = read_script(rt.alloc(), b"\n \t\r\n% c\n  % parse x\n")
+        .ok()
+        .ok_or("a script")?;
+    assert!(rt; commands.is_empty());
+    let scripts = Scripts::of(Vec::new(rt.alloc()));
+    assert!(rt; scripts.items().is_empty());
+    assert!(rt; scripts.into_items().is_empty());
+    let commands = Commands::of(rt.alloc(), commands)?;
+    assert!(rt; commands.items().is_empty());
+    assert!(rt; commands.into_items().is_empty());
+    Ok(())
 }
 
 /// Whether a script is one listing of this sentence.
