@@ -1,10 +1,8 @@
-//! Tests of listings, of the core, of the log, of sessions and of whole runs: outside values, and calls that succeed.
+//! Tests of listings, of the log, of sessions and of whole runs: outside values, and calls that succeed.
 #![tactic(auto)]
 
 #[cfg(test)]
 mod answer;
-#[cfg(test)]
-mod core;
 #[cfg(test)]
 mod log;
 #[cfg(test)]
