@@ -11,18 +11,10 @@ folder=$(mktemp -d) || exit 70
 trap 'rm -rf -- "$folder"' EXIT
 cd -- "$folder" || exit 70
 
-cat > d <<'D'
-a the: D+;
-snake cat: D- & (O- or S+) or D- & S+ & M+;
-dog: (D- or ()) & (O- or S+ or J-) & (M+ or ());
-Mary: O- or S+;
-ran: S- or S- & M+;
-chased: S- & O+ or S- & O+ & M+;
-in: M- & J+;
-D
+cp -- "$top/bench/words.dict" d
 : > k
 
-sentences=('the cat chased the dog in a snake' 'the dog chased the dog in a dog' 'a dog ran in the dog in a' 'Mary the chased a in snake Mary ran')
+mapfile -t sentences <"$top/bench/words.txt"
 
 # NAME FIRST LAST: the sentences of these numbers, one a command
 parses() {
