@@ -1,7 +1,10 @@
 //! The good linkages of a problem with so many unlinked positions, one by one in order.
 ghost use Rattle.std.specs.Prelude.{◌≡◌, ◌+◌, ◌<◌, ◌^◌, ℕ, List, length, slice_get, IfOk, OnErr};
 ghost use Rattle.lg_gram.specs.Levels.{IsLevel};
-ghost use Rattle.lg_gram.specs.Linkages.{Linkage as Seen};
+ghost use Rattle.lg_gram.specs.Linkages.{Linkage as Seen, linkage_cmp};
+ghost use Rattle.lg_forest.specs.Forests.{IsForest};
+ghost use Rattle.lg_region.specs.Parts.{UnderWhole};
+ghost use Rattle.lg_rank.specs.Fronts.{IsFront, IsNext};
 ghost use Rattle.lg_rank.specs.Rankings.{Ranking, IsListing, IsLinkageAt, given};
 ghost use Rattle.lg_rank.specs.Tables.{parts};
 ghost use Rattle.lg_rank.specs.Values.{value_of};
@@ -12,6 +15,7 @@ use crate::part::Part;
 use crate::table::Table;
 use crate::unpack::linkage_of;
 use lg_base::NoMemory;
+use lg_forest::Forest;
 use lg_gram::{Linkage, Problem};
 use lg_region::sentences_are_cut_once;
 use std::alloc::Global;
@@ -105,9 +109,20 @@ impl Ranked {
         }
     }
 
+    /// The listing of the good linkages with as many unlinked positions as the forest has, from the first. The forest is one of
+    /// the problem.
+    pub fn new(alloc: Global, problem: Problem, forest: Forest) -> Result<Ranked, NoMemory>
+        requires { (from : ℕ) × IsForest problem from forest }
+        ensures { IfOk result (λ ranked. ranked ≡ record { positions = problem; nulls = forest.unused; position = 0 }) }
+    {
+        let _ = (alloc, problem, forest);
+        Err(NoMemory)
+    }
+
     /// The next linkage, or none where all were given. After an error the next call gives the same one.
     pub fn next(&mut self, alloc: Global) -> Result<Option<Linkage>, NoMemory>
         requires { self.old.position < 2 ^ 63 }
+        ensures next { (gs : List Seen) → IsFront linkage_cmp (UnderWhole self.old.positions self.old.nulls) gs → length gs ≡ self.old.position → IfOk result (λ g. IsNext linkage_cmp (UnderWhole self.old.positions self.old.nulls) gs g) }
         ensures listed { (level : List Seen) → IsLevel self.old.positions self.old.nulls level → IfOk result (λ g. g ≡ slice_get level self.old.position) }
         ensures moved { IfOk result (λ g. self.new ≡ record self.old { position = self.old.position + given g }) }
         ensures unchanged { OnErr result (self.new ≡ self.old) }
@@ -139,6 +154,13 @@ impl Ranked {
         ensures { result ≡ self.now.nulls }
     {
         self.nulls
+    }
+
+    /// The problem, when the listing is done with.
+    pub fn into_problem(self) -> Problem
+        ensures { result ≡ self.positions }
+    {
+        self.problem
     }
 
     /// The problem.
