@@ -1,3 +1,4 @@
 pub mod Problems
+pub mod Candidates
 pub mod Pages
 pub mod Steps

@@ -2,7 +2,6 @@
 use Rattle.std.specs.Prelude.{◌≡◌, ◌↔◌, ◌⊎◌, ℕ, ◌+◌, ◌<◌, ◌≤◌, true, List, length, map, take, drop, All, None, is_none, count_by}
 use Rattle.std.specs.List.{enumerate_from}
 use Rattle.lg_gram.specs.Linkages.{Linkage}
-use Rattle.lg_gram.specs.Levels.{AreCandidates}
 use Rattle.lg_gram.specs.declared.disjunct.Disjunct.{Disjunct}
 use Rattle.lg_gram.specs.declared.listing.Token.{Token}
 use Rattle.lg_gram.specs.declared.listing.PageItem.{PageItem}
@@ -14,43 +13,45 @@ use Rattle.lg_pp.specs.Labels.{IsGood}
 use Rattle.lg_pp.specs.Breaks.{Judges}
 use Rattle.lg_token.specs.Bounds.{bound_of}
 pub use Rattle.lg_token.specs.Bounds.{IsBeyond}
+use Rattle.lg_answer.specs.Candidates.{AreFirst, AreAll, IsBehind, Course, IsSameCourse}
 use Rattle.lg_answer.specs.Problems.{IsProblemOf}
+use Rattle.lg_answer.specs.declared.options.Nulls.{Nulls}
+use Rattle.lg_answer.specs.declared.options.Nulls.TheVariants.{First}
 use Rattle.lg_answer.specs.declared.options.Options.{Options}
 use Rattle.lg_answer.specs.declared.refusal.AnswerRefusal.{AnswerRefusal}
 use Rattle.lg_answer.specs.declared.refusal.AnswerRefusal.TheVariants.{NoMemory, Beyond}
 
--- ten candidates are shown, and a thousand looked at, where nothing else is asked
+-- ten candidates are shown, and a thousand looked at, where nothing else is asked, and all good linkages decide how many words may
+-- stay unlinked
 abbrev pub default_options : Options
-default_options = record { want = 10; examine = 1000 }
+default_options = record { want = 10; examine = 1000; nulls = First }
 
 -- how many of the candidates that were looked at pass
 abbrev pub passed : List PageItem → ℕ
 passed items = count_by (λ item. is_none item.broken) items
 
--- A page of the candidates after the first `from`. Before each candidate it stops where `want` have passed, else where
+-- A page of the candidates behind the first `from`. Before each candidate it stops where `want` have passed, else where
 -- `examine` were looked at, else where none is left; the last alone is the end.
-pub record IsPage (know : Knowledge) (candidates : List Linkage) (from want examine : ℕ) (page : Page) : Type 0 where
+pub record IsPage (positions : List (List Disjunct)) (know : Knowledge) (nulls : Nulls) (from want examine : ℕ) (page : Page) : Type 0 where
+  pub front : List Linkage
+  pub first : AreFirst positions know nulls front
   pub looked : ℕ
-  pub within : from + looked ≤ length candidates
-  pub numbered : map (λ item. (item.number, item.linkage)) page.items ≡ enumerate_from (from + 1) (take looked (drop from candidates))
+  pub within : from + looked ≡ length front
+  pub numbered : map (λ item. (item.number, item.linkage)) page.items ≡ enumerate_from (from + 1) (drop from front)
   pub judged : All (λ item. Judges know item.linkage item.broken) page.items
   pub goes_on : (k : ℕ) → k < looked → (passed (take k page.items) < want) × (k < examine)
-  pub stops : (passed page.items ≡ want) ⊎ ((looked ≡ examine) ⊎ (from + looked ≡ length candidates))
-  pub ends : (page.end ≡ true) ↔ ((passed page.items < want) × (looked < examine) × (from + looked ≡ length candidates))
+  pub stops : (passed page.items ≡ want) ⊎ ((looked ≡ examine) ⊎ AreAll positions know nulls front)
+  pub ends : (page.end ≡ true) ↔ ((passed page.items < want) × (looked < examine) × AreAll positions know nulls front)
   pub next : page.next ≡ from + looked + 1
 
 -- what contracts see of a listing
 pub record Listing : Type 0 where
   pub tokens : List Token
-  pub problem : List (List Disjunct)
-  pub candidates : List Linkage
-  pub position : ℕ
+  pub course : Course
 
--- what holds of every listing: it lists the candidates of its problem, which has a position for each token
-pub record IsOpen (listing : Listing) : Type 0 where
-  pub same_length : length listing.problem ≡ length listing.tokens
-  pub of_problem : AreCandidates listing.problem listing.candidates
-  pub within : listing.position ≤ length listing.candidates
+-- what holds of every listing: its problem has a position for each token
+abbrev pub IsOpen : Listing → Type 0
+IsOpen listing = length listing.course.problem ≡ length listing.tokens
 
 -- a good linkage of some problem, with a position for each of these tokens: it may be printed beside them
 pub record IsLinkageFor (tokens : List Token) (g : Linkage) : Type 0 where
@@ -61,8 +62,16 @@ pub record IsLinkageFor (tokens : List Token) (g : Linkage) : Type 0 where
 pub record IsListing (dict : Dictionary) (text : List ℕ) (listing : Listing) : Type 0 where
   pub of_text : AreTokens dict text listing.tokens
   pub unbound : bound_of dict listing.tokens ≡ None
-  pub of_tokens : IsProblemOf dict listing.tokens listing.problem
-  pub of_problem : AreCandidates listing.problem listing.candidates
+  pub of_tokens : IsProblemOf dict listing.tokens listing.course.problem
+
+-- a listing of the same sentence
+pub record IsSameListing (old new : Listing) : Type 0 where
+  pub tokens : new.tokens ≡ old.tokens
+  pub course : IsSameCourse old.course new.course
+
+-- the listing stands behind n more candidates, or behind all where they are fewer
+abbrev pub HasSkipped : Knowledge → Listing → ℕ → Listing → Type 0
+HasSkipped know old n new = IsBehind old.course.problem know old.course.nulls (old.course.position + n) new.course.position
 
 -- why a sentence is not listed: memory may run out at any time, and a bound has its cause
 abbrev pub IsRefused : Dictionary → List ℕ → AnswerRefusal → Type 0

@@ -39,10 +39,10 @@ pub record AddsWord (dict : Dictionary) (word : List ℕ) (old new : List Disjun
 abbrev pub AreFoundFor : Dictionary → List Token → List (List Disjunct) → Type 0
 AreFoundFor dict tokens positions = AllZip (λ t ds. AreFound dict t.words ds) tokens positions
 
--- the candidates after the first `from`, as many as a page has looked at, which did not stop before any of them
+-- The candidates that a page has looked at so far, which did not stop before any of them.
 pub record AreLookedAt (know : Knowledge) (candidates : List Linkage) (from want examine : ℕ) (items : List PageItem) : Type 0 where
-  pub within : from + length items ≤ length candidates
-  pub numbered : map (λ item. (item.number, item.linkage)) items ≡ enumerate_from (from + 1) (take (length items) (drop from candidates))
+  pub within : from + length items ≡ length candidates
+  pub numbered : map (λ item. (item.number, item.linkage)) items ≡ enumerate_from (from + 1) (drop from candidates)
   pub judged : All (λ item. Judges know item.linkage item.broken) items
   pub goes_on : (k : ℕ) → k < length items → (passed (take k items) < want) × (k < examine)
 

@@ -1,30 +1,31 @@
 //! Listings.
-ghost use Rattle.std.specs.Prelude.{◌≡◌, ◌+◌, ◌-◌, ◌<◌, ◌^◌, min, length, All, IfOk, IfErr};
+ghost use Rattle.std.specs.Prelude.{◌≡◌, ◌+◌, ◌-◌, ◌<◌, ◌≤◌, ◌^◌, length, All, IfOk, IfErr};
 ghost use Rattle.std.specs.List.{sum_by};
-ghost use Rattle.lg_answer.specs.Pages.{IsOpen, IsListing, IsRefused, IsPage, IsLinkageFor};
+ghost use Rattle.lg_knowread.specs.declared.knowledge.Knowledge.{Knowledge as SeenKnowledge};
+ghost use Rattle.lg_answer.specs.Candidates.{StandsFor};
+ghost use Rattle.lg_answer.specs.Pages.{IsOpen, IsListing, IsSameListing, HasSkipped, IsRefused, IsPage, IsLinkageFor};
 
-use crate::page::page_of;
+use crate::course::Course;
+use crate::options::{Nulls, Options};
+use crate::page::{page_of, skip};
 use crate::problem::problem_of;
 use crate::refusal::AnswerRefusal;
-use lg_base::{NoMemory, Own, Steps};
+use lg_base::NoMemory;
 use lg_dict::View;
-use lg_forest::{solve, spell_all};
-use lg_gram::{Linkage, Page, Problem, Stats, Tokens};
+use lg_gram::{Page, Problem, Stats, Tokens};
 use lg_knowread::Knowledge;
 use lg_token::{bound_of, tokens};
 use std::alloc::Global;
 use std::marker::Model;
 
-/// A listing of a sentence: its tokens, its problem, all candidates in order, and how many of them stand before the next
-/// page.
+/// A listing of a sentence: its tokens, and how far the listing of its candidates has come. A candidate is made when a page
+/// looks at it or when it is passed over.
 ///
-/// Contracts see `{ tokens, problem, candidates, position }`.
-#[derive(Debug, Drop)]
+/// Contracts see `{ tokens, course }`.
+#[derive(Drop)]
 pub struct Listing {
     tokens: Tokens,
-    problem: Problem,
-    candidates: Vec<Linkage>,
-    position: usize,
+    course: Course,
 }
 
 impl Model for Listing {
@@ -32,21 +33,28 @@ impl Model for Listing {
 
     ghost Value = { Seen };
 
-    ghost view = { λ l. record { tokens = l.tokens; problem = l.problem; candidates = l.candidates.items; position = l.position } };
+    ghost view = { λ l. record { tokens = l.tokens; course = l.course } };
 
-    ghost invariant = { λ l. IsOpen (record { tokens = l.tokens; problem = l.problem; candidates = l.candidates.items; position = l.position }) };
+    ghost invariant = { λ l. IsOpen (record { tokens = l.tokens; course = l.course }) };
 }
 
 impl Listing {
-    /// The listing of a sentence at its start, before its first candidate.
+    /// The listing of a sentence at its start, before its first candidate. It stands for every knowledge.
     ///
     /// The text has fewer than 2^32 bytes. A sentence is `Beyond` a bound where it has more than 252 tokens, and else where
-    /// their words have more than 4,000,000 choices together, whose counting stops at 2^60. All candidates are found here;
-    /// a page takes time in proportion to the candidates that it looks at.
-    pub fn start(alloc: Global, view: &View, text: &str) -> Result<Listing, AnswerRefusal>
+    /// their words have more than 4,000,000 choices together, whose counting stops at 2^60. The forest of the sentence is made
+    /// here; its candidates are made one by one by `page` and `skip`.
+    pub fn start(
+        alloc: Global,
+        view: &View,
+        text: &str,
+        options: &Options,
+    ) -> Result<Listing, AnswerRefusal>
         requires { length text.now < 2 ^ 32 }
         ensures listing { IfOk result (IsListing view.now text.now) }
-        ensures first { IfOk result (λ listing. listing.position ≡ 0) }
+        ensures nulls { IfOk result (λ listing. listing.course.nulls ≡ options.now.nulls) }
+        ensures first { IfOk result (λ listing. listing.course.position ≡ 0) }
+        ensures stands { (know : SeenKnowledge) → IfOk result (λ listing. StandsFor know listing.course) }
         ensures refused { IfErr result (IsRefused view.now text.now) }
     {
         let tokens = tokens(alloc, view, text)?;
@@ -54,33 +62,33 @@ impl Listing {
             return Err(AnswerRefusal::Beyond(bound));
         }
         let problem = problem_of(alloc, view, tokens.items())?;
-        let forest = solve(alloc, &problem, &mut Steps::<Own>::start())?;
-        let candidates = spell_all(alloc, &problem, &forest)?;
-        Ok(Listing {
-            tokens,
-            problem,
-            candidates,
-            position: 0,
-        })
+        let course = Course::start(alloc, problem, options.nulls)?;
+        Ok(Listing { tokens, course })
     }
 
-    /// Passes over this many candidates, or over all that are left. No memory.
-    pub fn skip(self, n: u64) -> Listing
-        ensures { result ≡ record self { position = min (self.position + n) (length self.candidates) } }
+    /// Passes over this many candidates, or over all that are left. The knowledge is one that the listing stands for. Its
+    /// position and this number are at most 2^62 together. The only error is running out of memory, and then the listing is
+    /// gone.
+    pub fn skip(self, alloc: Global, know: &Knowledge, n: u64) -> Result<Listing, NoMemory>
+        requires few { length know.now.rules < 2 ^ 32 }
+        requires stands { StandsFor know.now self.course }
+        requires room { self.course.position + n ≤ 2 ^ 62 }
+        ensures skipped { IfOk result (HasSkipped know.now self n) }
+        ensures stands { IfOk result (λ listing. StandsFor know.now listing.course) }
+        ensures same { IfOk result (IsSameListing self) }
     {
-        let position = self
-            .position
-            .saturating_add(n as usize)
-            .min(self.candidates.len());
-        Listing { position, ..self }
+        let Listing { tokens, mut course } = self;
+        skip(alloc, know, &mut course, n)?;
+        Ok(Listing { tokens, course })
     }
 
     /// The next page: the candidates from the position on, and the listing after it.
     ///
     /// Before each candidate it stops where `want` have passed, else where `examine` were looked at, else where none is
     /// left; only the last is the end. All that were looked at stand in the page, each with its number and the first rule
-    /// of post-processing that it breaks, if it breaks one; each may be printed beside the listing's tokens. The only error
-    /// is running out of memory, and then the listing is gone.
+    /// of post-processing that it breaks, if it breaks one; each may be printed beside the listing's tokens. The knowledge is
+    /// one that the listing stands for. Its position and `examine` are at most 2^62 together. The only error is running out of
+    /// memory, and then the listing is gone.
     pub fn page(
         self,
         alloc: Global,
@@ -88,14 +96,18 @@ impl Listing {
         want: u64,
         examine: u64,
     ) -> Result<(Listing, Page), NoMemory>
-        requires { length know.now.rules < 2 ^ 32 }
-        ensures page { IfOk result (λ both. IsPage know.now self.candidates self.position want examine both.1) }
-        ensures moved { IfOk result (λ both. both.0 ≡ record self { position = both.1.next - 1 }) }
+        requires few { length know.now.rules < 2 ^ 32 }
+        requires stands { StandsFor know.now self.course }
+        requires room { self.course.position + examine ≤ 2 ^ 62 }
+        ensures page { IfOk result (λ both. IsPage self.course.problem know.now self.course.nulls self.course.position want examine both.1) }
+        ensures moved { IfOk result (λ both. both.0.course.position + 1 ≡ both.1.next) }
+        ensures stands { IfOk result (λ both. StandsFor know.now both.0.course) }
+        ensures same { IfOk result (λ both. IsSameListing self both.0) }
         ensures printable { IfOk result (λ both. All (λ item. IsLinkageFor self.tokens item.linkage) both.1.items) }
     {
-        let page = page_of(alloc, know, &self.candidates, self.position, want, examine)?;
-        let position = (page.next - 1) as usize;
-        Ok((Listing { position, ..self }, page))
+        let Listing { tokens, mut course } = self;
+        let page = page_of(alloc, know, &mut course, want, examine)?;
+        Ok((Listing { tokens, course }, page))
     }
 
     /// The tokens. No memory.
@@ -106,21 +118,28 @@ impl Listing {
         &self.tokens
     }
 
+    /// Which linkages decide how many words may stay unlinked. No memory.
+    pub fn nulls(&self) -> Nulls
+        ensures { result ≡ self.now.course.nulls }
+    {
+        self.course.nulls()
+    }
+
     /// The problem: a position for each token. No memory.
     pub fn problem(&self) -> &Problem
-        ensures value { result.now ≡ self.now.problem }
+        ensures value { result.now ≡ self.now.course.problem }
         ensures open { IsOpen self.now }
     {
-        &self.problem
+        self.course.problem()
     }
 
     /// How many disjuncts the problem has. As nothing is pruned, all of them are kept. No memory.
     pub fn stats(&self) -> Stats
-        ensures disjuncts { result.disjuncts ≡ sum_by length self.now.problem }
+        ensures disjuncts { result.disjuncts ≡ sum_by length self.now.course.problem }
         ensures kept { result.kept ≡ result.disjuncts }
     {
         let mut disjuncts: u64 = 0;
-        for position in self.problem.positions() {
+        for position in self.course.problem().positions() {
             disjuncts += position.items().len() as u64;
         }
         Stats {

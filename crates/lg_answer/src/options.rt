@@ -1,5 +1,14 @@
 //! How a sentence is listed.
 
+/// Which linkages decide how many words may stay unlinked.
+#[derive(Clone, Copy, Debug, PartialEq, Eq)]
+pub enum Nulls {
+    /// All good linkages: those with the fewest unlinked words are listed.
+    First,
+    /// Those that pass post-processing: linkages are listed up to the fewest unlinked words of one that passes.
+    Passing,
+}
+
 /// How a sentence is listed: the numbers are from 1 to 1,000,000.
 #[derive(Clone, Copy, Debug, PartialEq, Eq)]
 pub struct Options {
@@ -7,6 +16,8 @@ pub struct Options {
     pub want: u64,
     /// A page stops where so many candidates were looked at.
     pub examine: u64,
+    /// Which linkages decide how many words may stay unlinked.
+    pub nulls: Nulls,
 }
 
 impl Default for Options {
@@ -19,6 +30,7 @@ impl Default for Options {
         Options {
             want: 10,
             examine: 1000,
+            nulls: Nulls::First,
         }
     }
 }

@@ -1,96 +1,123 @@
 //! Pages of candidates.
-ghost use Rattle.std.specs.Prelude.{◌≡◌, ◌≤◌, ◌<◌, ◌^◌, ◌+◌, ◌⊎◌, All, length, IfOk};
+ghost use Rattle.std.specs.Prelude.{◌≡◌, ◌≤◌, ◌<◌, ◌^◌, ◌+◌, ◌⊎◌, ◌↔◌, ◌×◌, true, length, None, IfOk, OnOk};
 ghost use Rattle.lg_pp.specs.Labels.{IsGood};
+ghost use Rattle.lg_answer.specs.Candidates.{StandsFor, IsSameCourse, IsBehind, Decides};
 ghost use Rattle.lg_answer.specs.Pages.{passed, IsPage};
-ghost use Rattle.lg_answer.specs.Steps.{AreLookedAt, IsLookedAt};
+ghost use Rattle.lg_answer.specs.Steps.{IsLookedAt};
 
+use crate::course::Course;
+use crate::options::Nulls;
 use lg_base::NoMemory;
 use lg_gram::{Linkage, Page, PageItem, PageItems};
 use lg_knowread::Knowledge;
 use lg_pp::judge;
 use std::alloc::Global;
 
-/// The page of the candidates after the first `from`. Before each candidate it stops where `want` have passed, else where
-/// `examine` were looked at, else where none is left, and only then it is the end. The only error is running out of memory.
+/// Passes over this many candidates, or over all that are left. A candidate is judged only where it is not clear yet whether one
+/// of its level decides.
+pub(crate) fn skip(
+    alloc: Global,
+    know: &Knowledge,
+    course: &mut Course,
+    n: u64,
+) -> Result<(), NoMemory>
+    requires few { length know.now.rules < 2 ^ 32 }
+    requires stands { StandsFor know.now course.old }
+    requires room { course.old.position + n ≤ 2 ^ 62 }
+    ensures stands { OnOk result (StandsFor know.now course.new) }
+    ensures same { OnOk result (IsSameCourse course.old course.new) }
+    ensures behind { OnOk result (IsBehind course.old.problem know.now course.old.nulls (course.old.position + n) course.new.position) }
+{
+    for _ in 0..n {
+        let Some(linkage) = course.advance(alloc)? else {
+            return Ok(());
+        };
+        if !course.is_decided() {
+            let decides = decides(alloc, know, course.nulls(), &linkage)?;
+            course.note(decides);
+        }
+    }
+    Ok(())
+}
+
+// Whether the linkage decides.
+fn decides(
+    alloc: Global,
+    know: &Knowledge,
+    nulls: Nulls,
+    linkage: &Linkage,
+) -> Result<bool, NoMemory>
+    requires few { length know.now.rules < 2 ^ 32 }
+    requires good { IsGood linkage.now }
+    ensures { IfOk result (λ decides. (decides ≡ true) ↔ Decides nulls know.now linkage.now) }
+{
+    match nulls {
+        Nulls::First => Ok(true),
+        Nulls::Passing => Ok(judge(alloc, know, linkage)?.is_none()),
+    }
+}
+
+/// The page of the next candidates. Before each candidate it stops where `want` have passed, else where `examine` were looked
+/// at, else where none is left, and only then it is the end. The only error is running out of memory.
 pub(crate) fn page_of(
     alloc: Global,
     know: &Knowledge,
-    candidates: &[Linkage],
-    from: usize,
+    course: &mut Course,
     want: u64,
     examine: u64,
 ) -> Result<Page, NoMemory>
     requires few { length know.now.rules < 2 ^ 32 }
-    requires good { All IsGood candidates.now }
-    requires within { from ≤ length candidates.now }
-    ensures { IfOk result (IsPage know.now candidates.now from want examine) }
+    requires stands { StandsFor know.now course.old }
+    requires room { course.old.position + examine ≤ 2 ^ 62 }
+    ensures page { IfOk result (λ page. IsPage course.old.problem know.now course.old.nulls course.old.position want examine page) }
+    ensures moved { IfOk result (λ page. course.new.position + 1 ≡ page.next) }
+    ensures stands { OnOk result (StandsFor know.now course.new) }
+    ensures same { OnOk result (IsSameCourse course.old course.new) }
 {
-    let items = looked_at(alloc, know, candidates, from, want, examine)?;
-    let looked = items.len() as u64;
-    let end = passed(&items) < want && looked < examine;
+    let from = course.position();
+    let mut items = Vec::new(alloc);
+    let mut passed = 0;
+    let mut end = false;
+    while !end && passed < want && (items.len() as u64) < examine {
+        match course.advance(alloc)? {
+            None => end = true,
+            Some(linkage) => {
+                let item = look_at(alloc, know, from + items.len() as u64 + 1, linkage)?;
+                if item.broken.is_none() {
+                    passed += 1;
+                }
+                course.note(course.is_decided() || decides_item(course.nulls(), &item));
+                items.push(item)?;
+            }
+        }
+    }
     Ok(Page {
+        next: from + items.len() as u64 + 1,
         items: PageItems::of(items),
-        next: from as u64 + looked + 1,
         end,
     })
 }
 
-fn looked_at(
-    alloc: Global,
-    know: &Knowledge,
-    candidates: &[Linkage],
-    from: usize,
-    want: u64,
-    examine: u64,
-) -> Result<Vec<PageItem>, NoMemory>
-    requires few { length know.now.rules < 2 ^ 32 }
-    requires good { All IsGood candidates.now }
-    requires within { from ≤ length candidates.now }
-    ensures looked { IfOk result (λ items. AreLookedAt know.now candidates.now from want examine items.items) }
-    ensures stops { IfOk result (λ items. (passed items.items ≡ want) ⊎ ((length items.items ≡ examine) ⊎ (from + length items.items ≡ length candidates.now))) }
+// Whether a candidate that was looked at decides.
+fn decides_item(nulls: Nulls, item: &PageItem) -> bool
 {
-    let mut items = Vec::new(alloc);
-    let mut passed = 0;
-    for at in from..candidates.len() {
-        if passed == want || items.len() as u64 == examine {
-            return Ok(items);
-        }
-        let item = look_at(alloc, know, at as u64 + 1, &candidates[at])?;
-        if item.broken.is_none() {
-            passed += 1;
-        }
-        items.push(item)?;
-    }
-    Ok(items)
+    nulls == Nulls::First || item.broken.is_none()
 }
 
 fn look_at(
     alloc: Global,
     know: &Knowledge,
     number: u64,
-    candidate: &Linkage,
+    candidate: Linkage,
 ) -> Result<PageItem, NoMemory>
     requires few { length know.now.rules < 2 ^ 32 }
-    requires good { IsGood candidate.now }
-    ensures { IfOk result (IsLookedAt know.now number candidate.now) }
+    requires good { IsGood candidate }
+    ensures { IfOk result (IsLookedAt know.now number candidate) }
 {
-    let broken = judge(alloc, know, candidate)?;
+    let broken = judge(alloc, know, &candidate)?;
     Ok(PageItem {
         number,
-        linkage: copy_of(candidate)?,
+        linkage: candidate,
         broken,
     })
-}
-
-fn copy_of(g: &Linkage) -> Result<Linkage, NoMemory>
-    ensures { IfOk result (λ copy. copy ≡ g.now) }
-{
-    Ok(g.clone()?)
-}
-
-// How many candidates pass.
-fn passed(items: &[PageItem]) -> u64
-    ensures { result ≡ passed items.now }
-{
-    items.iter().filter(|item| item.broken.is_none()).count() as u64
 }

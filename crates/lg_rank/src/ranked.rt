@@ -1,5 +1,5 @@
 //! The good linkages of a problem with so many unlinked positions, one by one in order.
-ghost use Rattle.std.specs.Prelude.{◌≡◌, ◌+◌, ◌<◌, ◌^◌, ℕ, List, length, slice_get, IfOk, OnErr};
+ghost use Rattle.std.specs.Prelude.{◌≡◌, ◌+◌, ◌<◌, ◌^◌, ℕ, List, length, slice_get, IfOk, OnOk, OnErr};
 ghost use Rattle.lg_gram.specs.Levels.{IsLevel};
 ghost use Rattle.lg_gram.specs.Linkages.{Linkage as Seen, linkage_cmp};
 ghost use Rattle.lg_forest.specs.Forests.{IsForest};
@@ -116,6 +116,16 @@ impl Ranked {
         ensures { IfOk result (λ ranked. ranked ≡ record { positions = problem; nulls = forest.unused; position = 0 }) }
     {
         let _ = (alloc, problem, forest);
+        Err(NoMemory)
+    }
+
+    /// Turns to the level of another forest of the problem, before its first linkage. After an error nothing has changed.
+    pub fn restart(&mut self, alloc: Global, forest: Forest) -> Result<(), NoMemory>
+        requires { (from : ℕ) × IsForest self.old.positions from forest }
+        ensures restarted { OnOk result (self.new ≡ record { positions = self.old.positions; nulls = forest.unused; position = 0 }) }
+        ensures unchanged { OnErr result (self.new ≡ self.old) }
+    {
+        let _ = (alloc, forest);
         Err(NoMemory)
     }
 
