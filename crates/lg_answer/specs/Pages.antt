@@ -58,11 +58,15 @@ pub record IsLinkageFor (tokens : List Token) (g : Linkage) : Type 0 where
   pub same_length : length tokens ≡ length g.chosen
   pub good : IsGood g
 
+-- a sentence within the bounds, with its tokens and its problem
+pub record IsSentenceOf (dict : Dictionary) (text : List ℕ) (tokens : List Token) (problem : List (List Disjunct)) : Type 0 where
+  pub of_text : AreTokens dict text tokens
+  pub unbound : bound_of dict tokens ≡ None
+  pub of_tokens : IsProblemOf dict tokens problem
+
 -- a listing of a sentence
-pub record IsListing (dict : Dictionary) (text : List ℕ) (listing : Listing) : Type 0 where
-  pub of_text : AreTokens dict text listing.tokens
-  pub unbound : bound_of dict listing.tokens ≡ None
-  pub of_tokens : IsProblemOf dict listing.tokens listing.course.problem
+abbrev pub IsListing : Dictionary → List ℕ → Listing → Type 0
+IsListing dict text listing = IsSentenceOf dict text listing.tokens listing.course.problem
 
 -- a listing of the same sentence
 pub record IsSameListing (old new : Listing) : Type 0 where

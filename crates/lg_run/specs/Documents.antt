@@ -1,15 +1,18 @@
 -- What is written for one sentence, and for a session.
-use Rattle.std.specs.Prelude.{◌≡◌, ℕ, ◌+◌, min, List, [], ◌∷◌, ◌++◌, length, All, Option, Some, None}
+use Rattle.std.specs.Prelude.{◌≡◌, ℕ, ◌+◌, List, [], ◌∷◌, ◌++◌, length, All, Option, Some, None}
 use Rattle.std.specs.List.{sum_by}
+use Rattle.lg_gram.specs.declared.disjunct.Disjunct.{Disjunct}
 use Rattle.lg_gram.specs.declared.listing.Bound.{Bound}
 use Rattle.lg_gram.specs.declared.listing.Page.{Page}
 use Rattle.lg_gram.specs.declared.listing.Stats.{Stats}
+use Rattle.lg_gram.specs.declared.listing.Token.{Token}
 use Rattle.lg_gram.specs.declared.reply.Place.{Place}
 use Rattle.lg_gram.specs.declared.reply.Reply.{Reply}
 use Rattle.lg_dict.specs.Dictionary.{Dictionary}
 use Rattle.lg_knowread.specs.declared.knowledge.Knowledge.{Knowledge}
 use Rattle.lg_token.specs.Bounds.{IsBeyond}
-use Rattle.lg_answer.specs.Pages.{Listing, IsListing, IsPage, IsLinkageFor}
+use Rattle.lg_answer.specs.Candidates.{IsBehind}
+use Rattle.lg_answer.specs.Pages.{IsSentenceOf, IsPage, IsLinkageFor}
 use Rattle.lg_answer.specs.declared.options.Options.{Options}
 use Rattle.lg_script.specs.Commands.{CommandView}
 use Rattle.lg_script.specs.Kinds.{kind_of}
@@ -27,8 +30,8 @@ no_knowledge = record { starts = []; ignored = []; rules = [] }
 
 -- the first page of the sentence's candidates, or the line that says why they are not listed
 pub data DocumentIs (options : Options) (dict : Dictionary) (sentence document : List ℕ) : Type 0 where
-  listed : (listing : Listing) (page : Page) → IsListing dict sentence listing → IsPage no_knowledge listing.candidates 0 options.want options.examine page
-      → document ≡ page_text listing.tokens page → DocumentIs options dict sentence document
+  listed : (tokens : List Token) (problem : List (List Disjunct)) (page : Page) → IsSentenceOf dict sentence tokens problem → IsPage problem no_knowledge options.nulls 0 options.want options.examine page
+      → document ≡ page_text tokens page → DocumentIs options dict sentence document
   beyond : (bound : Bound) → IsBeyond dict sentence bound → document ≡ bound_line bound → DocumentIs options dict sentence document
 
 -- ---- what sessions are answered
@@ -38,20 +41,22 @@ abbrev pub wanted : Options → Option ℕ → ℕ
 wanted options None = options.want
 wanted options (Some want) = want
 
--- The page of a sentence's candidates that begins after so many of them, or after all where they are fewer. Each may be
+-- The page of a sentence's candidates that begins behind so many of them, or behind all where they are fewer. Each may be
 -- printed beside the sentence's tokens.
 pub record IsShown (know : Knowledge) (options : Options) (dict : Dictionary) (progress : Progress) (page : Page) : Type 0 where
-  pub listing : Listing
-  pub of_text : IsListing dict progress.text listing
-  pub same_tokens : progress.tokens ≡ listing.tokens
-  pub shown : IsPage know listing.candidates (min progress.position (length listing.candidates)) (wanted options progress.want) options.examine page
+  pub problem : List (List Disjunct)
+  pub sentence : IsSentenceOf dict progress.text progress.tokens problem
+  pub place : ℕ
+  pub behind : IsBehind problem know options.nulls progress.position place
+  pub shown : IsPage problem know options.nulls place (wanted options progress.want) options.examine page
   pub printable : All (λ item. IsLinkageFor progress.tokens item.linkage) page.items
 
 -- how many disjuncts the sentence's problem has; as nothing is pruned, all of them are kept
 pub record AreCounted (dict : Dictionary) (text : List ℕ) (stats : Stats) : Type 0 where
-  pub listing : Listing
-  pub of_text : IsListing dict text listing
-  pub disjuncts : stats.disjuncts ≡ sum_by length listing.problem
+  pub tokens : List Token
+  pub problem : List (List Disjunct)
+  pub sentence : IsSentenceOf dict text tokens problem
+  pub disjuncts : stats.disjuncts ≡ sum_by length problem
   pub kept : stats.kept ≡ stats.disjuncts
 
 -- the meaning of sentences: listings of their candidates

@@ -3,13 +3,14 @@ use Rattle.std.specs.Prelude.{◌≡◌, ◌≢◌, ℕ, Bool, true, false, List
 use Rattle.std.specs.List.{AllByRecursion}
 use Rattle.lg_run.specs.Words.{IsKnown, AreOptions, value_of, is_operand}
 use Rattle.lg_run.specs.declared.options.Setting.{Setting}
-use Rattle.lg_run.specs.declared.options.Setting.TheVariants.{Want, Examine}
+use Rattle.lg_run.specs.declared.options.Setting.TheVariants.{Want, Examine, Nulls}
 use Rattle.lg_run.specs.declared.options.Given.{Given}
 
 -- the name of an option
 abbrev pub name_of : Setting → List ℕ
 name_of Want = codes "want"
 name_of Examine = codes "examine"
+name_of Nulls = codes "nulls"
 
 -- the word that begins an option
 abbrev pub option_word : Setting → List ℕ
@@ -33,10 +34,12 @@ pub record BeginsWith (words : List (List ℕ)) (setting : Setting) (value : Lis
 abbrev pub is_set : Setting → Given → Bool
 is_set Want given = given.want
 is_set Examine given = given.examine
+is_set Nulls given = given.nulls
 
 abbrev pub with_setting : Setting → Given → Given
 with_setting Want given = record given { want = true }
 with_setting Examine given = record given { examine = true }
+with_setting Nulls given = record given { nulls = true }
 
 -- no option begins here, nor any other word with a dash
 pub data Ends : List (List ℕ) → Type 0 where

@@ -1,6 +1,8 @@
 -- The form of the words of the command line: `one` or `run`, then options, then operands.
 use Rattle.std.specs.Prelude.{◌≡◌, ℕ, ◌≤◌, Bool, false, not, IsTrue, List, [], ◌∷◌, ◌++◌, codes, nat_eq, bytes_eq, length, All, Option, None, Some, if◌then◌else◌}
 use Rattle.lg_answer.specs.Pages.{default_options}
+use Rattle.lg_answer.specs.declared.options.Nulls.{Nulls}
+use Rattle.lg_answer.specs.declared.options.Nulls.TheVariants.{First, Passing}
 use Rattle.lg_answer.specs.declared.options.Options.{Options}
 use Rattle.lg_script.specs.Bounds.{IsCount}
 use Rattle.lg_script.specs.Commands.{IsNumber}
@@ -14,10 +16,16 @@ pub data Task : Type 0 where
 
 -- ---- options
 
+-- a word that says which linkages decide how many words may stay unlinked
+pub data WritesNulls : List ℕ → Nulls → Type 0 where
+  first : WritesNulls (codes "first") First
+  passing : WritesNulls (codes "passing") Passing
+
 -- the options that are known, each with the form of its value
 pub data IsKnown : (name value : List ℕ) → Type 0 where
   want : (value : List ℕ) (n : ℕ) → IsNumber value n → IsKnown (codes "want") value
   examine : (value : List ℕ) (n : ℕ) → IsNumber value n → IsKnown (codes "examine") value
+  nulls : (value : List ℕ) (n : Nulls) → WritesNulls value n → IsKnown (codes "nulls") value
 
 -- the value that options give to a name
 abbrev pub value_of : List ℕ → List (List ℕ × List ℕ) → Option (List ℕ)
@@ -38,10 +46,16 @@ abbrev pub GivesNumber : Option (List ℕ) → ℕ → ℕ → Type 0
 GivesNumber None usual n = n ≡ usual
 GivesNumber (Some value) usual n = IsNumber value n
 
+-- the same of what an option chooses
+abbrev pub GivesNulls : Option (List ℕ) → Nulls → Nulls → Type 0
+GivesNulls None usual n = n ≡ usual
+GivesNulls (Some value) usual n = WritesNulls value n
+
 -- what options come to
 pub record Gives (settings : List (List ℕ × List ℕ)) (options : Options) : Type 0 where
   pub want : GivesNumber (value_of (codes "want") settings) default_options.want options.want
   pub examine : GivesNumber (value_of (codes "examine") settings) default_options.examine options.examine
+  pub nulls : GivesNulls (value_of (codes "nulls") settings) default_options.nulls options.nulls
 
 -- the options of a command
 pub record OptionsAre (words : List (List ℕ)) (options : Options) : Type 0 where

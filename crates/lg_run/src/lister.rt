@@ -2,7 +2,7 @@
 ghost use Rattle.std.specs.Prelude.{◌≡◌, ◌<◌, ◌^◌, length, IfOk};
 ghost use Rattle.lg_run.specs.Words.{AreInRange};
 ghost use Rattle.lg_run.specs.Documents.{listings};
-ghost use Rattle.lg_run.specs.Listers.{StandsFor, Turns};
+ghost use Rattle.lg_run.specs.Listers.{StandsFor, Turns, MayTurn};
 
 use lg_answer::{AnswerRefusal, Listing, Options};
 use lg_base::{NoMemory, Text, Texts};
@@ -34,7 +34,7 @@ impl<'a> Model for Lister<'a> {
 }
 
 /// A listing, and how many candidates that pass a page of it shows.
-#[derive(Debug, Drop)]
+#[derive(Drop)]
 pub struct Held {
     listing: Listing,
     want: u64,
@@ -52,6 +52,7 @@ impl<'a> Lister<'a> {
 
     // The next page of a listing, with its tokens, and the listing after it.
     fn page(&self, alloc: Global, held: Held) -> Result<(Held, Tokens, Page), NoMemory>
+        requires { MayTurn self.now held }
         ensures { IfOk result (λ r. Turns self.now held r.0 r.1 r.2) }
     {
         let Held { listing, want } = held;
@@ -66,7 +67,7 @@ impl<'a> Engine for Lister<'a> {
 
     ghost meaning = { λ l. listings l.know l.options };
 
-    ghost stands = { λ l held dict progress. StandsFor l.options held dict progress };
+    ghost stands = { λ l held dict progress. StandsFor l held dict progress };
 
     fn begin<R: Threads + Sync>(
         &self,
@@ -80,11 +81,12 @@ impl<'a> Engine for Lister<'a> {
         let Ok(sentence) = str::from_utf8(text.bytes()) else {
             unreachable!()
         };
-        let listing = match Listing::start(alloc, view, sentence) {
-            Ok(listing) => listing.skip(first - 1),
+        let start = match Listing::start(alloc, view, sentence, &self.options) {
+            Ok(start) => start,
             Err(AnswerRefusal::Beyond(bound)) => return Ok(Opening::Beyond(bound)),
             Err(AnswerRefusal::NoMemory) => return Err(NoMemory),
         };
+        let listing = start.skip(alloc, self.know, first - 1)?;
         let want = want.unwrap_or(self.options.want);
         let stats = listing.stats();
         let (held, tokens, page) = self.page(alloc, Held { listing, want })?;

@@ -1,13 +1,15 @@
 //! The options of a command, taken by their names.
 ghost use Rattle.std.specs.Prelude.{◌≡◌, ℕ, List, false, codes, IfOk, IfErr, map, string_bytes, option_map};
 ghost use Rattle.clap.specs.Words.{kind_of, rule_of};
+ghost use Rattle.lg_answer.specs.declared.options.Nulls.{Nulls as SeenNulls};
 ghost use Rattle.lg_answer.specs.declared.options.Options.{Options};
-ghost use Rattle.lg_run.specs.Words.{AreOptions, GivesNumber, Gives, OptionsAre};
+ghost use Rattle.lg_run.specs.Words.{AreOptions, GivesNumber, GivesNulls, Gives, OptionsAre};
 ghost use Rattle.lg_run.specs.Matched.{TellsSettings, option_rule};
 
+use crate::options::nulls_of;
 use clap::error::ErrorKind;
 use clap::{Arg, ArgAction, ArgMatches, Command, Error};
-use lg_answer::Options;
+use lg_answer::{Nulls, Options};
 use lg_base::NoMemory;
 use lg_script::number_of;
 use std::alloc::Global;
@@ -33,7 +35,8 @@ fn matches_of(alloc: Global, words: &[String]) -> Result<ArgMatches<'_>, Error>
         .no_binary_name(true)
         .disable_help_flag(true)
         .arg(option(alloc, "want"))?
-        .arg(option(alloc, "examine"))?;
+        .arg(option(alloc, "examine"))?
+        .arg(option(alloc, "nulls"))?;
     command.try_get_matches_from(words)
 }
 
@@ -52,6 +55,7 @@ fn options_in(matches: &ArgMatches<'_>) -> Options
     Options {
         want: number_or(matches.get_str("want"), usual.want),
         examine: number_or(matches.get_str("examine"), usual.examine),
+        nulls: nulls_or(matches.get_str("nulls"), usual.nulls),
     }
 }
 
@@ -61,4 +65,11 @@ fn number_or(text: Option<&str>, usual: u64) -> u64
 {
     text.and_then(|text| number_of(text.as_bytes()))
         .unwrap_or(usual)
+}
+
+// What the text says of unlinked words, or the usual where there is no text.
+fn nulls_or(text: Option<&str>, usual: Nulls) -> Nulls
+    ensures { (n : SeenNulls) → GivesNulls (option_map (λ t. t.now) text.entry) usual n → result ≡ n }
+{
+    text.and_then(nulls_of).unwrap_or(usual)
 }

@@ -1,9 +1,11 @@
 //! The form of a command's options.
 ghost use Rattle.std.specs.Prelude.{◌≡◌, true, false, ℕ, List, MatchOption, map, string_bytes};
 ghost use Rattle.lg_script.specs.Commands.{IsNumber};
-ghost use Rattle.lg_run.specs.Words.{IsKnown, is_operand};
+ghost use Rattle.lg_answer.specs.declared.options.Nulls.{Nulls as SeenNulls};
+ghost use Rattle.lg_run.specs.Words.{IsKnown, WritesNulls, is_operand};
 ghost use Rattle.lg_run.specs.Settings.{name_of, option_word, Begins, BeginsWith, is_set, with_setting, Ends, IsCut};
 
+use lg_answer::Nulls;
 use lg_script::number_of;
 
 /// What an option sets.
@@ -11,6 +13,7 @@ use lg_script::number_of;
 pub(crate) enum Setting {
     Want,
     Examine,
+    Nulls,
 }
 
 /// An option that some words begin with, and the words behind it.
@@ -25,6 +28,7 @@ struct First<'a> {
 pub(crate) struct Given {
     want: bool,
     examine: bool,
+    nulls: bool,
 }
 
 /// Words cut in two.
@@ -44,6 +48,7 @@ pub(crate) fn cut_options(words: &[String]) -> Option<Cut<'_>>
     let mut given = Given {
         want: false,
         examine: false,
+        nulls: false,
     };
     let mut rest = words;
     while begins_with_dash(rest) {
@@ -89,6 +94,7 @@ impl Given {
                 examine: true,
                 ..self
             }),
+            Setting::Nulls if !self.nulls => Some(Given { nulls: true, ..self }),
             _ => None,
         }
     }
@@ -130,6 +136,7 @@ fn setting_of(word: &str, value: &str) -> Option<Setting>
     match word {
         "--want" if is_number(value) => Some(Setting::Want),
         "--examine" if is_number(value) => Some(Setting::Examine),
+        "--nulls" if nulls_of(value).is_some() => Some(Setting::Nulls),
         _ => None,
     }
 }
@@ -140,4 +147,15 @@ fn is_number(text: &str) -> bool
     ensures no { result ≡ false → (n : ℕ) → IsNumber text.now n → ⊥ }
 {
     number_of(text.as_bytes()).is_some()
+}
+
+/// Which linkages decide how many words may stay unlinked, as the text says. None where it says nothing of the kind.
+pub(crate) fn nulls_of(text: &str) -> Option<Nulls>
+    ensures { MatchOption result ((n : SeenNulls) → WritesNulls text.now n → ⊥) (WritesNulls text.now) }
+{
+    match text {
+        "first" => Some(Nulls::First),
+        "passing" => Some(Nulls::Passing),
+        _ => None,
+    }
 }

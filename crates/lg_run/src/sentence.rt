@@ -1,9 +1,11 @@
 //! A sentence, and what is written of it.
 ghost use Rattle.std.specs.Prelude.{◌≡◌, ◌<◌, ◌^◌, IfOk, length};
 ghost use Rattle.lg_gram.specs.declared.listing.Page.{Page};
+ghost use Rattle.lg_answer.specs.Candidates.{StandsFor};
 ghost use Rattle.lg_answer.specs.Pages.{IsPage};
 ghost use Rattle.lg_text.specs.Texts.{page_text};
 ghost use Rattle.lg_run.specs.Documents.{DocumentIs, no_knowledge};
+ghost use Rattle.lg_run.specs.Words.{AreInRange};
 
 use lg_answer::{AnswerRefusal, Listing, Options};
 use lg_base::NoMemory;
@@ -20,10 +22,11 @@ pub(crate) fn document(
     dict: &Dict,
     sentence: &str,
 ) -> Result<Vec<u8>, NoMemory>
-    requires { length sentence.now < 2 ^ 32 }
+    requires short { length sentence.now < 2 ^ 32 }
+    requires range { AreInRange options }
     ensures { IfOk result (λ text. DocumentIs options dict.now sentence.now text.items) }
 {
-    match Listing::start(alloc, &View::of(alloc, dict), sentence) {
+    match Listing::start(alloc, &View::of(alloc, dict), sentence, &options) {
         Ok(listing) => first_page(alloc, options, listing),
         Err(AnswerRefusal::Beyond(bound)) => bound_text(alloc, bound),
         Err(AnswerRefusal::NoMemory) => Err(NoMemory),
@@ -31,7 +34,10 @@ pub(crate) fn document(
 }
 
 fn first_page(alloc: Global, options: Options, listing: Listing) -> Result<Vec<u8>, NoMemory>
-    ensures { IfOk result (λ text. (page : Page) × IsPage no_knowledge listing.candidates listing.position options.want options.examine page × (text.items ≡ page_text listing.tokens page)) }
+    requires stands { StandsFor no_knowledge listing.course }
+    requires first { listing.course.position ≡ 0 }
+    requires range { AreInRange options }
+    ensures { IfOk result (λ text. (page : Page) × IsPage listing.course.problem no_knowledge listing.course.nulls 0 options.want options.examine page × (text.items ≡ page_text listing.tokens page)) }
 {
     let know = no_knowledge(alloc);
     let (listing, page) = listing.page(alloc, &know, options.want, options.examine)?;
