@@ -1,5 +1,5 @@
 //! Pages of candidates.
-ghost use Rattle.std.specs.Prelude.{◌≡◌, ◌≤◌, ◌<◌, ◌^◌, ◌+◌, ◌⊎◌, ◌↔◌, ◌×◌, true, length, None, IfOk, OnOk};
+ghost use Rattle.std.specs.Prelude.{◌≡◌, ◌≤◌, ◌<◌, ◌^◌, ◌+◌, ◌⊎◌, ◌↔◌, true, length, None, IfOk, OnOk};
 ghost use Rattle.lg_pp.specs.Labels.{IsGood};
 ghost use Rattle.lg_answer.specs.Candidates.{StandsFor, IsSameCourse, IsBehind, Decides};
 ghost use Rattle.lg_answer.specs.Pages.{passed, IsPage};

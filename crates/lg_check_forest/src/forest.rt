@@ -1,5 +1,5 @@
 //! What a forest has and spells.
-use crate::problems::{made, problem};
+use crate::problems::{are_same, made, problem};
 use lg_base::Steps;
 use lg_forest::{solve, solve_at, spell_all};
 use lg_gram::{Linkage, Problem};
@@ -33,11 +33,6 @@ fn all_words_unlinked(rt: HostRuntime) -> Result<(), Fail> {
     let list = spell_all(alloc, &problem, &forest)?;
     assert_eq!(rt; list.len(), 1);
     Ok(())
-}
-
-fn are_same(a: &[Linkage], b: &[Linkage]) -> bool {
-    a.len() == b.len()
-        && a.iter().zip(b).all(|(g, h)| g.chosen() == h.chosen() && g.links() == h.links())
 }
 
 fn spelled(alloc: Global, problem: &Problem) -> Result<Vec<Linkage>, Fail> {

@@ -4,7 +4,7 @@
 //! letter for one to the left, and `@` before one that is multi. So `@adS` is `@A- & D- & S+`. The disjuncts of a position
 //! are written with `|` between them, in the order of their texts.
 use lg_base::{Cost, Text};
-use lg_gram::{Connector, Connectors, Disjunct, Disjuncts, Positions, Problem};
+use lg_gram::{Connector, Connectors, Disjunct, Disjuncts, Linkage, Positions, Problem};
 use std::alloc::Global;
 use std::test::Fail;
 
@@ -68,14 +68,20 @@ const WORDS: [&str; 12] = [
     "aAB|b|ba",
 ];
 
-/// One of a family of problems of two to five positions.
+/// One of a family of problems of two to eight positions, of which many have linkages of one cost and one length.
 pub fn made(alloc: Global, seed: u32) -> Result<Problem, Fail> {
     let mut rest = seed;
     let mut positions = Vec::new(alloc);
-    for _ in 0..2 + seed % 4 {
+    for _ in 0..2 + seed % 7 {
         let word = WORDS[rest as usize % WORDS.len()];
         positions.push(position(alloc, word)?)?;
-        rest = rest / 5 + seed % 7;
+        rest = rest / 5 + seed % 11;
     }
     Ok(Problem::of(Positions::of(positions)).ok_or("no problem")?)
+}
+
+/// Whether the two lists have the same linkages in the same order.
+pub fn are_same(a: &[Linkage], b: &[Linkage]) -> bool {
+    a.len() == b.len()
+        && a.iter().zip(b).all(|(g, h)| g.chosen() == h.chosen() && g.links() == h.links())
 }

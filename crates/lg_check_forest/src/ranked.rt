@@ -1,0 +1,80 @@
+//! The ranked listing beside the slow lister and beside all linkages of a forest.
+use crate::problems::{are_same, made, problem};
+use lg_base::Steps;
+use lg_forest::{Forest, solve, solve_at, spell_all};
+use lg_gram::{Linkage, Problem};
+use lg_rank::Ranked;
+use lg_rules::{PLAIN_POSITIONS, plain_list};
+use std::alloc::Global;
+use std::test::Fail;
+
+// More linkages than a problem of the tests has.
+const MOST: usize = 1_000_000;
+
+fn listed(alloc: Global, problem: Problem, forest: Forest) -> Result<Vec<Linkage>, Fail> {
+    let mut ranked = Ranked::new(alloc, problem, forest)?;
+    let mut list = Vec::new(alloc);
+    for _ in 0..MOST {
+        match ranked.next(alloc)? {
+            Some(linkage) => list.push(linkage)?,
+            None => return Ok(list),
+        }
+    }
+    Err("too many linkages")?
+}
+
+fn agrees(alloc: Global, seed: u32) -> Result<bool, Fail> {
+    let problem = made(alloc, seed)?;
+    if problem.positions().len() > PLAIN_POSITIONS {
+        return Err("too many positions")?;
+    }
+    let plain = plain_list(alloc, &problem)?;
+    let forest = solve(alloc, &problem, &mut Steps::start())?;
+    let list = listed(alloc, problem, forest)?;
+    Ok(are_same(list.as_slice(), plain.as_slice()))
+}
+
+#[test]
+fn as_the_slow_lister(rt: HostRuntime) -> Result<(), Fail> {
+    for seed in 0..500 {
+        assert!(rt; agrees(rt.alloc(), seed)?, "{seed}");
+    }
+    Ok(())
+}
+
+fn level_agrees(alloc: Global, seed: u32, nulls: u32) -> Result<bool, Fail> {
+    let problem = made(alloc, seed)?;
+    if nulls as usize > problem.positions().len() {
+        return Ok(true);
+    }
+    let forest = solve_at(alloc, &problem, nulls, &mut Steps::start())?;
+    let all = spell_all(alloc, &problem, &forest)?;
+    let list = listed(alloc, problem, forest)?;
+    Ok(are_same(list.as_slice(), all.as_slice()))
+}
+
+#[test]
+fn each_level(rt: HostRuntime) -> Result<(), Fail> {
+    for seed in 0..100 {
+        for nulls in 0..9 {
+            assert!(rt; level_agrees(rt.alloc(), seed, nulls)?, "{seed} {nulls}");
+        }
+    }
+    Ok(())
+}
+
+// The level of as many unlinked words as there are words has the linkage that links nothing, and no other one.
+#[test]
+fn all_words_unlinked(rt: HostRuntime) -> Result<(), Fail> {
+    let alloc = rt.alloc();
+    let problem = problem(alloc, &["S|o", "s"])?;
+    assert_eq!(rt; problem.positions().len(), 2);
+    let forest = solve_at(alloc, &problem, 2, &mut Steps::start())?;
+    let mut ranked = Ranked::new(alloc, problem, forest)?;
+    assert_eq!(rt; ranked.nulls(), 2);
+    assert!(rt; ranked.next(alloc)?.is_some());
+    assert_eq!(rt; ranked.position(), 1);
+    assert!(rt; ranked.next(alloc)?.is_none());
+    assert_eq!(rt; ranked.position(), 1);
+    Ok(())
+}
