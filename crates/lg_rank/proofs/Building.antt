@@ -1,7 +1,6 @@
 -- The nodes of the keys of a forest make a listing.
-use Rattle.std.proofs.Common.{◌≡◌, ℕ, zero, suc, ◌+◌, ◌<◌, ◌≤◌, true≢false, List, [], ◌∷◌, ◌++◌, length, map, replicate, get_or, Option, Some, None, slice_get, Contains, inl, inr, refl, sym, ap, ◌∙◌, subst, arith, pos, ◌+ℤ◌, length-append}
+use Rattle.std.proofs.Common.{◌≡◌, ℕ, zero, suc, ◌<◌, ◌≤◌, true≢false, List, [], ◌∷◌, ◌++◌, length, map, replicate, get_or, Option, Some, None, slice_get, Contains, inl, inr, refl, sym, ap, ◌∙◌, subst, arith, pos, ◌+ℤ◌, length-append}
 use Rattle.std.specs.Map.{keys_of}
-use Rattle.std.proofs.Math.IntN.{+ℤ_idl}
 use Rattle.std.proofs.lemmas.List.{length-map, length-replicate}
 use Rattle.std.proofs.lemmas.Option.{slice_get_within, get_or_from_slice_get, slice_get-get_or}
 use Rattle.lg_gram.specs.Connectors.{Connector}
@@ -11,19 +10,19 @@ use Rattle.lg_gram.specs.declared.disjunct.Disjunct.{Disjunct}
 use Rattle.lg_region.specs.declared.key.Key.{Key}
 use Rattle.lg_region.specs.declared.key.Key.TheVariants.{Whole}
 use Rattle.lg_region.specs.declared.alternative.Alt.{Alt}
-use Rattle.lg_region.specs.Laws.{RegionsAreCutOnce, CutsAreValid, AlternativesDecide, WholeAlternativesDecide, NumbersTellListsApart}
+use Rattle.lg_region.specs.Laws.{CutsAreValid, AlternativesDecide, WholeAlternativesDecide, NumbersTellListsApart}
 use Rattle.lg_forest.specs.Drafts.{HasAlt}
 use Rattle.lg_forest.specs.Forests.{Forest, IsForest}
 use Rattle.lg_rank.specs.Keyed.{subject_of, subjects_of, GetsNodeBy, ArePlaced, IsRootKey, IsAltFor, HasPartsBelow, AreWaysOf, IsFresh, AreNodesOf}
-use Rattle.lg_rank.specs.Meanings.{IsCodeOf, IsPacked, unlinked_of, Subject, whole, IsSubject, Cutting, IsWayFor, IsCutting, IsForestOf}
+use Rattle.lg_rank.specs.Meanings.{IsCodeOf, IsPacked, unlinked_of, Subject, IsSubject, Cutting, IsWayFor, IsCutting, IsForestOf}
 use Rattle.lg_rank.specs.Nodes.{no_way, ways_of, way_at}
 use Rattle.lg_rank.specs.Rankings.{IsRoot, IsListing}
-use Rattle.lg_rank.specs.Tables.{forest_of, parts, IsNode, IsTable}
+use Rattle.lg_rank.specs.Tables.{forest_of, IsTable}
 use Rattle.lg_rank.specs.Values.{Value, value_of, nothing_of}
 use Rattle.lg_rank.specs.declared.node.Node.{Node}
 use Rattle.lg_rank.specs.declared.part.Way.{Way}
 use Rattle.lg_rank.proofs.Gluing.{none_at}
-use Rattle.lg_rank.proofs.Keyed.{alt_for, live_cutting, LiveAlt, cutting_live, cutting_has, one_alt, one_cutting, subject_at}
+use Rattle.lg_rank.proofs.Keyed.{alt_for, live_cutting, cutting_live, cutting_has, one_alt, one_cutting, subject_at}
 use Rattle.lg_rank.proofs.Meaning.{in_forest}
 use Rattle.lg_rank.proofs.Places.{map_at}
 use Rattle.lg_rank.proofs.Walking.{alt_of, at_cases}
@@ -116,7 +115,8 @@ module _ (positions : List (List Disjunct)) (from : ℕ) (forest : Forest) (is :
             let s = all.each i.0 w e in
             let f : slice_get alts i.0 ≡ Some a.alt = slice_get-get_or alts i.0 a.alt i.1 ∙ ap Some i.2 in
             let same : a.alt ≡ s.0 = (let g = s.1 in cc) in
-            let r = s.2 is.lists c (subst (λ z. IsAltFor positions is.lists key c z) same a.for) cut_own (λ part h. placed.below k key at s.0 part (alt_at i.0 s.0 s.1) h) in
+            let for : IsAltFor positions is.lists key c s.0 = subst (λ z. IsAltFor positions is.lists key c z) {y = s.0} same a.for in
+            let r = s.2 is.lists c for cut_own (λ part h. placed.below k key at s.0 part (alt_at i.0 s.0 s.1) h) in
             (i.0, w, e, subst (λ z. IsWayFor positions Subjects k z w c) (sym own) r);
       }
 

@@ -1,12 +1,10 @@
 -- Ways of the alternatives of a key stand for its cuts.
-use Rattle.std.proofs.Common.{◌≡◌, ℕ, zero, suc, ◌+◌, ◌-◌, ◌<◌, ◌≤◌, List, [], ◌∷◌, ◌++◌, length, get_or, Option, Some, None, IfSome, IsSome, slice_get, Contains, ◌⊎◌, inl, inr, refl, sym, ap, ◌∙◌, subst, arith}
-use Rattle.std.specs.Map.{keys_of}
+use Rattle.std.proofs.Common.{◌≡◌, ℕ, suc, ◌-◌, ◌<◌, List, [], length, get_or, Option, Some, None, IfSome, slice_get, Contains, ◌⊎◌, inl, inr, refl, sym, ap, ◌∙◌, subst, arith}
 use Rattle.std.proofs.lemmas.Bool.{cases_lt}
 use Rattle.std.proofs.lemmas.Cmp.{tied_itself}
 use Rattle.std.proofs.lemmas.List.{get_or_past, get_or_default}
 use Rattle.std.proofs.lemmas.Option.{same_Some, slice_get_within, get_or_from_slice_get, slice_get-get_or}
 use Rattle.lg_gram.specs.Connectors.{Connector}
-use Rattle.lg_gram.specs.Linkages.{Linkage}
 use Rattle.lg_gram.specs.Problems.{IsProblem}
 use Rattle.lg_gram.specs.declared.disjunct.Disjunct.{Disjunct}
 use Rattle.lg_gram.specs.declared.linkage.Link.{Link}
@@ -15,17 +13,16 @@ use Rattle.lg_region.specs.declared.key.Key.{Key}
 use Rattle.lg_region.specs.declared.key.Key.TheVariants.{Whole, Region as Between}
 use Rattle.lg_region.specs.declared.alternative.Alt.{Alt}
 use Rattle.lg_region.specs.declared.alternative.Alt.TheVariants.{AllNull, Split as At}
-use Rattle.lg_region.specs.Cuts.{Split, IsCut, IsCutAt, IsValid, Alternative, all_null, split, IsAlternative}
+use Rattle.lg_region.specs.Cuts.{Split, Alternative, all_null, split, IsAlternative}
 use Rattle.lg_region.specs.Fronts.{list_of}
-use Rattle.lg_region.specs.Keys.{IsKeyOf, IsValidKey, IsDisjunctAt, IsFirstOf, IsSplitOf, IsAltOf, IsAltOfWhole, IsAltOfRegion, region_of_numbers}
-use Rattle.lg_region.specs.Laws.{RegionsAreCutOnce, CutsAreValid, AlternativesDecide, WholeAlternativesDecide, NumbersTellListsApart, HasLinkage, HasKey}
-use Rattle.lg_region.specs.Parts.{Region, Under}
-use Rattle.lg_region.specs.Whole.{First, IsFirst, first}
-use Rattle.lg_forest.specs.Demands.{HasLinkageUnder, left_key, right_key}
-use Rattle.lg_forest.specs.Drafts.{HasAlt}
-use Rattle.lg_forest.specs.Forests.{Forest, IsForest, IsLive}
-use Rattle.lg_rank.specs.Keyed.{subject_of, subjects_of, IsNothing, IsBefore, IsNumberFor, GetsNodeBy, GetsNode, EachPart, ArePlaced, near_link, far_link, IsFirstAlt, IsSplitAlt, IsAltFor, HasPartsBelow, AreWaysOf}
-use Rattle.lg_rank.specs.Meanings.{IsCodeOf, Subject, whole, region, IsSubject, joint_link, IsPartFor, IsWord, IsSplitWay, IsFirstWay, Cutting, split_at, begins_at, IsWayFor, IsCutting}
+use Rattle.lg_region.specs.Keys.{IsKeyOf, IsDisjunctAt, IsFirstOf, IsSplitOf, IsAltOf, IsAltOfWhole, IsAltOfRegion, region_of_numbers}
+use Rattle.lg_region.specs.Laws.{RegionsAreCutOnce, CutsAreValid, AlternativesDecide, WholeAlternativesDecide, NumbersTellListsApart, HasLinkage}
+use Rattle.lg_region.specs.Parts.{Region}
+use Rattle.lg_region.specs.Whole.{First, first}
+use Rattle.lg_forest.specs.Demands.{HasLinkageUnder}
+use Rattle.lg_forest.specs.Forests.{IsLive}
+use Rattle.lg_rank.specs.Keyed.{subject_of, subjects_of, IsNothing, IsBefore, IsNumberFor, near_link, far_link, IsFirstAlt, IsSplitAlt, IsAltFor, HasPartsBelow}
+use Rattle.lg_rank.specs.Meanings.{IsCodeOf, Subject, whole, region, IsSubject, joint_link, IsPartFor, IsWord, Cutting, split_at, begins_at, IsWayFor, IsCutting}
 use Rattle.lg_rank.specs.declared.part.Way.{Way}
 use Rattle.lg_rank.proofs.Meaning.{no_cut}
 use Rattle.lg_rank.proofs.Orders.{choices_total}

@@ -1,5 +1,5 @@
 -- The places of keys in a set that keeps their order, where `==` at keys tells whether they are the same.
-use Rattle.std.proofs.Common.{◌≡◌, ℕ, ◌<◌, ◌≤◌, Bool, true, false, true≢false, is_some, if◌then◌else◌, List, [], ◌∷◌, ◌++◌, length, get_or, position, Option, Some, None, MatchOption, slice_get, Contains, inl, inr, refl, sym, ap, ◌∙◌, subst, arith, rules}
+use Rattle.std.proofs.Common.{◌≡◌, ℕ, Bool, true, false, true≢false, is_some, if◌then◌else◌, List, [], ◌∷◌, ◌++◌, get_or, position, Option, Some, None, MatchOption, slice_get, inl, inr, refl, sym, ap, ◌∙◌, rules}
 use Rattle.std.specs.Bool.{Decides}
 use Rattle.std.specs.List.{list_any}
 use Rattle.std.proofs.lemmas.Bool.{cases_lt}

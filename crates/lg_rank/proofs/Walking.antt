@@ -1,5 +1,5 @@
 -- The keys that get nodes, parts before wholes.
-use Rattle.std.proofs.Common.{◌≡◌, ℕ, zero, suc, ◌+◌, ◌-◌, ◌<◌, ◌≤◌, max, Result, Ok, Err, List, [], ◌∷◌, ◌++◌, length, map, get_or, Option, Some, None, IfSome, slice_get, Contains, ◌⊎◌, inl, inr, refl, sym, ap, ◌∙◌, subst, arith}
+use Rattle.std.proofs.Common.{◌≡◌, ℕ, zero, suc, ◌-◌, ◌<◌, ◌≤◌, Result, Ok, Err, List, [], ◌∷◌, ◌++◌, length, map, Some, None, slice_get, Contains, ◌⊎◌, inl, inr, refl, sym, ap, ◌∙◌, subst, arith}
 use Rattle.std.specs.Map.{keys_of}
 use Rattle.std.specs.Result.{OnOk}
 use Rattle.std.proofs.lemmas.Bool.{cases_lt}
@@ -10,16 +10,15 @@ use Rattle.lg_region.specs.declared.key.Key.{Key}
 use Rattle.lg_region.specs.declared.key.Key.TheVariants.{Whole, Region as Between}
 use Rattle.lg_region.specs.declared.alternative.Alt.{Alt}
 use Rattle.lg_region.specs.declared.alternative.Alt.TheVariants.{AllNull, Split as At}
-use Rattle.lg_region.specs.Fronts.{list_of}
 use Rattle.lg_region.specs.Keys.{IsKeyOf, IsValidKey, IsAltOf, IsAltOfWhole, IsAltOfRegion, region_of_numbers}
 use Rattle.lg_region.specs.Laws.{NumbersTellListsApart, HasKey}
 use Rattle.lg_region.specs.Parts.{Region}
-use Rattle.lg_forest.specs.Demands.{HasLinkageUnder, left_key, right_key, AsksNext, Reaches}
+use Rattle.lg_forest.specs.Demands.{AsksNext}
 use Rattle.lg_forest.specs.Demands.AsksNext.{left, right}
 use Rattle.lg_forest.specs.Demands.Reaches.{itself, onward}
 use Rattle.lg_forest.specs.Drafts.{HasAlt}
 use Rattle.lg_forest.specs.Forests.{Forest, IsForest, IsLive}
-use Rattle.lg_forest.specs.Search.{key_width, part_bound, alt_bound}
+use Rattle.lg_forest.specs.Search.{key_width, alt_bound}
 use Rattle.lg_rank.specs.Fronts.{IsIn, Extends}
 use Rattle.lg_rank.specs.Keyed.{subject_of, IsNothing, AddsKey, IsBefore, GetsNodeBy, GetsNode, EachPart, ArePlaced}
 use Rattle.lg_rank.specs.Meanings.{IsSubject}

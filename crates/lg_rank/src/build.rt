@@ -133,6 +133,7 @@ fn root_of(problem: &Problem, forest: &Forest, keys: &mut Keys) -> Result<Option
     if nulls as usize == count {
         return Ok(None);
     }
+    // no forest has more unlinked words than there are words, but contracts do not see it
     if nulls as usize > count {
         return Err(NoMemory);
     }
@@ -273,10 +274,10 @@ fn ways_of(
     // the call tells that the positions are those of a problem
     let _positions = problem.positions();
     let key = keys.get(k);
-    let mut ways = Vec::new(alloc);
     let Some(alts) = forest.alts(&key) else {
-        return Ok(ways);
+        return Ok(Vec::new(alloc));
     };
+    let mut ways = Vec::with_capacity(alloc, alts.len())?;
     for index in 0..alts.len() {
         ways.push(way_of(problem, keys, key, alts.get(index)))?;
     }
@@ -306,7 +307,7 @@ fn nodes_of(
     requires placed { ArePlaced problem.now forest.now keys.now }
     ensures { IfOk result (λ nodes. (from : ℕ) (is : IsForest problem.now from forest.now) → AreNodesOf problem.now (subjects_of is.lists keys.now) (length keys.now) nodes.items) }
 {
-    let mut nodes = Vec::new(alloc);
+    let mut nodes = Vec::with_capacity(alloc, keys.len())?;
     for k in 0..keys.len() {
         let ways = ways_of(alloc, problem, forest, keys, k)?;
         nodes.push(node_of(alloc, ways))?;

@@ -8,7 +8,7 @@ pub returns-in_default : goal.returns-in_default
 returns-in_default c = λ from is.
     let positions = c.args.problem.now in
     let laws : Laws positions is.lists = record { problem = c.positions-positions.ensures.limits; valid = c.cuts_are_valid.ensures; regions = c.alternatives_decide.ensures.region; wholes = c.alternatives_decide.ensures.whole; numbers = c.numbers_tell_lists_apart.ensures positions is.lists is.numbered } in
-    ways_none positions from c.args.forest.now is laws c.args.keys.now c.args.k c.get-key.result c.get-key.ensures c.requires.placed c.new-ways.result.items c.new-ways.ensures.items c.in_default.ensures
+    ways_none positions from c.args.forest.now is laws c.args.keys.now c.args.k c.get-key.result c.get-key.ensures c.requires.placed c.new.result.items c.new.ensures.items c.in_default.ensures
 
 pub way_of-requires : goal.way_of-requires
 way_of-requires c =
