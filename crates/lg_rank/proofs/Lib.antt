@@ -26,3 +26,7 @@ pub mod Meaning
 pub mod Ordered
 pub mod Unpacking
 pub mod Listing
+pub mod Keyed
+pub mod Walking
+pub mod Building
+pub mod Numbers

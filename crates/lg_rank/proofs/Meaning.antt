@@ -68,7 +68,7 @@ empty_is positions g b e =
     let links = no_more g.links e.no_links in
     λ k. record { chosen = chosen k; links = links k }
 
-no_cut : (o : Option Joint) (a b c d : List Connector) → b ≡ [] → IsCutAt o a b c d → IsSome o → ⊥
+pub no_cut : (o : Option Joint) (a b c d : List Connector) → b ≡ [] → IsCutAt o a b c d → IsSome o → ⊥
 no_cut None a b c d e h s = cc
 no_cut (Some j) a b c d e h s = (let f = h.1.0 in let g = ap length e in omega arith)
 

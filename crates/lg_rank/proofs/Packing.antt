@@ -32,7 +32,7 @@ slice_in : {A : Type 0} (xs : List A) (i : ℕ) (x : A) → slice_get xs i ≡ S
 slice_in xs i x e = (i, slice_get_within xs i x e, get_or_from_slice_get xs i x x e)
 
 -- in a list that rises, what stands later is greater
-later_greater : (ds : List Disjunct) (i j : ℕ) (d e : Disjunct) → IsStrictlySortedBy disjunct_cmp ds → i < j → slice_get ds i ≡ Some d → slice_get ds j ≡ Some e → disjunct_cmp d e ≡ Less
+pub later_greater : (ds : List Disjunct) (i j : ℕ) (d e : Disjunct) → IsStrictlySortedBy disjunct_cmp ds → i < j → slice_get ds i ≡ Some d → slice_get ds j ≡ Some e → disjunct_cmp d e ≡ Less
 later_greater [] i j d e up less p q = absurd cc
 later_greater (x ∷ ds) zero zero d e up less p q = absurd (omega arith)
 later_greater (x ∷ ds) (suc i) zero d e up less p q = absurd (omega arith)
@@ -65,7 +65,7 @@ code_order ds (Some d) (Some e) m n up p q =
       ]
     ]
 
-code_apart : (ds : List Disjunct) (a b : Option Disjunct) (n : ℕ) → IsCodeOf ds a n → IsCodeOf ds b n → a ≡ b
+pub code_apart : (ds : List Disjunct) (a b : Option Disjunct) (n : ℕ) → IsCodeOf ds a n → IsCodeOf ds b n → a ≡ b
 code_apart ds None None n p q = refl
 code_apart ds None (Some e) n p q = absurd (let r = q.1 in omega arith)
 code_apart ds (Some d) None n p q = absurd (let r = p.1 in omega arith)

@@ -7,3 +7,4 @@ pub mod Nodes
 pub mod Tables
 pub mod Meanings
 pub mod Rankings
+pub mod Keyed

@@ -3,7 +3,9 @@
 //! What stands here so far are the laws: the order of linkages follows that of the parts of a cut.
 #![tactic(auto)]
 
+mod build;
 pub mod candidate;
+mod keys;
 pub mod law;
 pub mod node;
 pub mod part;

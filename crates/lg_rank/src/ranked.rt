@@ -9,6 +9,7 @@ ghost use Rattle.lg_rank.specs.Rankings.{Ranking, IsListing, IsLinkageAt, given}
 ghost use Rattle.lg_rank.specs.Tables.{parts};
 ghost use Rattle.lg_rank.specs.Values.{value_of};
 
+use crate::build::{Built, build};
 use crate::law::values_are_linkages;
 use crate::node::part_of;
 use crate::part::Part;
@@ -115,8 +116,13 @@ impl Ranked {
         requires { (from : ℕ) × IsForest problem from forest }
         ensures { IfOk result (λ ranked. ranked ≡ record { positions = problem; nulls = forest.unused; position = 0 }) }
     {
-        let _ = (alloc, problem, forest);
-        Err(NoMemory)
+        let built = build(alloc, &problem, &forest)?;
+        let Built {
+            nothing,
+            table,
+            root,
+        } = built;
+        Ok(Ranked::of(problem, nothing, table, root, forest.unused()))
     }
 
     /// Turns to the level of another forest of the problem, before its first linkage. After an error nothing has changed.

@@ -1,0 +1,354 @@
+//! The nodes of a forest: one for each key under which something is linked, parts before wholes.
+ghost use Rattle.std.specs.Prelude.{◌≡◌, ◌↔◌, ◌+◌, ◌<◌, ◌^◌, ◌⊎◌, ℕ, List, [], length, Some, slice_get, slice_index_or, IsTrue, IfOk, OnOk, IfSome};
+ghost use Rattle.lg_gram.specs.Connectors.{Connector};
+ghost use Rattle.lg_gram.specs.declared.disjunct.Disjunct.{Disjunct};
+ghost use Rattle.lg_region.specs.Keys.{IsDisjunctAt};
+ghost use Rattle.lg_region.specs.Laws.{HasKey};
+ghost use Rattle.lg_region.specs.declared.key.Key.{Key as SeenKey};
+ghost use Rattle.lg_forest.specs.Forests.{IsForest};
+ghost use Rattle.lg_rank.specs.Fronts.{IsIn, Extends};
+ghost use Rattle.lg_rank.specs.Keyed.{subject_of, subjects_of, IsNothing, IsBefore, IsNumberFor, GetsNode, EachPart, ArePlaced, IsRootKey, near_link, far_link, IsAltFor, HasPartsBelow, AreWaysOf, IsFresh, AreNodesOf};
+ghost use Rattle.lg_rank.specs.Meanings.{joint_link, length_of, IsWord, Cutting, IsWayFor, IsCutting};
+ghost use Rattle.lg_rank.specs.Rankings.{IsListing};
+ghost use Rattle.lg_rank.specs.Values.{value_of, nothing_of};
+
+use crate::keys::Keys;
+use crate::node::Node;
+use crate::part::{Part, Way};
+use crate::table::Table;
+use lg_base::NoMemory;
+use lg_forest::Forest;
+use lg_gram::{Link, Problem};
+use lg_region::{
+    Alt, Joint, Key, alternatives_decide, cuts_are_valid, numbers_tell_lists_apart,
+    regions_are_cut_once,
+};
+use std::alloc::Global;
+
+// Whether nothing can be linked: both lists of the region are empty.
+fn is_nothing(key: &Key) -> bool
+    ensures { IsTrue result ↔ IsNothing key.now }
+{
+    match key {
+        Key::Whole { .. } => false,
+        Key::Region { llist, rlist, .. } => *llist == 0 && *rlist == 0,
+    }
+}
+
+// Puts the key into the list, behind all keys of parts.
+#[cycle(walk)]
+fn visit(problem: &Problem, forest: &Forest, keys: &mut Keys, key: Key) -> Result<(), NoMemory>
+    requires forest { (from : ℕ) × IsForest problem.now from forest.now }
+    requires key { GetsNode problem.now forest.now key }
+    requires placed { ArePlaced problem.now forest.now keys.old }
+    ensures placed { OnOk result (ArePlaced problem.now forest.now keys.new) }
+    ensures grown { OnOk result (Extends keys.old keys.new) }
+    ensures there { OnOk result (IsIn keys.new key) }
+{
+    if keys.number(&key).is_some() {
+        return Ok(());
+    }
+    visit_below(problem, forest, keys, key)?;
+    keys.add(key)
+}
+
+// Puts the keys of the parts of all alternatives into the list.
+#[cycle(walk)]
+fn visit_below(
+    problem: &Problem,
+    forest: &Forest,
+    keys: &mut Keys,
+    key: Key,
+) -> Result<(), NoMemory>
+    requires forest { (from : ℕ) × IsForest problem.now from forest.now }
+    requires key { GetsNode problem.now forest.now key }
+    requires placed { ArePlaced problem.now forest.now keys.old }
+    ensures placed { OnOk result (ArePlaced problem.now forest.now keys.new) }
+    ensures grown { OnOk result (Extends keys.old keys.new) }
+    ensures there { OnOk result (EachPart forest.now key (IsIn keys.new)) }
+{
+    numbers_tell_lists_apart();
+    let Some(alts) = forest.alts(&key) else {
+        return Ok(());
+    };
+    for index in 0..alts.len() {
+        visit_alt(problem, forest, keys, alts.get(index))?;
+    }
+    Ok(())
+}
+
+#[cycle(walk)]
+fn visit_alt(problem: &Problem, forest: &Forest, keys: &mut Keys, alt: Alt) -> Result<(), NoMemory>
+    requires forest { (from : ℕ) × IsForest problem.now from forest.now }
+    requires parts { (part : SeenKey) → HasKey alt part → (IsNothing part → ⊥) → GetsNode problem.now forest.now part }
+    requires placed { ArePlaced problem.now forest.now keys.old }
+    ensures placed { OnOk result (ArePlaced problem.now forest.now keys.new) }
+    ensures grown { OnOk result (Extends keys.old keys.new) }
+    ensures there { OnOk result ((part : SeenKey) → HasKey alt part → IsNothing part ⊎ IsIn keys.new part) }
+{
+    match alt {
+        Alt::AllNull => Ok(()),
+        Alt::Split { lkey, rkey, .. } => {
+            visit_part(problem, forest, keys, lkey)?;
+            visit_part(problem, forest, keys, rkey)
+        }
+    }
+}
+
+#[cycle(walk)]
+fn visit_part(
+    problem: &Problem,
+    forest: &Forest,
+    keys: &mut Keys,
+    key: Option<Key>,
+) -> Result<(), NoMemory>
+    requires forest { (from : ℕ) × IsForest problem.now from forest.now }
+    requires key { (part : SeenKey) → key ≡ Some part → (IsNothing part → ⊥) → GetsNode problem.now forest.now part }
+    requires placed { ArePlaced problem.now forest.now keys.old }
+    ensures placed { OnOk result (ArePlaced problem.now forest.now keys.new) }
+    ensures grown { OnOk result (Extends keys.old keys.new) }
+    ensures there { OnOk result ((part : SeenKey) → key ≡ Some part → IsNothing part ⊎ IsIn keys.new part) }
+{
+    match key {
+        None => Ok(()),
+        Some(key) => {
+            if is_nothing(&key) {
+                Ok(())
+            } else {
+                visit(problem, forest, keys, key)
+            }
+        }
+    }
+}
+
+// The number of the key of the whole sentence; none where all positions are unlinked. Puts all keys that get nodes into the list.
+fn root_of(problem: &Problem, forest: &Forest, keys: &mut Keys) -> Result<Option<usize>, NoMemory>
+    requires forest { (from : ℕ) × IsForest problem.now from forest.now }
+    requires empty { keys.old ≡ [] }
+    ensures placed { OnOk result (ArePlaced problem.now forest.now keys.new) }
+    ensures root { IfOk result (IsRootKey problem.now keys.new forest.now.unused) }
+{
+    let nulls = forest.unused();
+    let count = problem.positions().len();
+    if nulls as usize == count {
+        return Ok(None);
+    }
+    // no forest has more unlinked words than there are words, but contracts do not see it
+    if nulls as usize > count {
+        return Err(NoMemory);
+    }
+    let key = Key::Whole { nulls };
+    visit(problem, forest, keys, key)?;
+    Ok(keys.number(&key))
+}
+
+// The link of a joint of two words.
+fn joint_of(joint: Option<Joint>, left: u32, right: u32) -> Option<Link>
+    ensures { result ≡ joint_link joint left right }
+{
+    match joint {
+        None => None,
+        Some(joint) => Some(Link {
+            left,
+            lplace: joint.near,
+            right,
+            rplace: joint.far,
+        }),
+    }
+}
+
+// The link that joins the word with the left end.
+fn near_of(key: Key, word: u32, joint: Option<Joint>) -> Option<Link>
+    ensures { result ≡ near_link key word joint }
+{
+    match key {
+        Key::Whole { .. } => None,
+        Key::Region { left, .. } => joint_of(joint, left, word),
+    }
+}
+
+// The link that joins the word with the right end.
+fn far_of(key: Key, word: u32, joint: Option<Joint>) -> Option<Link>
+    ensures { result ≡ far_link key word joint }
+{
+    match key {
+        Key::Whole { .. } => None,
+        Key::Region { right, .. } => joint_of(joint, word, right),
+    }
+}
+
+fn span_of(link: Option<Link>) -> u64
+    ensures value { result ≡ length_of link }
+    ensures small { result < 2 ^ 32 }
+{
+    match link {
+        None => 0,
+        Some(link) => u64::from(link.right.saturating_sub(link.left)),
+    }
+}
+
+// The way of a word and its disjunct with these links and parts.
+fn word_way(
+    problem: &Problem,
+    word: u32,
+    disjunct: u32,
+    near: Option<Link>,
+    far: Option<Link>,
+    left: Option<usize>,
+    right: Option<usize>,
+) -> Way
+    requires { disjunct < length (slice_index_or problem.now word []) }
+    ensures word { (d : Disjunct) → IsDisjunctAt problem.now word disjunct d → IsWord problem.now result word d near far }
+    ensures left { result.left ≡ left }
+    ensures right { result.right ≡ right }
+{
+    let disjuncts = problem.positions()[word as usize].items();
+    Way {
+        word: word as usize,
+        choice: disjunct + 1,
+        cost: disjuncts[disjunct as usize].cost.thousandths(),
+        span: span_of(near) + span_of(far),
+        near,
+        far,
+        left,
+        right,
+    }
+}
+
+// The number of the key of a part; none where there is no key, or nothing can be linked.
+fn part_number(keys: &Keys, key: Option<Key>) -> Option<usize>
+    ensures { (k : ℕ) → IfSome key (λ part. IsNothing part ⊎ IsBefore keys.now k part) → IsNumberFor keys.now k key result }
+{
+    match key {
+        None => None,
+        Some(key) => {
+            if is_nothing(&key) {
+                None
+            } else {
+                keys.number(&key)
+            }
+        }
+    }
+}
+
+// The way of an alternative in which a word is linked.
+fn way_of(problem: &Problem, keys: &Keys, key: Key, alt: Alt) -> Way
+    requires { (lists : List (List Connector)) × (c : Cutting) × IsAltFor problem.now lists key c alt }
+    ensures { (lists : List (List Connector)) (k : ℕ) (c : Cutting) → IsAltFor problem.now lists key c alt → IsCutting problem.now (subject_of lists key) c → HasPartsBelow keys.now k alt → IsWayFor problem.now (subjects_of lists keys.now) k (subject_of lists key) result c }
+{
+    regions_are_cut_once();
+    let Alt::Split {
+        word,
+        disjunct,
+        to_left,
+        to_right,
+        lkey,
+        rkey,
+    } = alt
+    else {
+        unreachable!()
+    };
+    let near = near_of(key, word, to_left);
+    let far = far_of(key, word, to_right);
+    let left = part_number(keys, lkey);
+    let right = part_number(keys, rkey);
+    word_way(problem, word, disjunct, near, far, left, right)
+}
+
+// The ways of node `k`: one for each alternative of its key.
+fn ways_of(
+    alloc: Global,
+    problem: &Problem,
+    forest: &Forest,
+    keys: &Keys,
+    k: usize,
+) -> Result<Vec<Way>, NoMemory>
+    requires forest { (from : ℕ) × IsForest problem.now from forest.now }
+    requires placed { ArePlaced problem.now forest.now keys.now }
+    requires within { k < length keys.now }
+    ensures { IfOk result (λ ways. (from : ℕ) (is : IsForest problem.now from forest.now) → AreWaysOf problem.now (subjects_of is.lists keys.now) k ways.items) }
+{
+    alternatives_decide();
+    cuts_are_valid();
+    numbers_tell_lists_apart();
+    // the call tells that the positions are those of a problem
+    let _positions = problem.positions();
+    let key = keys.get(k);
+    let Some(alts) = forest.alts(&key) else {
+        return Ok(Vec::new(alloc));
+    };
+    let mut ways = Vec::with_capacity(alloc, alts.len())?;
+    for index in 0..alts.len() {
+        ways.push(way_of(problem, keys, key, alts.get(index)))?;
+    }
+    Ok(ways)
+}
+
+fn node_of(alloc: Global, ways: Vec<Way>) -> Node
+    ensures ways { result.ways.items ≡ ways.items }
+    ensures fresh { IsFresh result }
+{
+    Node {
+        ways,
+        made: Vec::new(alloc),
+        rows: Vec::new(alloc),
+        begun: false,
+    }
+}
+
+// The nodes of the keys.
+fn nodes_of(
+    alloc: Global,
+    problem: &Problem,
+    forest: &Forest,
+    keys: &Keys,
+) -> Result<Vec<Node>, NoMemory>
+    requires forest { (from : ℕ) × IsForest problem.now from forest.now }
+    requires placed { ArePlaced problem.now forest.now keys.now }
+    ensures { IfOk result (λ nodes. (from : ℕ) (is : IsForest problem.now from forest.now) → AreNodesOf problem.now (subjects_of is.lists keys.now) (length keys.now) nodes.items) }
+{
+    let mut nodes = Vec::with_capacity(alloc, keys.len())?;
+    for k in 0..keys.len() {
+        let ways = ways_of(alloc, problem, forest, keys, k)?;
+        nodes.push(node_of(alloc, ways))?;
+    }
+    Ok(nodes)
+}
+
+// The part of so many positions in which nothing is linked.
+fn nothing_part(alloc: Global, count: usize) -> Result<Part, NoMemory>
+    ensures { IfOk result (λ part. value_of part ≡ nothing_of count) }
+{
+    let choices = vec![in alloc; 0; count]?;
+    Ok(Part {
+        cost: 0,
+        span: 0,
+        choices,
+        links: Vec::new(alloc),
+    })
+}
+
+/// What a listing goes by: the part in which nothing is linked, the nodes, and the node of the whole sentence.
+#[derive(Drop)]
+pub(crate) struct Built {
+    pub nothing: Part,
+    pub table: Table,
+    pub root: Option<usize>,
+}
+
+/// The nodes of a forest of the problem.
+pub(crate) fn build(alloc: Global, problem: &Problem, forest: &Forest) -> Result<Built, NoMemory>
+    requires { (from : ℕ) × IsForest problem.now from forest.now }
+    ensures { IfOk result (λ b. IsListing problem.now (value_of b.nothing) b.table.nodes.items forest.now.unused b.root) }
+{
+    let count = problem.positions().len();
+    let nothing = nothing_part(alloc, count)?;
+    let mut keys = Keys::new(alloc);
+    let root = root_of(problem, forest, &mut keys)?;
+    let nodes = nodes_of(alloc, problem, forest, &keys)?;
+    Ok(Built {
+        nothing,
+        table: Table { nodes },
+        root,
+    })
+}

@@ -1,0 +1,66 @@
+//! Keys and their numbers.
+ghost use Rattle.std.specs.Prelude.{◌≡◌, ◌<◌, [], length, Some, slice_get, MatchOption, OnOk};
+ghost use Rattle.lg_rank.specs.Fronts.{IsIn};
+ghost use Rattle.lg_rank.specs.Keyed.{IsFirstPlace, AddsKey};
+
+use indexmap::IndexSet;
+use lg_base::NoMemory;
+use lg_region::Key;
+use std::alloc::Global;
+use std::marker::Model;
+
+/// Keys, each once. The number of a key is its place, from 0. Contracts see their list.
+#[derive(Drop)]
+pub(crate) struct Keys {
+    items: IndexSet<Key>,
+}
+
+impl Model for Keys {
+    ghost use Rattle.std.specs.Prelude.{List};
+    ghost use Rattle.lg_region.specs.declared.key.Key.{Key as Seen};
+
+    ghost Value = { List Seen };
+
+    ghost view = { λ k. k.items.keys };
+}
+
+impl Keys {
+    /// No keys. No memory.
+    pub fn new(alloc: Global) -> Keys
+        ensures { result ≡ [] }
+    {
+        Keys {
+            items: IndexSet::new(alloc),
+        }
+    }
+
+    /// How many there are.
+    pub fn len(&self) -> usize
+        ensures { result ≡ length self.now }
+    {
+        self.items.len()
+    }
+
+    /// The key of a number.
+    pub fn get(&self, number: usize) -> Key
+        requires { number < length self.now }
+        ensures { slice_get self.now number ≡ Some result }
+    {
+        self.items[number]
+    }
+
+    /// The number of a key. None where the key is not there.
+    pub fn number(&self, key: &Key) -> Option<usize>
+        ensures { MatchOption result (IsIn self.now key.now → ⊥) (IsFirstPlace self.now key.now) }
+    {
+        self.items.get_index_of(key)
+    }
+
+    /// Adds a key. Nothing changes where it is there.
+    pub fn add(&mut self, key: Key) -> Result<(), NoMemory>
+        ensures { OnOk result (AddsKey self.old key self.new) }
+    {
+        self.items.insert(key)?;
+        Ok(())
+    }
+}
