@@ -62,6 +62,7 @@ pub is_forest : (n : Numbering) (positions : List (List Disjunct)) (from to : �
 is_forest n positions from to old table forest le same d first empty asked live once unused =
     subst (λ z. IsForest z from forest) same (record {
       ends = subst (λ z. from ≤ z) (sym unused) le;
+      within = subst (λ z. z ≤ length n.positions) (sym unused) (asked.is_table.valid (Whole to) (asked.there (Whole to) (to, le, omega arith, refl)));
       lists = n.lists;
       numbered = subst (λ z. AreListsOf z n.lists) (sym same) first;
       nodes = λ k. (

@@ -29,6 +29,7 @@ pub record Forest : Type 0 where
 -- demanded keys that have a linkage, each once, and with each its live alternatives.
 pub record IsForest (positions : List (List Disjunct)) (from : ℕ) (forest : Forest) : Type 0 where
   pub ends : from ≤ forest.unused
+  pub within : forest.unused ≤ length positions
   pub lists : List (List Connector)
   pub numbered : AreListsOf positions lists
   pub nodes : (k : Key) → Contains (keys_of forest.entries) k ↔ (IsDemanded positions lists from forest.unused k × HasLinkageUnder positions lists k)

@@ -133,10 +133,6 @@ fn root_of(problem: &Problem, forest: &Forest, keys: &mut Keys) -> Result<Option
     if nulls as usize == count {
         return Ok(None);
     }
-    // no forest has more unlinked words than there are words, but contracts do not see it
-    if nulls as usize > count {
-        return Err(NoMemory);
-    }
     let key = Key::Whole { nulls };
     visit(problem, forest, keys, key)?;
     Ok(keys.number(&key))

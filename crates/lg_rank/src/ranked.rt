@@ -131,8 +131,26 @@ impl Ranked {
         ensures restarted { OnOk result (self.new ≡ record { positions = self.old.positions; nulls = forest.unused; position = 0 }) }
         ensures unchanged { OnErr result (self.new ≡ self.old) }
     {
-        let _ = (alloc, forest);
-        Err(NoMemory)
+        let built = build(alloc, &self.problem, &forest)?;
+        self.turn_to(built, forest.unused());
+        Ok(())
+    }
+
+    // Lists by other nodes of the same problem.
+    fn turn_to(&mut self, built: Built, nulls: u32)
+        requires { IsListing self.old.positions (value_of built.nothing) built.table.nodes.items nulls built.root }
+        ensures { self.new ≡ record { positions = self.old.positions; nulls = nulls; position = 0 } }
+    {
+        let Built {
+            nothing,
+            table,
+            root,
+        } = built;
+        self.nothing = nothing;
+        self.table = table;
+        self.root = root;
+        self.nulls = nulls;
+        self.position = 0;
     }
 
     /// The next linkage, or none where all were given. After an error the next call gives the same one.

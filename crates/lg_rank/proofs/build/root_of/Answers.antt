@@ -5,5 +5,6 @@ use Rattle.lg_rank.proofs.build.root_of.Goals as goal
 
 pub visit-requires-clause-key : goal.visit-requires-clause-key
 visit-requires-clause-key c = λ from is.
-    let less : c.unused-nulls.result < length c.args.problem.now = grind (arith, nat_tests) in
+    let within = is.within in
+    let less : c.unused-nulls.result < length c.args.problem.now = grind (arith, nat_tests, within) in
     root_gets c.args.problem.now from c.args.forest.now is c.unused-nulls.result c.unused-nulls.ensures less
