@@ -26,3 +26,5 @@ pub mod Meaning
 pub mod Ordered
 pub mod Unpacking
 pub mod Listing
+pub mod Nexts
+pub mod Following
