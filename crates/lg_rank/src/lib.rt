@@ -7,6 +7,7 @@ pub mod candidate;
 pub mod law;
 pub mod node;
 pub mod part;
+pub mod queue;
 mod ranked;
 pub mod table;
 pub mod unpack;
