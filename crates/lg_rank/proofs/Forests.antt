@@ -3,12 +3,14 @@ use Rattle.std.proofs.Common.{◌≡◌, ℕ, suc, ◌≤◌, Bool, true, false,
 use Rattle.std.proofs.lemmas.Option.{slice_get_within, slice_get-get_or, get_or_from_slice_get}
 use Rattle.lg_rank.specs.Fronts.{IsFront, Extends}
 use Rattle.lg_rank.specs.Merges.{Makes, PartsAre}
-use Rattle.lg_rank.proofs.Placing.{merged_placed}
+use Rattle.std.specs.BinaryHeap.{heap_items}
+use Rattle.lg_rank.proofs.Placing.{merged_placed, same_seen}
+use Rattle.lg_rank.proofs.Queued.{queue_same}
 use Rattle.lg_rank.proofs.Taking.{same_or}
 use Rattle.lg_rank.specs.Values.{Value, value_cmp, combine}
 use Rattle.lg_rank.specs.Nodes.{Has, no_way, ways_of, way_at, setting, IsForest}
 use Rattle.lg_rank.specs.Nodes.Has.{nothing, made}
-use Rattle.lg_rank.specs.Tables.{place_of, forest_of, values_of, made_in, made_at, parts, IsNode, IsTable, RowsOf, Grown, IsBegun}
+use Rattle.lg_rank.specs.Tables.{place_of, forest_of, values_of, made_in, made_at, parts, held_in, IsNode, IsTable, RowsOf, Grown, IsBegun}
 use Rattle.lg_rank.specs.declared.part.Way.{Way}
 use Rattle.lg_rank.specs.declared.node.Node.{Node}
 use Rattle.lg_rank.specs.declared.node.Row.{Row}
@@ -97,6 +99,10 @@ node_more z forest lists lists' k node more is = record {
   ways = is.ways;
   idle = is.idle;
   busy = λ e. rows_more z forest lists lists' k (length (ways_of forest k)) (values_of node) node.rows.items more (is.busy e);
+  queue = λ e. queue_same (held_in z forest lists k) (held_in z forest lists' k) node.rows.items (heap_items node.queue)
+      (λ j t at. ap (λ q. q.value) (same_seen (setting z forest k) (length (ways_of forest k)) (λ p. lists (way_at forest k p).left) (λ p. lists (way_at forest k p).right) (λ p. lists' (way_at forest k p).left) (λ p. lists' (way_at forest k p).right) (values_of node) z (place_of t)
+      (λ p less. more (way_at forest k p).left) (λ p less. more (way_at forest k p).right) ((is.busy e).each j t at)))
+      (is.queue e);
 }
 
 -- the table after node k became `new`

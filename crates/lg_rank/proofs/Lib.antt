@@ -12,11 +12,11 @@ pub mod Rows
 pub mod Growing
 pub mod Listed
 pub mod Placing
-pub mod Links
 pub mod Compared
 pub mod Places
-pub mod Forests
 pub mod Choosing
+pub mod Queued
+pub mod Forests
 pub mod Reading
 pub mod Steps
 pub mod Packing
@@ -30,3 +30,5 @@ pub mod Keyed
 pub mod Walking
 pub mod Building
 pub mod Numbers
+pub mod Nexts
+pub mod Following

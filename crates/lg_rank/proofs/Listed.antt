@@ -40,10 +40,10 @@ same_first {V} {cmp} total Has a b made all f l =
     above (suc k) e less = less_not total a a (total.trans a b a (f.rise 0 (suc k) a b (omega arith) refl e) less) refl
 
 -- what comes after the first
-abbrev After : {V : Type 0} → (V → V → Ordering) → (V → Type 0) → V → V → Type 0
+abbrev pub After : {V : Type 0} → (V → V → Ordering) → (V → Type 0) → V → V → Type 0
 After cmp Has a v = Has v × (cmp a v ≡ Less)
 
-front_after : {V : Type 0} {cmp : V → V → Ordering} → IsTotalOrder cmp → (Has : V → Type 0) (a : V) (made : List V) → IsFront cmp Has (a ∷ made) → IsFront cmp (After cmp Has a) made
+pub front_after : {V : Type 0} {cmp : V → V → Ordering} → IsTotalOrder cmp → (Has : V → Type 0) (a : V) (made : List V) → IsFront cmp Has (a ∷ made) → IsFront cmp (After cmp Has a) made
 front_after {V} {cmp} total Has a made f = record {
   rise = λ i j x y less p q. f.rise (suc i) (suc j) x y (omega arith) p q;
   sound = λ i x p. (f.sound (suc i) x p, f.rise 0 (suc i) a x (omega arith) refl p);

@@ -86,7 +86,7 @@ paired_out P (t ∷ gs) (w ∷ vs) h g i =
       | inr j ↦ (let r = paired_out P gs vs h.1 g j in (r.0, contains_later w vs r.0 r.1, r.2))
     ]
 
-paired_some : (P : Linkage → Value → Type 0) (gs : List Linkage) (vs : List Value) → Paired P gs vs → (i : ℕ) (v : Value) → slice_get vs i ≡ Some v → (g : Linkage) × (slice_get gs i ≡ Some g) × P g v
+pub paired_some : (P : Linkage → Value → Type 0) (gs : List Linkage) (vs : List Value) → Paired P gs vs → (i : ℕ) (v : Value) → slice_get vs i ≡ Some v → (g : Linkage) × (slice_get gs i ≡ Some g) × P g v
 paired_some P [] [] h i v e = absurd cc
 paired_some P [] (w ∷ vs) h i v e = absurd h
 paired_some P (g ∷ gs) [] h i v e = absurd h
@@ -110,7 +110,7 @@ paired_rise P order (g ∷ gs) (v ∷ vs) h up =
     order g r.0 v w h.0 r.2 (All-contains (λ t. linkage_cmp g t ≡ Less) gs r.0 (All-from_recursion (λ t. linkage_cmp g t ≡ Less) gs up.0) r.1)) in
     (recursion_from_All (λ w. value_cmp v w ≡ Less) vs (λ k d l. first (get_or vs k d) (Contains-get_or vs k d l)), paired_rise P order gs vs h.1 up.1)
 
-numbers_of : Laws → (positions : List (List Disjunct)) (z : Value) (nodes : List Node) (nulls : ℕ) (root : Option ℕ) (g : Linkage) → IsListing positions z nodes nulls root → UnderWhole positions nulls g → (v : Value) × IsPacked positions g v
+pub numbers_of : Laws → (positions : List (List Disjunct)) (z : Value) (nodes : List Node) (nulls : ℕ) (root : Option ℕ) (g : Linkage) → IsListing positions z nodes nulls root → UnderWhole positions nulls g → (v : Value) × IsPacked positions g v
 numbers_of laws positions z nodes nulls (Some k) g is u = laws.stand.numbers positions z (forest_of nodes) is.subjects k g is.forest is.root_is.0 (subst (λ (s : Subject). IsUnder positions s g) (sym is.root_is.1) u)
 numbers_of laws positions z nodes nulls None g is u = (let a = laws.sentences.some positions nulls g u in (z, subst (λ t. IsPacked positions t z) (sym (only_one positions nulls g a.0 is.root_is a.1 a.2)) is.forest.nothing))
 

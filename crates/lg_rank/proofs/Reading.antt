@@ -47,13 +47,15 @@ pub row_is : (z : Value) (n : List Node) (k m : ℕ) (r : Row) → IsTable z n �
     → IsRow (setting z (forest_of n) k) (length (ways_of (forest_of n) k)) (λ p. parts z n (way_at (forest_of n) k p).left) (λ p. parts z n (way_at (forest_of n) k p).right) (values_of b.node) (seen z (forest_of n) (parts z n) k r)
 row_is z n k m r table b at = ((table k b.node b.here).busy b.begun).each m r ((λ i. slice_get (sym (rows_are n k b) i) m) ∙ at)
 
-pub live_holds : (z : Value) (n : List Node) (k m : ℕ) (r : Row) → IsTable z n → IsBegun n k → slice_get (rows_at n k) m ≡ Some r → r.live ≡ true → Holds z n k r
-live_holds z n k m r table b at live =
-    let is = row_is z n k m r table b at in
+pub row_holds : (z : Value) (n : List Node) (k : ℕ) (made : List Value) (r : Row) → IsRow (setting z (forest_of n) k) (length (ways_of (forest_of n) k)) (λ p. parts z n (way_at (forest_of n) k p).left) (λ p. parts z n (way_at (forest_of n) k p).right) made (seen z (forest_of n) (parts z n) k r) → r.live ≡ true → Holds z n k r
+row_holds z n k made r is live =
     let w = way_at (forest_of n) k r.way in
-    let ahead : Ahead (setting z (forest_of n) k) (parts z n w.left) (values_of b.node) r.way r.next is.y (Some (value_at z n k r)) =
-    subst (λ (t : Bool). Ahead (setting z (forest_of n) k) (parts z n w.left) (values_of b.node) r.way r.next is.y (held t (value_at z n k r))) live is.ahead in
+    let ahead : Ahead (setting z (forest_of n) k) (parts z n w.left) made r.way r.next is.y (Some (value_at z n k r)) =
+    subst (λ (t : Bool). Ahead (setting z (forest_of n) k) (parts z n w.left) made r.way r.next is.y (held t (value_at z n k r))) live is.ahead in
     record { way_in = is.alt_in; left = slice_get_within (parts z n w.left) r.next ahead.0 ahead.1; right = slice_get_within (parts z n w.right) r.at is.y is.y_at }
+
+pub live_holds : (z : Value) (n : List Node) (k m : ℕ) (r : Row) → IsTable z n → IsBegun n k → slice_get (rows_at n k) m ≡ Some r → r.live ≡ true → Holds z n k r
+live_holds z n k m r table b at live = row_holds z n k (values_of b.node) r (row_is z n k m r table b at) live
 
 held_live : (b : Bool) (v w : Value) → held b v ≡ Some w → (b ≡ true) × (v ≡ w)
 held_live false v w e = absurd cc

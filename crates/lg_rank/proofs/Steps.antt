@@ -5,9 +5,14 @@ use Rattle.std.proofs.lemmas.Option.{slice_get_within, slice_get-get_or, get_or_
 use Rattle.lg_rank.specs.Fronts.{IsIn, IsAll, AtMost, Extends}
 use Rattle.lg_rank.specs.Merges.{Turn, Begins, Following, held}
 use Rattle.lg_base.specs.declared.memory.NoMemory.{NoMemory}
+use Rattle.lg_rank.specs.Queues.{waiting_list, IsQueue, IsFirstAt, IsWaiting, IsOpened}
+use Rattle.lg_rank.specs.declared.queue.Waiting.{Waiting}
+use Rattle.std.specs.BinaryHeap.{heap_items}
+use Rattle.std.specs.Cmp.{IsTotalOrder}
+use Rattle.lg_rank.proofs.Queued.{waits_permuted, waits_turn, one_at, first_makes, first_value, first_least, none_made}
 use Rattle.lg_rank.specs.Values.{Value, value_of, value_cmp, combine, IsSmall, IsSmallWay}
 use Rattle.lg_rank.specs.Nodes.{Has, ways_of, way_at, setting, IsForest}
-use Rattle.lg_rank.specs.Tables.{seen, forest_of, values_of, made_in, made_at, parts, IsNode, IsTable, RowsOf, Grown, IsNth, IsBegun, IsIdle, IsWayOf, Holds, value_at, held_by, rows_in, rows_at, GoesOn, IsFirst, IsFirstOf, Begin, SpentBelow, LeastBelow, BestBelow, Chosen, Puts, IsSameNode, Starts, Stepped, Advances, row_list}
+use Rattle.lg_rank.specs.Tables.{seen, forest_of, values_of, made_in, made_at, parts, IsNode, IsTable, RowsOf, Grown, IsNth, IsBegun, IsIdle, IsWayOf, Holds, value_at, held_by, rows_in, rows_at, queue_in, queue_at, GoesOn, IsFirst, IsFirstOf, Begin, IsLeastRow, Chosen, Puts, IsSameNode, Starts, Stepped, Advances, row_list}
 use Rattle.lg_rank.specs.declared.part.Part.{Part}
 use Rattle.lg_rank.specs.declared.part.Way.{Way}
 use Rattle.lg_rank.specs.declared.node.Choice.{Choice}
@@ -18,7 +23,7 @@ use Rattle.lg_rank.proofs.Elements.{push_old}
 use Rattle.lg_rank.proofs.Forests.{rows_more, parts_front, parts_are, has_makes, table_set, grown_set, more_parts, begun_more}
 use Rattle.lg_rank.proofs.Growing.{merged_none, merged_begun, merged_passed}
 use Rattle.lg_rank.proofs.Places.{set_here}
-use Rattle.lg_rank.proofs.Reading.{live_holds, held_is, held_grown}
+use Rattle.lg_rank.proofs.Reading.{row_holds, live_holds, held_is, held_grown}
 use Rattle.lg_rank.proofs.Rows.{merged_more}
 use Rattle.lg_rank.proofs.Taking.{same_or}
 
@@ -77,6 +82,9 @@ rows_begun z n k p w rows (Some b) is h f =
 pub begin_none : (z : Value) (n : List Node) (k : ℕ) → RowsOf z (forest_of n) (parts z n) k 0 [] []
 begin_none z n k = merged_none (setting z (forest_of n) k) (seen z (forest_of n) (parts z n) k) (λ q. parts z n (way_at (forest_of n) k q).left) (λ q. parts z n (way_at (forest_of n) k q).right)
 
+pub begin_holds : (z : Value) (n : List Node) (k i : ℕ) (rows : List Row) (d : Row) → RowsOf z (forest_of n) (parts z n) k (length (ways_of (forest_of n) k)) [] rows → i < length rows → (get_or rows i d).live ≡ true → Holds z n k (get_or rows i d)
+begin_holds z n k i rows d all less live = row_holds z n k [] (get_or rows i d) (all.each i (get_or rows i d) (slice_get-get_or rows i d less)) live
+
 pub begin_step : (z : Value) (b : ℕ) (m n slice : List Node) (k p : ℕ) (w : Way) (rows rows' : List Row) (first : Option Row) → slice ≡ m → IsWayOf slice k p w → Grown b m n → RowsOf z (forest_of m) (parts z m) k p [] rows → IsFirstOf z n p w 0 first → rows' ≡ rows ++ row_list first
     → RowsOf z (forest_of n) (parts z n) k (p + 1) [] rows'
 begin_step z b m n slice k p w rows rows' first e way g h f r =
@@ -90,13 +98,22 @@ begin_all z b m n k p count rows g low high e h =
     let is : p ≡ length (ways_of (forest_of n) k) = same ∙ (λ i. length (ways_of (sym g.forest i) k)) in
     subst (λ (q : ℕ). RowsOf z (forest_of n) (parts z n) k q [] rows) is h
 
+-- the same of slices of them
+pub begin_slices : (z : Value) (n slice : List Node) (k : ℕ) (rows few : List Row) → slice ≡ n → few ≡ rows → RowsOf z (forest_of n) (parts z n) k (length (ways_of (forest_of n) k)) [] rows → RowsOf z (forest_of slice) (parts z slice) k (length (ways_of (forest_of slice) k)) [] few
+begin_slices z n slice k rows few e f h =
+    subst (λ (l : List Row). RowsOf z (forest_of slice) (parts z slice) k (length (ways_of (forest_of slice) k)) [] l) (sym f) (subst (λ (m : List Node). RowsOf z (forest_of m) (parts z m) k (length (ways_of (forest_of m) k)) [] rows) (sym e) h)
+
+pub queue_slices : (z : Value) (n slice : List Node) (k : ℕ) (rows few : List Row) (queue : List Waiting) → slice ≡ n → few ≡ rows → IsQueue (held_by z slice k) few queue → IsQueue (held_by z n k) rows queue
+queue_slices z n slice k rows few queue e f h = subst (λ (l : List Row). IsQueue (held_by z n k) l queue) f (subst (λ (m : List Node). IsQueue (held_by z m k) few queue) e h)
+
 same_made : (old new : Node) → new.made.items ≡ old.made.items → Extends (values_of old) (values_of new)
 same_made old new e = λ i v p. (λ j. slice_get (map value_of (e j)) i) ∙ p
 
-pub started : (z : Value) (n : List Node) (k : ℕ) (node new : Node) (rows : List Row) → IsTable z n → (b : IsIdle n k) → node ≡ get_or n k node → Starts node rows new → RowsOf z (forest_of n) (parts z n) k (length (ways_of (forest_of n) k)) [] rows → Stepped z n (set n k new) k
-started z n k node new rows table b at starts' all =
+pub started : (z : Value) (n : List Node) (k : ℕ) (node new : Node) (rows : List Row) (queue : List Waiting) → IsTable z n → (b : IsIdle n k) → node ≡ get_or n k node → Starts node rows queue new → RowsOf z (forest_of n) (parts z n) k (length (ways_of (forest_of n) k)) [] rows → IsQueue (held_by z n k) rows queue
+    → Stepped z n (set n k new) k
+started z n k node new rows queue table b at starts' all waits =
     let e : node ≡ b.node = at ∙ get_or_from_slice_get n k b.node node b.here in
-    let starts : Starts b.node rows new = subst (λ (t : Node). Starts t rows new) e starts' in
+    let starts : Starts b.node rows queue new = subst (λ (t : Node). Starts t rows queue new) e starts' in
     let is = table k b.node b.here in
     let empty : values_of new ≡ [] = (λ i. map value_of (starts.made i)) ∙ is.idle b.idle in
     let more = same_made b.node new starts.made in
@@ -105,6 +122,7 @@ started z n k node new rows table b at starts' all =
       ways = starts.ways ∙ is.ways;
       idle = λ f. empty;
       busy = λ f. subst (λ (t : List Value). RowsOf z (forest_of n) (parts z n) k size t new.rows.items) (sym empty) (subst (λ (t : List Row). RowsOf z (forest_of n) (parts z n) k size [] t) (sym starts.rows_are) all);
+      queue = λ f. subst (λ (t : List Row). IsQueue (held_by z n k) t (heap_items new.queue)) (sym starts.rows_are) (subst (λ (q : List Waiting). IsQueue (held_by z n k) rows q) (sym starts.queue_is) waits);
     } in
     record { table = table_set z n k b.node new table b.here starts.ways more new_is; grown = grown_set n k b.node new b.here starts.ways more; begun = record { node = new; here = set_here n k new (slice_get_within n k b.node b.here); begun = starts.begun } }
 
@@ -124,8 +142,19 @@ chosen_least z n k c table h =
     record {
       holds = live_holds z n k c.place c.row table h.begun h.row is.0;
       live = live ∙ ap Some (sym is.1);
-      least = λ j t v p e. subst (λ (x : Value). AtMost value_cmp x v) (sym is.1) (b.least j t v (slice_get_within (rows_at n k) j t p) p e);
+      least = λ j t v p e. subst (λ (x : Value). AtMost value_cmp x v) (sym is.1) (b.least j t v p e);
     }
+
+-- the queue of a node that is begun
+queue_is : (z : Value) (n : List Node) (k : ℕ) → IsTable z n → IsBegun n k → IsQueue (held_by z n k) (rows_at n k) (queue_at n k)
+queue_is z n k table b = subst (λ (o : Option Node). IsQueue (held_by z n k) (rows_in o) (queue_in o)) (sym b.here) ((table k b.node b.here).queue b.begun)
+
+-- the first of the queue is the least row
+pub least_first : (z : Value) (n : List Node) (k m : ℕ) → IsTotalOrder value_cmp → IsTable z n → IsBegun n k → IsFirstAt (queue_at n k) m → IsLeastRow (held_by z n k) (rows_at n k) m
+least_first z n k m total table b f =
+    let q = queue_is z n k table b in
+    let a = first_makes (held_by z n k) (rows_at n k) (queue_at n k) m q.waits f in
+    record { row = a.row; here = a.here; value = value_of f.first.part; live = a.value; least = first_least (held_by z n k) (rows_at n k) (queue_at n k) m total q f }
 
 pub chosen_left : (z : Value) (n slice : List Node) (k : ℕ) (c : Choice) → slice ≡ n → IsTable z n → Chosen z slice k c → c.row.next < length (parts z n c.way.left)
 chosen_left z n slice k c e table h' =
@@ -135,8 +164,8 @@ chosen_left z n slice k c e table h' =
 pub chosen_right : (z : Value) (n : List Node) (k : ℕ) (c : Choice) → IsTable z n → Chosen z n k c → c.row.at < length (parts z n c.way.right)
 chosen_right z n k c table h = subst (λ (w : Way). c.row.at < length (parts z n w.right)) (sym h.way.is) (chosen_least z n k c table h).holds.right
 
-least_along : (f g : Row → Option Value) (rows : List Row) (n m : ℕ) → ((j : ℕ) (t : Row) → slice_get rows j ≡ Some t → f t ≡ g t) → LeastBelow f rows n m → LeastBelow g rows n m
-least_along f g rows n m same b = record { row = b.row; here = b.here; value = b.value; live = sym (same m b.row b.here) ∙ b.live; least = λ k t v less p e. b.least k t v less p (same k t p ∙ e) }
+least_along : (f g : Row → Option Value) (rows : List Row) (m : ℕ) → ((j : ℕ) (t : Row) → slice_get rows j ≡ Some t → f t ≡ g t) → IsLeastRow f rows m → IsLeastRow g rows m
+least_along f g rows m same b = record { row = b.row; here = b.here; value = b.value; live = sym (same m b.row b.here) ∙ b.live; least = λ k t v p e. b.least k t v p (same k t p ∙ e) }
 
 pub chosen_grown : (z : Value) (m n : List Node) (k : ℕ) (c : Choice) → IsTable z m → Grown k m n → Chosen z m k c → Chosen z n k c
 chosen_grown z m n k c table g h =
@@ -144,7 +173,8 @@ chosen_grown z m n k c table g h =
     record {
       begun = begun_more k k m n (omega arith) g h.begun;
       row = (λ i. slice_get (rows i) c.place) ∙ h.row;
-      least = subst (λ (t : List Row). LeastBelow (held_by z n k) t (length t) c.place) (sym rows) (least_along (held_by z m k) (held_by z n k) (rows_at m k) (length (rows_at m k)) c.place (λ j t p. held_grown z k m n k j t table h.begun g p) h.least);
+      least = subst (λ (t : List Row). IsLeastRow (held_by z n k) t c.place) (sym rows) (least_along (held_by z m k) (held_by z n k) (rows_at m k) c.place (λ j t p. held_grown z k m n k j t table h.begun g p) h.least);
+      first = subst (λ (q : List Waiting). IsFirstAt q c.place) (sym (ap queue_in (g.above k (omega arith)))) h.first;
       way = record { is = h.way.is ∙ (λ i. way_at (sym g.forest i) k c.row.way); left = h.way.left; right = h.way.right };
     }
 
@@ -157,6 +187,30 @@ goes_on_grown z b m n w r after g h = record { way = h.way; at = h.at; next = h.
 
 pub first_made : (z : Value) (b : ℕ) (m n : List Node) (p : ℕ) (w : Way) (j : ℕ) → Grown b m n → IsNth z m w.left 0 true → IsNth z n w.right j true → IsFirst z n p w j (row_made p j 0 true)
 first_made z b m n p w j g left right = record { way = refl; at = refl; next = refl; live = refl; left = nth_grown z b m n w.left 0 true g left; right = right }
+
+-- ---- what the rows that go on or begin make
+pub after_holds : (z : Value) (n : List Node) (k : ℕ) (c : Choice) (after : Row) → IsTable z n → Chosen z n k c → GoesOn z n c.way c.row after → after.live ≡ true → Holds z n k after
+after_holds z n k c after table chosen goes' live =
+    let r = c.row in
+    let w = way_at (forest_of n) k r.way in
+    let goes : GoesOn z n w r after = subst (λ (v : Way). GoesOn z n v r after) chosen.way.is goes' in
+    let h = (chosen_least z n k c table chosen).holds in
+    let is : row_made r.way r.at (suc r.next) after.live ≡ after = λ i. record { way = sym goes.way i; at = sym goes.at i; next = sym goes.next i; live = after.live } in
+    subst (λ (t : Row). Holds z n k t) is (record { way_in = h.way_in; left = subst (λ (b : Bool). IsNth z n w.left (suc r.next) b) live goes.live; right = h.right })
+
+pub first_holds : (z : Value) (n : List Node) (k : ℕ) (c : Choice) (first : Option Row) (b : Row) → IsTable z n → Chosen z n k c → Begin z n c.way c.row first → first ≡ Some b → Holds z n k b
+first_holds z n k c first b table chosen begin' e =
+    let r = c.row in
+    let w = way_at (forest_of n) k r.way in
+    let begin : Begin z n w r first = subst (λ (v : Way). Begin z n v r first) chosen.way.is begin' in
+    let h = (chosen_least z n k c table chosen).holds in
+    elim (same_or r.next 0) [
+      | inl now ↦
+          let f : IsFirst z n r.way w (suc r.at) b = subst (λ (o : Option Row). IsFirstOf z n r.way w (suc r.at) o) e (begin.now now) in
+          let is : row_made r.way (suc r.at) 0 b.live ≡ b = λ i. record { way = sym f.way i; at = sym f.at i; next = sym f.next i; live = b.live } in
+          subst (λ (t : Row). Holds z n k t) is (record { way_in = h.way_in; left = f.left; right = f.right })
+      | inr later ↦ absurd (let q = begin.later later in let g : ◌≡◌ {A = Option Row} None (Some b) = sym q ∙ e in cc)
+    ]
 
 -- ---- the value is taken
 follows : (z : Value) (n : List Node) (k p i : ℕ) (y : Value) (rs : List Value) (j : ℕ) (b : Bool) → slice_get rs j ≡ Some y → IsNth z n (way_at (forest_of n) k p).left i b
@@ -226,24 +280,35 @@ pushed_long : (xs : List Value) (v : Value) → length (xs ++ v ∷ []) ≡ leng
 pushed_long [] v = refl
 pushed_long (x ∷ xs) v = (let r = pushed_long xs v in omega arith)
 
-pub took : (z : Value) (n : List Node) (k : ℕ) (c : Choice) (part : Part) (after : Row) (first : Option Row) (node new : Node) → Ready z n k c after first → slice_get n k ≡ Some node → value_of part ≡ value_at z n k c.row → Puts node c.place part after first new
+pub took : (z : Value) (n : List Node) (k : ℕ) (c : Choice) (after : Row) (first : Option Row) (again opened : Option Waiting) (node new : Node) → Ready z n k c after first → slice_get n k ≡ Some node → IsWaiting (held_by z n k) c.place after again → IsOpened (held_by z n k) (length (rows_at n k)) first opened → Puts node c.place after first again opened new
     → Stepped z n (set n k new) k × (length (made_at (set n k new) k) ≡ length (made_at n k) + 1)
-took z n k c part after first node new t here value puts =
+took z n k c after first again opened node new t here goes opens puts =
     let v = value_at z n k c.row in
     let b = t.chosen.begun in
     let same : b.node ≡ node = (let p = b.here in cc) in
-    let begun : node.begun ≡ true = ap (λ (q : Node). q.begun) (sym same) ∙ b.begun in
+    let begun : node.begun ≡ true = (λ i. (sym same i).begun) ∙ b.begun in
     let is = t.table k node here in
     let size = length (ways_of (forest_of n) k) in
-    let values : values_of new ≡ values_of node ++ v ∷ [] = (λ i. map value_of (puts.made i)) ∙ pushed node.made.items part ∙ (λ i. values_of node ++ value i ∷ []) in
+    let rows : rows_at n k ≡ node.rows.items = ap rows_in here in
+    let queue = is.queue begun in
+    let f : IsFirstAt (heap_items node.queue) c.place = subst (λ (q : List Waiting). IsFirstAt q c.place) (ap queue_in here) t.chosen.first in
+    let top = one_at (heap_items node.queue) 0 f.first puts.queue.first f.here puts.queue.here in
+    let live : held_by z n k c.row ≡ Some (value_of f.first.part) = first_value (held_by z n k) node.rows.items (heap_items node.queue) c.place c.row queue.waits f ((λ i. slice_get (sym rows i) c.place) ∙ t.chosen.row) in
+    let value : value_of puts.part ≡ v = ap value_of puts.queue.part_is ∙ (λ i. value_of (sym top i).part) ∙ sym (held_is z n k c.row (value_of f.first.part) live).1 in
+    let waits = waits_permuted (held_by z n k) new.rows.items (waiting_list opened ++ (waiting_list again ++ puts.queue.rest)) (heap_items new.queue) puts.queue.put
+    (waits_turn (held_by z n k) node.rows.items c.place after first new.rows.items puts.queue.first again opened puts.queue.rest
+    (waits_permuted (held_by z n k) node.rows.items (heap_items node.queue) (puts.queue.first ∷ puts.queue.rest) puts.queue.taken queue.waits) ((λ i. (sym top i).place) ∙ f.place) puts.rows goes
+    (subst (λ (l : List Row). IsOpened (held_by z n k) (length l) first opened) rows opens)) in
+    let values : values_of new ≡ values_of node ++ v ∷ [] = (λ i. map value_of (puts.made i)) ∙ pushed node.made.items puts.part ∙ (λ i. values_of node ++ value i ∷ []) in
     let more : Extends (values_of node) (values_of new) = subst (λ (l : List Value). Extends (values_of node) l) (sym values) (λ i x p. push_old (values_of node) v i x p) in
     let next : RowsOf z (forest_of n) (parts z n) k size (values_of node ++ v ∷ []) new.rows.items =
     merged_more (setting z (forest_of n) k) (seen z (forest_of n) (parts z n) k) size (t.forest.laws k) (λ p. parts z n (way_at (forest_of n) k p).left) (λ p. parts z n (way_at (forest_of n) k p).right) (values_of node) node.rows.items (is.busy begun) (parts_are z n t.table k size)
-    c.place c.row v after first new.rows.items (turn z n k c after first t node.rows.items (sym (ap rows_in here))) puts.rows in
+    c.place c.row v after first new.rows.items (turn z n k c after first t node.rows.items (sym rows)) puts.rows in
     let new_is : IsNode z (forest_of n) (parts z n) k new = record {
       ways = puts.ways ∙ is.ways;
       idle = λ e. absurd (true_false new.begun (puts.begun ∙ begun) e);
       busy = λ e. subst (λ (l : List Value). RowsOf z (forest_of n) (parts z n) k size l new.rows.items) (sym values) next;
+      queue = λ e. record { heap = puts.queue.heap queue.heap; waits = waits };
     } in
     let here' = set_here n k new (slice_get_within n k node here) in
     let old : made_at n k ≡ values_of node = ap made_in here in
@@ -264,15 +329,15 @@ unchanged z n k node new table b here same =
       ways = same.ways ∙ is.ways;
       idle = λ e. absurd (true_false new.begun (same.begun ∙ begun) e);
       busy = λ e. subst (λ (l : List Part). RowsOf z (forest_of n) (parts z n) k size (map value_of l) new.rows.items) (sym same.made) (subst (λ (l : List Row). RowsOf z (forest_of n) (parts z n) k size (values_of node) l) (sym same.rows) (is.busy begun));
+      queue = λ e. subst (λ (l : List Row). IsQueue (held_by z n k) l (heap_items new.queue)) (sym same.rows) (subst (λ (q : List Waiting). IsQueue (held_by z n k) node.rows.items q) (sym same.queue) (is.queue begun));
     } in
     record { table = table_set z n k node new table here same.ways more new_is; grown = grown_set n k node new here same.ways more; begun = record { node = new; here = set_here n k new (slice_get_within n k node here); begun = same.begun ∙ begun } }
 
--- no row holds a value, so all are there
-pub all_made : (z : Value) (n : List Node) (k : ℕ) → IsForest z (forest_of n) → IsTable z n → IsBegun n k → SpentBelow (held_by z n k) (rows_at n k) (length (rows_at n k)) → IsAll (Has z (forest_of n) (Some k)) (made_at n k)
-all_made z n k forest table b spent v h =
+-- no row waits, so all are there
+pub all_made : (z : Value) (n : List Node) (k : ℕ) → IsForest z (forest_of n) → IsTable z n → IsBegun n k → queue_at n k ≡ [] → IsAll (Has z (forest_of n) (Some k)) (made_at n k)
+all_made z n k forest table b empty v h =
     let size = length (ways_of (forest_of n) k) in
-    let rows : rows_at n k ≡ b.node.rows.items = ap rows_in b.here in
-    let none : (j : ℕ) (t : Row) → slice_get b.node.rows.items j ≡ Some t → held_by z n k t ≡ None = λ j t p. (let q : slice_get (rows_at n k) j ≡ Some t = (λ i. slice_get (rows i) j) ∙ p in spent j t (slice_get_within (rows_at n k) j t q) q) in
+    let none : (j : ℕ) (t : Row) → slice_get b.node.rows.items j ≡ Some t → held_by z n k t ≡ None = none_made (held_by z n k) b.node.rows.items (heap_items b.node.queue) (sym (ap queue_in b.here) ∙ empty) ((table k b.node b.here).queue b.begun).waits in
     let i = finished (setting z (forest_of n) k) (seen z (forest_of n) (parts z n) k) size (forest.laws k) (λ p. parts z n (way_at (forest_of n) k p).left) (λ p. parts z n (way_at (forest_of n) k p).right) (values_of b.node) b.node.rows.items ((table k b.node b.here).busy b.begun) (parts_are z n table k size) none v (has_makes z (forest_of n) (Some k) v k h refl) in
     subst (λ (o : Option Node). IsIn (made_in o) v) (sym b.here) i
 
@@ -289,28 +354,23 @@ candidate_sound z n k r w x y forest table h way p q = (
   forest.small w.right y ((parts_front z n table w.right).sound r.at y q),
 )
 
--- the value of the row that is the least so far
-pub least_value : (z : Value) (n : List Node) (k i m : ℕ) (r : Row) → LeastBelow (held_by z n k) (rows_at n k) i m → slice_get (rows_at n k) m ≡ Some r → (b : LeastBelow (held_by z n k) (rows_at n k) i m) × (r.live ≡ true) × (value_at z n k r ≡ b.value)
-least_value z n k i m r b at =
+-- the least row makes something
+pub least_live : (z : Value) (n : List Node) (k m : ℕ) (r : Row) → IsLeastRow (held_by z n k) (rows_at n k) m → slice_get (rows_at n k) m ≡ Some r → r.live ≡ true
+least_live z n k m r b at =
     let same : b.row ≡ r = (let p = b.here in cc) in
-    let live = held_is z n k r b.value (ap (held_by z n k) (sym same) ∙ b.live) in
-    (b, live.0, live.1)
+    (held_is z n k r b.value (ap (held_by z n k) (sym same) ∙ b.live)).0
 
-pub best_is : (f : Row → Option Value) (rows : List Row) (i m : ℕ) (best : Option ℕ) → best ≡ Some m → BestBelow f rows i best → LeastBelow f rows i m
-best_is f rows i m best e b = subst (λ (o : Option ℕ). BestBelow f rows i o) e b
-
-pub spent_is : (f : Row → Option Value) (rows : List Row) (i : ℕ) (best : Option ℕ) → best ≡ None → BestBelow f rows i best → SpentBelow f rows i
-spent_is f rows i best e b = subst (λ (o : Option ℕ). BestBelow f rows i o) e b
-
-pub place_in : (z : Value) (n : List Node) (k : ℕ) (c : Choice) (node : Node) → Chosen z n k c → node ≡ get_or n k node → slice_get n k ≡ Some node × (c.place < length node.rows.items)
+pub place_in : (z : Value) (n : List Node) (k : ℕ) (c : Choice) (node : Node) → Chosen z n k c → node ≡ get_or n k node → slice_get n k ≡ Some node × (c.place < length node.rows.items) × IsFirstAt (heap_items node.queue) c.place
 place_in z n k c node h at =
     let b = h.begun in
     let same : node ≡ b.node = at ∙ get_or_from_slice_get n k b.node node b.here in
     let here : slice_get n k ≡ Some node = b.here ∙ ap Some (sym same) in
     let rows : rows_at n k ≡ node.rows.items = ap rows_in here in
-    (here, subst (λ (l : List Row). c.place < length l) rows (slice_get_within (rows_at n k) c.place c.row h.row))
+    (here, subst (λ (l : List Row). c.place < length l) rows (slice_get_within (rows_at n k) c.place c.row h.row), subst (λ (q : List Waiting). IsFirstAt q c.place) (ap queue_in here) h.first)
 
-pub took_either : (z : Value) (n : List Node) (k : ℕ) (c : Choice) (part : Part) (after : Row) (first : Option Row) (node new : Node) (result : Result (Unit {0}) NoMemory) → Ready z n k c after first → node ≡ get_or n k node → value_of part ≡ value_at z n k c.row
-    → OnOk result (Puts node c.place part after first new) → OnErr result (IsSameNode node new) → Stepped z n (set n k new) k × OnOk result (length (made_at (set n k new) k) ≡ length (made_at n k) + 1)
-took_either z n k c part after first node new (Ok u) t at value ok err = took z n k c part after first node new t (place_in z n k c node t.chosen at).0 value ok
-took_either z n k c part after first node new (Err e) t at value ok err = (unchanged z n k node new t.table t.chosen.begun (place_in z n k c node t.chosen at).0 err, tt)
+-- the part was taken, or the node was left as it was
+pub took_either : (z : Value) (n one two : List Node) (k : ℕ) (c : Choice) (after : Row) (first : Option Row) (again opened : Option Waiting) (node new : Node) (result : Result (Unit {0}) NoMemory) → Ready z n k c after first → node ≡ get_or n k node → one ≡ n → two ≡ n → IsWaiting (held_by z one k) c.place after again
+    → IsOpened (held_by z two k) (length (rows_at two k)) first opened → OnOk result (Puts node c.place after first again opened new) → OnErr result (IsSameNode node new) → Stepped z n (set n k new) k × OnOk result (length (made_at (set n k new) k) ≡ length (made_at n k) + 1)
+took_either z n one two k c after first again opened node new (Ok u) t at e f goes opens ok err =
+    took z n k c after first again opened node new t (place_in z n k c node t.chosen at).0 (subst (λ (m : List Node). IsWaiting (held_by z m k) c.place after again) e goes) (subst (λ (m : List Node). IsOpened (held_by z m k) (length (rows_at m k)) first opened) f opens) ok
+took_either z n one two k c after first again opened node new (Err w) t at e f goes opens ok err = (unchanged z n k node new t.table t.chosen.begun (place_in z n k c node t.chosen at).0 err, tt)

@@ -4,6 +4,7 @@ pub mod Merges
 pub mod Values
 pub mod Candidates
 pub mod Nodes
+pub mod Queues
 pub mod Tables
 pub mod Meanings
 pub mod Rankings

@@ -1,7 +1,10 @@
 -- A table of nodes, each with the values that were made so far.
-use Rattle.std.specs.Prelude.{◌≡◌, ◌≢◌, ℕ, suc, ◌+◌, ◌<◌, ◌≤◌, Bool, true, false, List, [], ◌∷◌, ◌++◌, ◌⊎◌, length, Option, Some, None, MatchOption, slice_get, slice_index_or, map}
+use Rattle.std.specs.Prelude.{◌≡◌, ◌≢◌, ℕ, suc, ◌+◌, ◌<◌, ◌≤◌, Bool, true, false, List, [], ◌∷◌, ◌++◌, ◌⊎◌, length, Option, Some, None, slice_get, slice_index_or, map}
+use Rattle.std.specs.BinaryHeap.{heap_items, heap_len, heap_capacity}
+use Rattle.std.specs.Vec.{vec_len, vec_capacity}
 use Rattle.lg_rank.specs.Fronts.{IsAll, Extends, AtMost}
 use Rattle.lg_rank.specs.Merges.{Merged, Advanced, PlaceRow, Row as Seen, seen_by}
+use Rattle.lg_rank.specs.Queues.{IsQueue, IsFirstAt, Requeued}
 use Rattle.lg_rank.specs.Values.{Value, value_of, value_cmp, combine}
 use Rattle.lg_rank.specs.Nodes.{Has, ways_of, way_at, setting}
 use Rattle.lg_rank.specs.declared.part.Part.{Part}
@@ -9,6 +12,7 @@ use Rattle.lg_rank.specs.declared.part.Way.{Way}
 use Rattle.lg_rank.specs.declared.node.Choice.{Choice}
 use Rattle.lg_rank.specs.declared.node.Row.{Row}
 use Rattle.lg_rank.specs.declared.node.Node.{Node}
+use Rattle.lg_rank.specs.declared.queue.Waiting.{Waiting}
 
 abbrev pub forest_of : List Node → List (List Way)
 forest_of nodes = map (λ n. n.ways.items) nodes
@@ -40,10 +44,15 @@ seen z forest lists k r = seen_by (setting z forest k) z (λ p. lists (way_at fo
 abbrev pub RowsOf : Value → List (List Way) → (Option ℕ → List Value) → ℕ → ℕ → List Value → List Row → Type 0
 RowsOf z forest lists k n made rows = Merged (setting z forest k) (seen z forest lists k) n (λ p. lists (way_at forest k p).left) (λ p. lists (way_at forest k p).right) made rows
 
+-- the value that a row of node k makes next, or none where it is spent
+abbrev pub held_in : Value → List (List Way) → (Option ℕ → List Value) → ℕ → Row → Option Value
+held_in z forest lists k r = (seen z forest lists k r).value
+
 pub record IsNode (z : Value) (forest : List (List Way)) (lists : Option ℕ → List Value) (k : ℕ) (node : Node) : Type 0 where
   pub ways : node.ways.items ≡ ways_of forest k
   pub idle : node.begun ≡ false → values_of node ≡ []
   pub busy : node.begun ≡ true → RowsOf z forest lists k (length (ways_of forest k)) (values_of node) node.rows.items
+  pub queue : node.begun ≡ true → IsQueue (held_in z forest lists k) node.rows.items (heap_items node.queue)
 
 abbrev pub IsTable : Value → List Node → Type 0
 IsTable z nodes = (k : ℕ) (node : Node) → slice_get nodes k ≡ Some node → IsNode z (forest_of nodes) (parts z nodes) k node
@@ -105,9 +114,8 @@ pub record Begin (z : Value) (nodes : List Node) (w : Way) (r : Row) (first : Op
   pub later : r.next ≢ 0 → first ≡ None
   pub now : r.next ≡ 0 → IsFirstOf z nodes r.way w (suc r.at) first
 
--- the value that a row of node k holds
 abbrev pub held_by : Value → List Node → ℕ → Row → Option Value
-held_by z nodes k r = (seen z (forest_of nodes) (parts z nodes) k r).value
+held_by z nodes k = held_in z (forest_of nodes) (parts z nodes) k
 
 abbrev pub rows_in : Option Node → List Row
 rows_in None = []
@@ -116,20 +124,20 @@ rows_in (Some n) = n.rows.items
 abbrev pub rows_at : List Node → ℕ → List Row
 rows_at nodes k = rows_in (slice_get nodes k)
 
--- none of the first n rows holds a value
-abbrev pub SpentBelow : (Row → Option Value) → List Row → ℕ → Type 0
-SpentBelow held rows n = (k : ℕ) (t : Row) → k < n → slice_get rows k ≡ Some t → held t ≡ None
+abbrev pub queue_in : Option Node → List Waiting
+queue_in None = []
+queue_in (Some n) = heap_items n.queue
 
--- of the first n rows that at m holds the least value
-pub record LeastBelow (held : Row → Option Value) (rows : List Row) (n m : ℕ) : Type 0 where
+abbrev pub queue_at : List Node → ℕ → List Waiting
+queue_at nodes k = queue_in (slice_get nodes k)
+
+-- the row at m holds the least value
+pub record IsLeastRow (held : Row → Option Value) (rows : List Row) (m : ℕ) : Type 0 where
   pub row : Row
   pub here : slice_get rows m ≡ Some row
   pub value : Value
   pub live : held row ≡ Some value
-  pub least : (k : ℕ) (t : Row) (v : Value) → k < n → slice_get rows k ≡ Some t → held t ≡ Some v → AtMost value_cmp value v
-
-abbrev pub BestBelow : (Row → Option Value) → List Row → ℕ → Option ℕ → Type 0
-BestBelow held rows n best = MatchOption best (SpentBelow held rows n) (λ m. LeastBelow held rows n m)
+  pub least : (k : ℕ) (t : Row) (v : Value) → slice_get rows k ≡ Some t → held t ≡ Some v → AtMost value_cmp value v
 
 -- way p of node k
 pub record IsWayOf (nodes : List Node) (k p : ℕ) (w : Way) : Type 0 where
@@ -137,11 +145,12 @@ pub record IsWayOf (nodes : List Node) (k p : ℕ) (w : Way) : Type 0 where
   pub left : end_of w.left ≤ k
   pub right : end_of w.right ≤ k
 
--- the row of node k that holds the least value
+-- the row of node k that holds the least value, which is the first of the queue
 pub record Chosen (z : Value) (nodes : List Node) (k : ℕ) (c : Choice) : Type 0 where
   pub begun : IsBegun nodes k
   pub row : slice_get (rows_at nodes k) c.place ≡ Some c.row
-  pub least : LeastBelow (held_by z nodes k) (rows_at nodes k) (length (rows_at nodes k)) c.place
+  pub least : IsLeastRow (held_by z nodes k) (rows_at nodes k) c.place
+  pub first : IsFirstAt (queue_at nodes k) c.place
   pub way : IsWayOf nodes k c.row.way c.way
 
 -- a row whose places are there, and lead to v
@@ -153,23 +162,33 @@ pub record Holds (z : Value) (nodes : List Node) (k : ℕ) (r : Row) : Type 0 wh
 abbrev pub value_at : Value → List Node → ℕ → Row → Value
 value_at z nodes k r = let w = way_at (forest_of nodes) k r.way in combine w (slice_index_or (parts z nodes w.left) r.next z) (slice_index_or (parts z nodes w.right) r.at z)
 
--- the node after the value of the row at m was taken
-pub record Puts (old : Node) (m : ℕ) (part : Part) (after : Row) (first : Option Row) (new : Node) : Type 0 where
+-- one more made part, row and waiting row find room
+pub record HasRoom (node : Node) : Type 0 where
+  pub made : vec_len node.made < vec_capacity node.made
+  pub rows : vec_len node.rows < vec_capacity node.rows
+  pub queue : heap_len node.queue < heap_capacity node.queue
+
+-- the node after the part of the row at m was taken
+pub record Puts (old : Node) (m : ℕ) (after : Row) (first : Option Row) (again opened : Option Waiting) (new : Node) : Type 0 where
+  pub part : Part
   pub made : new.made.items ≡ old.made.items ++ part ∷ []
   pub rows : Advanced old.rows.items m after first new.rows.items
+  pub queue : Requeued (heap_items old.queue) again opened part (heap_items new.queue)
   pub ways : new.ways.items ≡ old.ways.items
   pub begun : new.begun ≡ old.begun
 
 pub record IsSameNode (old new : Node) : Type 0 where
   pub made : new.made.items ≡ old.made.items
   pub rows : new.rows.items ≡ old.rows.items
+  pub queue : heap_items new.queue ≡ heap_items old.queue
   pub ways : new.ways.items ≡ old.ways.items
   pub begun : new.begun ≡ old.begun
 
--- the rows go to the node, which begins
-pub record Starts (old : Node) (rows : List Row) (new : Node) : Type 0 where
+-- the rows go to the node with their queue, and it begins
+pub record Starts (old : Node) (rows : List Row) (queue : List Waiting) (new : Node) : Type 0 where
   pub made : new.made.items ≡ old.made.items
   pub rows_are : new.rows.items ≡ rows
+  pub queue_is : heap_items new.queue ≡ queue
   pub ways : new.ways.items ≡ old.ways.items
   pub begun : new.begun ≡ true
 

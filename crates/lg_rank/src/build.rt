@@ -7,7 +7,7 @@ ghost use Rattle.lg_region.specs.Laws.{HasKey};
 ghost use Rattle.lg_region.specs.declared.key.Key.{Key as SeenKey};
 ghost use Rattle.lg_forest.specs.Forests.{IsForest};
 ghost use Rattle.lg_rank.specs.Fronts.{IsIn, Extends};
-ghost use Rattle.lg_rank.specs.Keyed.{subject_of, subjects_of, IsNothing, IsBefore, IsNumberFor, GetsNode, EachPart, ArePlaced, IsRootKey, near_link, far_link, IsAltFor, HasPartsBelow, AreWaysOf, IsFresh, AreNodesOf};
+ghost use Rattle.lg_rank.specs.Keyed.{subject_of, subjects_of, IsNothing, IsBefore, IsNumberFor, GetsNode, EachPart, ArePlaced, IsRootKey, near_link, far_link, IsAltFor, HasPartsBelow, AreWaysOf, AreNodesOf};
 ghost use Rattle.lg_rank.specs.Meanings.{joint_link, length_of, IsWord, Cutting, IsWayFor, IsCutting};
 ghost use Rattle.lg_rank.specs.Rankings.{IsListing};
 ghost use Rattle.lg_rank.specs.Values.{value_of, nothing_of};
@@ -280,18 +280,6 @@ fn ways_of(
     Ok(ways)
 }
 
-fn node_of(alloc: Global, ways: Vec<Way>) -> Node
-    ensures ways { result.ways.items ≡ ways.items }
-    ensures fresh { IsFresh result }
-{
-    Node {
-        ways,
-        made: Vec::new(alloc),
-        rows: Vec::new(alloc),
-        begun: false,
-    }
-}
-
 // The nodes of the keys.
 fn nodes_of(
     alloc: Global,
@@ -306,7 +294,7 @@ fn nodes_of(
     let mut nodes = Vec::with_capacity(alloc, keys.len())?;
     for k in 0..keys.len() {
         let ways = ways_of(alloc, problem, forest, keys, k)?;
-        nodes.push(node_of(alloc, ways))?;
+        nodes.push(Node::idle(alloc, ways))?;
     }
     Ok(nodes)
 }

@@ -1,6 +1,4 @@
 //! The good linkages of a problem in order, one by one, on demand.
-//!
-//! What stands here so far are the laws: the order of linkages follows that of the parts of a cut.
 #![tactic(auto)]
 
 mod build;
@@ -9,6 +7,7 @@ mod keys;
 pub mod law;
 pub mod node;
 pub mod part;
+pub mod queue;
 mod ranked;
 pub mod table;
 pub mod unpack;

@@ -1,18 +1,21 @@
 //! The nodes of a table: the ways of a node, the parts that were made, and the rows from which the next comes.
 ghost use Rattle.std.specs.Prelude.{◌≡◌, ◌+◌, ◌<◌, ◌++◌, ◌∷◌, [], length, slice_get, OnErr, OnOk, IfOk, MatchOption, Some, true, false};
+ghost use Rattle.std.specs.BinaryHeap.{heap_items};
+ghost use Rattle.std.specs.Vec.{vec_len, vec_capacity};
 ghost use Rattle.lg_rank.specs.Fronts.{IsAll};
 ghost use Rattle.lg_rank.specs.Merges.{Advanced};
-ghost use Rattle.std.specs.declared.cmp.Ordering.TheVariants.{Less};
-ghost use Rattle.lg_rank.specs.Values.{value_of, value_cmp};
+ghost use Rattle.lg_rank.specs.Values.{value_of};
 ghost use Rattle.lg_rank.specs.Candidates.{made_by, positions_of, IsCandidate};
 ghost use Rattle.lg_rank.specs.Nodes.{Has, ways_of, IsForest};
-ghost use Rattle.lg_rank.specs.Tables.{forest_of, parts, made_at, IsTable, IsBegun, IsIdle, BestBelow, rows_at, held_by, IsWayOf, Holds, value_at, Chosen, GoesOn, Begin, Puts, IsSameNode, Starts, Stepped, RowsOf, row_list};
+ghost use Rattle.lg_rank.specs.Queues.{IsQueue, IsFirstAt, IsWaiting, IsOpened};
+ghost use Rattle.lg_rank.specs.Tables.{forest_of, parts, made_at, IsTable, IsBegun, IsIdle, rows_at, queue_at, held_by, IsWayOf, Holds, value_at, Chosen, GoesOn, Begin, HasRoom, Puts, IsSameNode, Starts, Stepped, RowsOf, row_list};
 
-use crate::candidate::{Candidate, compare};
+use crate::candidate::Candidate;
 use crate::part::{Part, Way};
+use crate::queue::{Waiting, first_place, put_in, take_first};
 use lg_base::NoMemory;
 use std::alloc::Global;
-use std::cmp::Ordering;
+use std::collections::BinaryHeap;
 
 /// The parts that one way makes with one right part, one after another: those with the left parts from `next` on are not taken
 /// yet. The row is live where there is a left part at `next`.
@@ -24,13 +27,31 @@ pub struct Row {
     pub live: bool,
 }
 
-/// A node, with the parts that were made.
+/// A node, with the parts that were made. A live row waits in the queue with the part that it makes next.
 #[derive(Debug, Drop)]
 pub struct Node {
     pub ways: Vec<Way>,
     pub made: Vec<Part>,
     pub rows: Vec<Row>,
+    pub queue: BinaryHeap<Waiting>,
     pub begun: bool,
+}
+
+impl Node {
+    /// A node with these ways, of which nothing was made.
+    pub fn idle(alloc: Global, ways: Vec<Way>) -> Node
+        ensures ways { result.ways ≡ ways }
+        ensures made { result.made.items ≡ [] }
+        ensures idle { result.begun ≡ false }
+    {
+        Node {
+            ways,
+            made: Vec::new(alloc),
+            rows: Vec::new(alloc),
+            queue: BinaryHeap::new(alloc),
+            begun: false,
+        }
+    }
 }
 
 /// A live row, with its place and its way.
@@ -141,61 +162,12 @@ pub fn candidate<'a>(nothing: &'a Part, nodes: &'a [Node], k: usize, row: Row) -
     Candidate { way, left, right }
 }
 
-// Whether what the first row makes comes before what the second makes.
-fn is_earlier(nothing: &Part, nodes: &[Node], k: usize, row: Row, other: Row) -> bool
-    requires within { k < length nodes.now }
-    requires forest { IsForest (value_of nothing.now) (forest_of nodes.now) }
-    requires table { IsTable (value_of nothing.now) nodes.now }
-    requires holds { Holds (value_of nothing.now) nodes.now k row }
-    requires other_holds { Holds (value_of nothing.now) nodes.now k other }
-    ensures yes { result ≡ true → value_cmp (value_at (value_of nothing.now) nodes.now k row) (value_at (value_of nothing.now) nodes.now k other) ≡ Less }
-    ensures no { result ≡ false → value_cmp (value_at (value_of nothing.now) nodes.now k row) (value_at (value_of nothing.now) nodes.now k other) ≡ Less → ⊥ }
+// The place of the live row with the least part, or none where no row is live.
+fn first_of(nodes: &[Node], k: usize) -> Option<usize>
+    requires { k < length nodes.now }
+    ensures { MatchOption result (queue_at nodes.now k ≡ []) (λ m. IsFirstAt (queue_at nodes.now k) m) }
 {
-    let first = candidate(nothing, nodes, k, row);
-    let second = candidate(nothing, nodes, k, other);
-    compare(&first, &second) == Ordering::Less
-}
-
-// The place of the least so far, and the row at `i`: the place of the less of the two.
-fn better(nothing: &Part, nodes: &[Node], k: usize, best: Option<usize>, i: usize) -> Option<usize>
-    requires within { k < length nodes.now }
-    requires forest { IsForest (value_of nothing.now) (forest_of nodes.now) }
-    requires table { IsTable (value_of nothing.now) nodes.now }
-    requires begun { IsBegun nodes.now k }
-    requires i_in { i < length (rows_at nodes.now k) }
-    requires best { BestBelow (held_by (value_of nothing.now) nodes.now k) (rows_at nodes.now k) i best }
-    ensures { BestBelow (held_by (value_of nothing.now) nodes.now k) (rows_at nodes.now k) (i + 1) result }
-{
-    let row = row_of(nodes, k, i);
-    if !row.live {
-        return best;
-    }
-    match best {
-        None => Some(i),
-        Some(place) => {
-            let other = row_of(nodes, k, place);
-            if is_earlier(nothing, nodes, k, row, other) {
-                Some(i)
-            } else {
-                Some(place)
-            }
-        }
-    }
-}
-
-// The place of the row that holds the least value.
-fn least(nothing: &Part, nodes: &[Node], k: usize) -> Option<usize>
-    requires within { k < length nodes.now }
-    requires forest { IsForest (value_of nothing.now) (forest_of nodes.now) }
-    requires table { IsTable (value_of nothing.now) nodes.now }
-    requires begun { IsBegun nodes.now k }
-    ensures { BestBelow (held_by (value_of nothing.now) nodes.now k) (rows_at nodes.now k) (length (rows_at nodes.now k)) result }
-{
-    let mut best: Option<usize> = None;
-    for i in 0..row_count(nodes, k) {
-        best = better(nothing, nodes, k, best, i);
-    }
-    best
+    first_place(&nodes[k].queue)
 }
 
 /// The row that holds the least value. None where all values of the node were made.
@@ -206,7 +178,7 @@ pub fn choose(nothing: &Part, nodes: &[Node], k: usize) -> Option<Choice>
     requires begun { IsBegun nodes.now k }
     ensures { MatchOption result (IsAll (Has (value_of nothing.now) (forest_of nodes.now) (Some k)) (made_at nodes.now k)) (λ c. Chosen (value_of nothing.now) nodes.now k c) }
 {
-    match least(nothing, nodes, k) {
+    match first_of(nodes, k) {
         None => None,
         Some(place) => {
             let row = row_of(nodes, k, place);
@@ -216,40 +188,97 @@ pub fn choose(nothing: &Part, nodes: &[Node], k: usize) -> Option<Choice>
     }
 }
 
+// The row with the part that it makes, or none where it is spent.
+fn with_part(
+    alloc: Global,
+    nothing: &Part,
+    nodes: &[Node],
+    k: usize,
+    place: usize,
+    row: Row,
+) -> Result<Option<Waiting>, NoMemory>
+    requires within { k < length nodes.now }
+    requires forest { IsForest (value_of nothing.now) (forest_of nodes.now) }
+    requires table { IsTable (value_of nothing.now) nodes.now }
+    requires holds { row.live ≡ true → Holds (value_of nothing.now) nodes.now k row }
+    ensures { IfOk result (IsWaiting (held_by (value_of nothing.now) nodes.now k) place row) }
+{
+    if !row.live {
+        return Ok(None);
+    }
+    let part = candidate(nothing, nodes, k, row).make(alloc)?;
+    Ok(Some(Waiting { place, part }))
+}
+
+// The same of a row that is to come behind the others, if there is one.
+fn last_with_part(
+    alloc: Global,
+    nothing: &Part,
+    nodes: &[Node],
+    k: usize,
+    first: Option<Row>,
+) -> Result<Option<Waiting>, NoMemory>
+    requires within { k < length nodes.now }
+    requires forest { IsForest (value_of nothing.now) (forest_of nodes.now) }
+    requires table { IsTable (value_of nothing.now) nodes.now }
+    requires holds { (row : Row) → first ≡ Some row → Holds (value_of nothing.now) nodes.now k row }
+    ensures { IfOk result (IsOpened (held_by (value_of nothing.now) nodes.now k) (length (rows_at nodes.now k)) first) }
+{
+    match first {
+        None => Ok(None),
+        Some(row) => with_part(alloc, nothing, nodes, k, row_count(nodes, k), row),
+    }
+}
+
+// Room for one more of each.
+fn make_room(node: &mut Node) -> Result<(), NoMemory>
+    ensures same { IsSameNode node.old node.new }
+    ensures room { OnOk result (HasRoom node.new) }
+{
+    node.made.reserve(1)?;
+    node.rows.reserve(1)?;
+    node.queue.reserve(1)?;
+    Ok(())
+}
+
+// The row at `place` goes on, and one more may come behind the others.
+fn go_on(rows: &mut Vec<Row>, place: usize, after: Row, first: Option<Row>)
+    requires within { place < length rows.old.items }
+    requires room { vec_len rows.old < vec_capacity rows.old }
+    ensures { Advanced rows.old.items place after first rows.new.items }
+{
+    rows[place] = after;
+    if let Some(row) = first {
+        let _ = rows.push(row);
+    }
+}
+
+// Moves the first part of the queue to those that were made.
 fn put(
     node: &mut Node,
     place: usize,
-    part: Part,
     after: Row,
     first: Option<Row>,
+    again: Option<Waiting>,
+    opened: Option<Waiting>,
 ) -> Result<(), NoMemory>
-    requires { place < length node.old.rows.items }
-    ensures ok { OnOk result (Puts node.old place part after first node.new) }
+    requires within { place < length node.old.rows.items }
+    requires first { IsFirstAt (heap_items node.old.queue) place }
+    ensures ok { OnOk result (Puts node.old place after first again opened node.new) }
     ensures err { OnErr result (IsSameNode node.old node.new) }
 {
-    match first {
-        None => {
-            if node.made.push(part).is_err() {
-                return Err(NoMemory);
-            }
-            node.rows[place] = after;
-            Ok(())
-        }
-        Some(row) => {
-            if node.rows.push(row).is_err() {
-                return Err(NoMemory);
-            }
-            if node.made.push(part).is_err() {
-                let _ = node.rows.pop();
-                return Err(NoMemory);
-            }
-            node.rows[place] = after;
+    make_room(node)?;
+    match take_first(&mut node.queue, again, opened) {
+        None => Err(NoMemory),
+        Some(part) => {
+            let _ = node.made.push(part);
+            go_on(&mut node.rows, place, after, first);
             Ok(())
         }
     }
 }
 
-/// Makes the part of the chosen row, which goes on as `after`, and a row that begins may come behind the others. After an error
+/// Takes the part of the chosen row, which goes on as `after`, and a row that begins may come behind the others. After an error
 /// the node is as it was.
 pub fn take_part(
     alloc: Global,
@@ -268,8 +297,9 @@ pub fn take_part(
     ensures stepped { Stepped (value_of nothing.now) nodes.old.items nodes.new.items k }
     ensures more { OnOk result (length (made_at nodes.new.items k) ≡ length (made_at nodes.old.items k) + 1) }
 {
-    let part = candidate(nothing, nodes.as_slice(), k, choice.row).make(alloc)?;
-    put(&mut nodes[k], choice.place, part, after, first)
+    let again = with_part(alloc, nothing, nodes.as_slice(), k, choice.place, after)?;
+    let opened = last_with_part(alloc, nothing, nodes.as_slice(), k, first)?;
+    put(&mut nodes[k], choice.place, after, first, again, opened)
 }
 
 /// Adds the row, if there is one.
@@ -285,19 +315,49 @@ pub fn add(rows: &mut Vec<Row>, first: Option<Row>) -> Result<(), NoMemory>
     }
 }
 
-fn start(node: &mut Node, rows: Vec<Row>)
-    ensures { Starts node.old rows.items node.new }
+/// The queue of the rows with which the node begins.
+pub fn queue_of(
+    alloc: Global,
+    nothing: &Part,
+    nodes: &[Node],
+    k: usize,
+    rows: &[Row],
+) -> Result<BinaryHeap<Waiting>, NoMemory>
+    requires within { k < length nodes.now }
+    requires forest { IsForest (value_of nothing.now) (forest_of nodes.now) }
+    requires table { IsTable (value_of nothing.now) nodes.now }
+    requires all { RowsOf (value_of nothing.now) (forest_of nodes.now) (parts (value_of nothing.now) nodes.now) k (length (ways_of (forest_of nodes.now) k)) [] rows.now }
+    ensures { IfOk result (λ queue. IsQueue (held_by (value_of nothing.now) nodes.now k) rows.now (heap_items queue)) }
+{
+    let mut queue = BinaryHeap::new(alloc);
+    for i in 0..rows.len() {
+        let more = with_part(alloc, nothing, nodes, k, i, rows[i])?;
+        put_in(&mut queue, more)?;
+    }
+    Ok(queue)
+}
+
+fn start(node: &mut Node, rows: Vec<Row>, queue: BinaryHeap<Waiting>)
+    ensures { Starts node.old rows.items (heap_items queue) node.new }
 {
     node.rows = rows;
+    node.queue = queue;
     node.begun = true;
 }
 
 /// The node begins with these rows.
-pub fn start_node(nothing: &Part, nodes: &mut Vec<Node>, k: usize, rows: Vec<Row>)
+pub fn start_node(
+    nothing: &Part,
+    nodes: &mut Vec<Node>,
+    k: usize,
+    rows: Vec<Row>,
+    queue: BinaryHeap<Waiting>,
+)
     requires table { IsTable (value_of nothing.now) nodes.old.items }
     requires idle { IsIdle nodes.old.items k }
     requires all { RowsOf (value_of nothing.now) (forest_of nodes.old.items) (parts (value_of nothing.now) nodes.old.items) k (length (ways_of (forest_of nodes.old.items) k)) [] rows.items }
+    requires queue { IsQueue (held_by (value_of nothing.now) nodes.old.items k) rows.items (heap_items queue) }
     ensures { Stepped (value_of nothing.now) nodes.old.items nodes.new.items k }
 {
-    start(&mut nodes[k], rows);
+    start(&mut nodes[k], rows, queue);
 }

@@ -52,6 +52,7 @@ pub(crate) fn nth_linkage(
 ) -> Result<Option<Linkage>, NoMemory>
     requires listing { (nulls : ℕ) × IsListing problem.now (value_of nothing.now) table.old.nodes.items nulls root }
     ensures keeps { (nulls : ℕ) → IsListing problem.now (value_of nothing.now) table.old.nodes.items nulls root → IsListing problem.now (value_of nothing.now) table.new.nodes.items nulls root }
+    ensures next { (nulls : ℕ) (gs : List Seen) → IsListing problem.now (value_of nothing.now) table.old.nodes.items nulls root → IsFront linkage_cmp (UnderWhole problem.now nulls) gs → length gs ≡ i → IfOk result (λ g. IsNext linkage_cmp (UnderWhole problem.now nulls) gs g) }
     ensures listed { (nulls : ℕ) (level : List Seen) → IsListing problem.now (value_of nothing.now) table.old.nodes.items nulls root → IsLevel problem.now nulls level → IfOk result (λ g. g ≡ slice_get level i) }
 {
     values_are_linkages();

@@ -6,8 +6,8 @@ ghost use Rattle.lg_rank.specs.Nodes.{Has, IsForest};
 ghost use Rattle.lg_rank.specs.Tables.{forest_of, parts, made_at, IsTable, Grown, end_of, IsNth, IsBegun, IsPart, GoesOn, IsFirstOf, Advances, Begin, IsIdle};
 
 use crate::node::{
-    Node, Row, add, choose, is_begun, made_count, part_count, start_node, take_part, way_count,
-    way_of,
+    Node, Row, add, choose, is_begun, made_count, part_count, queue_of, start_node, take_part,
+    way_count, way_of,
 };
 use crate::part::{Part, Way};
 use lg_base::NoMemory;
@@ -161,7 +161,8 @@ impl Table {
             let first = self.first_row(alloc, nothing, k, p, way, 0)?;
             add(&mut rows, first)?;
         }
-        start_node(nothing, &mut self.nodes, k, rows);
+        let queue = queue_of(alloc, nothing, self.nodes.as_slice(), k, rows.as_slice())?;
+        start_node(nothing, &mut self.nodes, k, rows, queue);
         Ok(())
     }
 

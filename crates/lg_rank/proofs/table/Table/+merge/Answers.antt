@@ -1,11 +1,12 @@
 use Rattle.std.proofs.Common.{suc, ◌≤◌, Bool, List, length, sym, subst, arith, rules}
+use Rattle.std.specs.BinaryHeap.{heap_items}
 use Rattle.lg_rank.specs.declared.node.Node.{Node}
 use Rattle.lg_rank.specs.declared.table.Table.{Table}
 use Rattle.lg_rank.specs.Values.{value_of}
 use Rattle.lg_rank.specs.Tables.{IsTable, IsBegun, IsIdle, Chosen, Stepped, IsNth, Advances, made_at}
 use Rattle.lg_rank.proofs.Forests.{begun_more, grown_more, grown_none, forest_more}
 use Rattle.lg_rank.proofs.Reading.{idle_more}
-use Rattle.lg_rank.proofs.Steps.{chosen_left, chosen_right, chosen_grown, goes_on_grown, begin_step, begin_all, nth_none, first_made}
+use Rattle.lg_rank.proofs.Steps.{chosen_left, chosen_right, chosen_grown, goes_on_grown, begin_step, begin_all, begin_slices, queue_slices, nth_none, first_made}
 use Rattle.lg_rank.proofs.table.Table.+merge.Goals as goal
 use Rattle.lg_rank.proofs.table.Table.+merge.Goals.{nth-then-not-is_begun+in_ok-begin, nth-else-not-is_begun}
 
@@ -43,6 +44,17 @@ begin-loop-p-preserved t c = record {
 
 pub begin-start_node-requires-clause-idle : goal.begin-start_node-requires-clause-idle
 begin-start_node-requires-clause-idle t c = idle_more c.args.k c.args.k c.args.self.now.nodes.items c.loop-p.self.nodes.items (omega arith) c.loop-p.invariant.grown c.requires.idle
+
+pub begin-queue_of-requires-clause-table : goal.begin-queue_of-requires-clause-table
+begin-queue_of-requires-clause-table t c = subst (λ (n : List Node). IsTable (value_of c.args.nothing.now) n) (sym c.as_slice-2.ensures.value) c.loop-p.invariant.table
+
+pub begin-queue_of-requires-clause-all : goal.begin-queue_of-requires-clause-all
+begin-queue_of-requires-clause-all t c =
+    begin_slices (value_of c.args.nothing.now) c.loop-p.self.nodes.items c.as_slice-2.result.now c.args.k c.loop-p.rows.items c.as_slice-3.result.now c.as_slice-2.ensures.value c.as_slice-3.ensures.value
+    (begin_all (value_of c.args.nothing.now) c.args.k c.args.self.now.nodes.items c.loop-p.self.nodes.items c.args.k c.loop-p.p c.way_count-count.result c.loop-p.rows.items c.loop-p.invariant.grown (omega arith) (omega arith) c.loop-p.invariant.end c.loop-p.invariant.rows_of)
+
+pub begin-start_node-requires-clause-queue : goal.begin-start_node-requires-clause-queue
+begin-start_node-requires-clause-queue t c = queue_slices (value_of c.args.nothing.now) c.loop-p.self.nodes.items c.as_slice-2.result.now c.args.k c.loop-p.rows.items c.as_slice-3.result.now (heap_items c.in_ok-queue.queue) c.as_slice-2.ensures.value c.as_slice-3.ensures.value c.in_ok-queue.ensures
 
 pub begin-start_node-requires-clause-all : goal.begin-start_node-requires-clause-all
 begin-start_node-requires-clause-all t c =

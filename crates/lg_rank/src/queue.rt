@@ -1,0 +1,105 @@
+//! The rows of a node that still make a part: each waits with that part, and the least part comes first.
+ghost use Rattle.std.specs.Prelude.{◌≡◌, ◌+◌, ◌<◌, ◌≤◌, ◌++◌, [], IsOk, OnOk, MatchOption};
+ghost use Rattle.std.specs.BinaryHeap.{heap_items, heap_len, heap_capacity, KeepsHeap};
+ghost use Rattle.std.specs.Cmp.{partial_order_from_own_ties};
+ghost use Rattle.std.specs.Cmp.Rules.{comparing};
+ghost use Rattle.std.specs.List.Sorted.{IsPermutation};
+ghost use Rattle.std.specs.Ordering.{as_partial_cmp, eq_by_cmp};
+ghost use Rattle.std.proofs.Common.{rules};
+ghost use Rattle.lg_rank.specs.Queues.{waiting_cmp, waiting_list, IsFirstAt, Requeued};
+
+use crate::part::Part;
+use lg_base::NoMemory;
+use std::cmp::Ordering;
+use std::collections::BinaryHeap;
+
+/// A row by its place, with the part that it makes. A lesser part is greater, since a heap gives its greatest element first.
+#[derive(Debug, Drop)]
+pub struct Waiting {
+    pub place: usize,
+    pub part: Part,
+}
+
+impl PartialEq for Waiting {
+    ghost eq = { eq_by_cmp waiting_cmp };
+
+    ghost laws = { Prim.search (comparing, rules) depth 16 };
+
+    fn eq(&self, other: &Waiting) -> bool {
+        self.cmp(other) == Ordering::Equal
+    }
+}
+
+impl Eq for Waiting {
+    ghost laws = { Prim.search (comparing, rules) depth 16 };
+}
+
+impl PartialOrd for Waiting {
+    ghost partial_cmp = { as_partial_cmp waiting_cmp };
+
+    ghost laws = { partial_order_from_own_ties (Prim.search (comparing, rules) depth 16) (Prim.search (comparing, rules) depth 16) };
+
+    fn partial_cmp(&self, other: &Waiting) -> Option<Ordering> {
+        Some(self.cmp(other))
+    }
+}
+
+impl Ord for Waiting {
+    ghost cmp = { waiting_cmp };
+
+    ghost total = { Prim.search (comparing, rules) depth 16 };
+
+    ghost matches_partial_cmp = { Prim.search (comparing, rules) depth 16 };
+
+    ghost matches_eq = { Prim.search (comparing, rules) depth 16 };
+
+    fn cmp(&self, other: &Waiting) -> Ordering {
+        other.part.compare(&self.part)
+    }
+}
+
+/// The place of the first, or none where no row waits.
+pub fn first_place(queue: &BinaryHeap<Waiting>) -> Option<usize>
+    ensures { MatchOption result (heap_items queue.now ≡ []) (λ m. IsFirstAt (heap_items queue.now) m) }
+{
+    match queue.peek() {
+        None => None,
+        Some(first) => Some(first.place),
+    }
+}
+
+/// Puts one more in, if there is one. With room for it that does not fail.
+pub fn put_in(queue: &mut BinaryHeap<Waiting>, more: Option<Waiting>) -> Result<(), NoMemory>
+    ensures items { OnOk result (IsPermutation (waiting_list more ++ heap_items queue.old) (heap_items queue.new)) }
+    ensures heap { OnOk result (KeepsHeap waiting_cmp (heap_items queue.old) (heap_items queue.new)) }
+    ensures len { OnOk result (heap_len queue.new ≤ heap_len queue.old + 1) }
+    ensures capacity { heap_capacity queue.old ≤ heap_capacity queue.new }
+    ensures succeeds { heap_len queue.old < heap_capacity queue.old → IsOk result }
+{
+    match more {
+        None => Ok(()),
+        Some(waiting) => {
+            queue.push(waiting)?;
+            Ok(())
+        }
+    }
+}
+
+/// Takes the first out and puts these in: its part, or none where no row waits. There has to be room for one more.
+pub fn take_first(
+    queue: &mut BinaryHeap<Waiting>,
+    again: Option<Waiting>,
+    opened: Option<Waiting>,
+) -> Option<Part>
+    requires { heap_len queue.old < heap_capacity queue.old }
+    ensures { MatchOption result (heap_items queue.old ≡ []) (λ part. Requeued (heap_items queue.old) again opened part (heap_items queue.new)) }
+{
+    match queue.pop() {
+        None => None,
+        Some(first) => {
+            let _ = put_in(queue, again);
+            let _ = put_in(queue, opened);
+            Some(first.part)
+        }
+    }
+}
