@@ -175,6 +175,7 @@ fresh_table positions subjects count z nodes is k node at = record {
   ways = sym (node_ways nodes k node at);
   idle = λ e. ap (map value_of) (is.fresh k node at).made;
   busy = λ e. absurd (true≢false (sym e ∙ (is.fresh k node at).idle));
+  queue = λ e. absurd (true≢false (sym e ∙ (is.fresh k node at).idle));
 }
 
 module _ (positions : List (List Disjunct)) (from : ℕ) (forest : Forest) (is : IsForest positions from forest) (problem : IsProblem positions) (keys : List Key) (placed : ArePlaced positions forest keys) (nodes : List Node)

@@ -1,4 +1,4 @@
-use Rattle.std.proofs.Common.{◌≡◌, ◌+◌, length, sym, subst, List, arith}
+use Rattle.std.proofs.Common.{◌≡◌, ◌+◌, length, sym, ap, subst, List, arith}
 use Rattle.lg_rank.specs.Keyed.{subjects_of, AreWaysOf, AreNodesOf}
 use Rattle.lg_rank.specs.declared.part.Way.{Way}
 use Rattle.lg_rank.proofs.Building.{nodes_more}
@@ -8,8 +8,8 @@ pub loop-k-preserved : goal.loop-k-preserved
 loop-k-preserved c = λ from is.
     let positions = c.args.problem.now in
     let subjects = subjects_of is.lists c.args.keys.now in
-    nodes_more positions subjects c.loop-k.k (c.loop-k.k + 1) c.loop-k.nodes.items c.push.new.self.items c.node_of.result (omega arith) c.in_ok-push.ensures.items
-    (subst (λ (w : List Way). AreWaysOf positions subjects c.loop-k.k w) (sym c.node_of.ensures.ways) (c.in_ok-ways.ensures from is)) c.node_of.ensures.fresh (c.loop-k.invariant from is)
+    nodes_more positions subjects c.loop-k.k (c.loop-k.k + 1) c.loop-k.nodes.items c.push.new.self.items c.idle.result (omega arith) c.in_ok-push.ensures.items
+    (subst (λ (w : List Way). AreWaysOf positions subjects c.loop-k.k w) (sym (ap (λ v. v.items) c.idle.ensures.ways)) (c.in_ok-ways.ensures from is)) (record { idle = c.idle.ensures.idle; made = c.idle.ensures.made }) (c.loop-k.invariant from is)
 
 pub returns : goal.returns
 returns c = λ from is.
