@@ -3,6 +3,7 @@ use Rattle.std.proofs.Common.{◌≡◌, ◌≢◌, ℕ, zero, suc, ◌+◌, ◌
 use Rattle.std.specs.BinaryHeap.{IsHeap, KeepsHeap, PopsGreatest}
 use Rattle.std.specs.Cmp.{IsTotalOrder}
 use Rattle.std.specs.List.{IsDistinct}
+use Rattle.std.specs.Option.{IfSome, OnSome}
 use Rattle.std.specs.Result.{IsOk, OnOk, is_ok}
 use Rattle.std.specs.List.Sorted.{IsPermutation}
 use Rattle.std.specs.Ordering.{is_lt}
@@ -178,6 +179,15 @@ pub ok_is : {T E P : Type 0} (r : Result T E) → IsOk r → OnOk r P → P
 ok_is (Ok v) i h = h
 ok_is (Err e) i h = absurd cc
 
+if_some : (P : Waiting → Type 0) (r : Option Waiting) (w : Waiting) → r ≡ Some w → IfSome r P → P w
+if_some P r w e h = subst (λ (o : Option Waiting). IfSome o P) e h
+
+pub on_some : {P : Type 0} (r : Option Waiting) (w : Waiting) → r ≡ Some w → OnSome r P → P
+on_some {P} r w e h = subst (λ (o : Option Waiting). OnSome o P) e h
+
+pub one_waits : (q : List Waiting) (m : ℕ) → IsFirstAt q m → q ≡ [] → ⊥
+one_waits q m f e = (let p : slice_get [] 0 ≡ Some f.first = (λ i. slice_get (sym e i) 0) ∙ f.here in cc)
+
 pub pushed_is : {A T E : Type 0} (r : Result T E) (xs ys zs : List A) → IsOk r → ys ≡ cond (is_ok r) zs xs → ys ≡ zs
 pushed_is (Ok v) xs ys zs i e = e
 pushed_is (Err w) xs ys zs i e = absurd cc
@@ -187,17 +197,19 @@ first_at [] w i e = absurd (contains_none w i)
 first_at (x ∷ xs) w i e = ap Some (sym e)
 
 -- the first was taken out, and the others were put in
-pub requeued : (old rest mid new : List Waiting) (again opened : Option Waiting) (first : Waiting) → first ≡ get_or old 0 first → IsPermutation old (first ∷ rest) → PopsGreatest waiting_cmp old first rest → IsPermutation (waiting_list again ++ rest) mid → KeepsHeap waiting_cmp rest mid
+pub requeued : (old rest mid new : List Waiting) (r again opened : Option Waiting) (first : Waiting) → r ≡ Some first → IfSome r (λ w. w ≡ get_or old 0 w) → IfSome r (λ w. IsPermutation old (w ∷ rest)) → IfSome r (λ w. PopsGreatest waiting_cmp old w rest) → IsPermutation (waiting_list again ++ rest) mid → KeepsHeap waiting_cmp rest mid
     → IsPermutation (waiting_list opened ++ mid) new → KeepsHeap waiting_cmp mid new → Requeued old again opened first.part new
-requeued old rest mid new again opened first top taken pops one keeps two keeps' = record {
-  first = first;
-  here = first_at old first (Contains-permutation (first ∷ rest) old first (IsPermutation-sym old (first ∷ rest) taken) (contains_here first rest)) top;
-  part_is = refl;
-  rest = rest;
-  taken = taken;
-  put = IsPermutation-trans (waiting_list opened ++ (waiting_list again ++ rest)) (waiting_list opened ++ mid) new (IsPermutation-append_right (waiting_list opened) (waiting_list again ++ rest) mid one) two;
-  heap = λ h. keeps' (keeps (pops h).0);
-}
+requeued old rest mid new r again opened first is top taken pops one keeps two keeps' =
+    let out = if_some (λ w. IsPermutation old (w ∷ rest)) r first is taken in
+    record {
+      first = first;
+      here = first_at old first (Contains-permutation (first ∷ rest) old first (IsPermutation-sym old (first ∷ rest) out) (contains_here first rest)) (if_some (λ w. w ≡ get_or old 0 w) r first is top);
+      part_is = refl;
+      rest = rest;
+      taken = out;
+      put = IsPermutation-trans (waiting_list opened ++ (waiting_list again ++ rest)) (waiting_list opened ++ mid) new (IsPermutation-append_right (waiting_list opened) (waiting_list again ++ rest) mid one) two;
+      heap = λ h. keeps' (keeps (if_some (λ w. PopsGreatest waiting_cmp old w rest) r first is pops h).0);
+    }
 
 -- ---- a loop over the rows with which a node begins
 pub queue_begins : {R : Type 0} (held : R → Option Value) (rows : List R) (q : List Waiting) → q ≡ [] → IsHeap waiting_cmp q → IsQueue held (take 0 rows) q

@@ -114,6 +114,7 @@ pub record Begin (z : Value) (nodes : List Node) (w : Way) (r : Row) (first : Op
   pub later : r.next ≢ 0 → first ≡ None
   pub now : r.next ≡ 0 → IsFirstOf z nodes r.way w (suc r.at) first
 
+-- the same of a table
 abbrev pub held_by : Value → List Node → ℕ → Row → Option Value
 held_by z nodes k = held_in z (forest_of nodes) (parts z nodes) k
 

@@ -36,7 +36,7 @@ impl Candidate<'_> {
         requires { IsSound self.now }
         ensures { IfOk result (λ choices. choices.items ≡ (made_by self.now).choices) }
     {
-        let mut choices = Vec::new(alloc);
+        let mut choices = Vec::with_capacity(alloc, self.left.choices.len())?;
         choices.extend_from_slice(&self.left.choices[..self.way.word])?;
         choices.push(self.way.choice)?;
         choices.extend_from_slice(&self.right.choices[self.way.word + 1..])?;
@@ -46,7 +46,9 @@ impl Candidate<'_> {
     fn links(&self, alloc: Global) -> Result<Vec<Link>, NoMemory>
         ensures { IfOk result (λ links. links.items ≡ (made_by self.now).links) }
     {
-        let mut links = Vec::new(alloc);
+        let joints = self.way.near.is_some() as usize + self.way.far.is_some() as usize;
+        let parts = self.left.links.len() + self.right.links.len();
+        let mut links = Vec::with_capacity(alloc, parts.saturating_add(joints))?;
         push_links(&mut links, self.left.links.as_slice(), self.way.near)?;
         push_links(&mut links, self.right.links.as_slice(), self.way.far)?;
         Ok(links)

@@ -268,14 +268,10 @@ fn put(
     ensures err { OnErr result (IsSameNode node.old node.new) }
 {
     make_room(node)?;
-    match take_first(&mut node.queue, again, opened) {
-        None => Err(NoMemory),
-        Some(part) => {
-            let _ = node.made.push(part);
-            go_on(&mut node.rows, place, after, first);
-            Ok(())
-        }
-    }
+    let part = take_first(&mut node.queue, again, opened);
+    let _ = node.made.push(part);
+    go_on(&mut node.rows, place, after, first);
+    Ok(())
 }
 
 /// Takes the part of the chosen row, which goes on as `after`, and a row that begins may come behind the others. After an error

@@ -1,5 +1,5 @@
 //! The rows of a node that still make a part: each waits with that part, and the least part comes first.
-ghost use Rattle.std.specs.Prelude.{◌≡◌, ◌+◌, ◌<◌, ◌≤◌, ◌++◌, [], IsOk, OnOk, MatchOption};
+ghost use Rattle.std.specs.Prelude.{◌≡◌, ◌≢◌, ◌+◌, ◌<◌, ◌≤◌, ◌++◌, [], IsOk, OnOk, MatchOption};
 ghost use Rattle.std.specs.BinaryHeap.{heap_items, heap_len, heap_capacity, KeepsHeap};
 ghost use Rattle.std.specs.Cmp.{partial_order_from_own_ties};
 ghost use Rattle.std.specs.Cmp.Rules.{comparing};
@@ -85,21 +85,18 @@ pub fn put_in(queue: &mut BinaryHeap<Waiting>, more: Option<Waiting>) -> Result<
     }
 }
 
-/// Takes the first out and puts these in: its part, or none where no row waits. There has to be room for one more.
+/// Takes the first out and puts these in: its part. A row has to wait, and there has to be room for one more.
 pub fn take_first(
     queue: &mut BinaryHeap<Waiting>,
     again: Option<Waiting>,
     opened: Option<Waiting>,
-) -> Option<Part>
-    requires { heap_len queue.old < heap_capacity queue.old }
-    ensures { MatchOption result (heap_items queue.old ≡ []) (λ part. Requeued (heap_items queue.old) again opened part (heap_items queue.new)) }
+) -> Part
+    requires some { heap_items queue.old ≢ [] }
+    requires room { heap_len queue.old < heap_capacity queue.old }
+    ensures { Requeued (heap_items queue.old) again opened result (heap_items queue.new) }
 {
-    match queue.pop() {
-        None => None,
-        Some(first) => {
-            let _ = put_in(queue, again);
-            let _ = put_in(queue, opened);
-            Some(first.part)
-        }
-    }
+    let first = queue.pop().unwrap();
+    let _ = put_in(queue, again);
+    let _ = put_in(queue, opened);
+    first.part
 }
