@@ -1,10 +1,7 @@
 //! What a forest has and spells.
-use crate::problems::{are_same, made, problem};
+use crate::problems::problem;
 use lg_base::Steps;
 use lg_forest::{solve, solve_at, spell_all};
-use lg_gram::{Linkage, Problem};
-use lg_rules::{PLAIN_POSITIONS, plain_list};
-use std::alloc::Global;
 use std::test::Fail;
 
 // `Mary ran`: the keys of the whole sentence, of what is behind `Mary`, and of the parts before and behind `ran`.
@@ -32,29 +29,5 @@ fn all_words_unlinked(rt: HostRuntime) -> Result<(), Fail> {
     assert_eq!(rt; forest.nodes(), 1);
     let list = spell_all(alloc, &problem, &forest)?;
     assert_eq!(rt; list.len(), 1);
-    Ok(())
-}
-
-fn spelled(alloc: Global, problem: &Problem) -> Result<Vec<Linkage>, Fail> {
-    let mut steps = Steps::start();
-    let forest = solve(alloc, problem, &mut steps)?;
-    Ok(spell_all(alloc, problem, &forest)?)
-}
-
-fn agrees(alloc: Global, seed: u32) -> Result<bool, Fail> {
-    let problem = made(alloc, seed)?;
-    if problem.positions().len() > PLAIN_POSITIONS {
-        return Err("too many positions")?;
-    }
-    let list = spelled(alloc, &problem)?;
-    let plain = plain_list(alloc, &problem)?;
-    Ok(are_same(list.as_slice(), plain.as_slice()))
-}
-
-#[test]
-fn as_the_slow_lister(rt: HostRuntime) -> Result<(), Fail> {
-    for seed in 0..500 {
-        assert!(rt; agrees(rt.alloc(), seed)?, "{seed}");
-    }
     Ok(())
 }

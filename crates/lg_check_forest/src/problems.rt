@@ -68,12 +68,20 @@ const WORDS: [&str; 12] = [
     "aAB|b|ba",
 ];
 
+// Words with few disjuncts, for longer problems.
+const SHORT: [&str; 6] = ["A|a", "aA", "AB|b", "@a|B", "A", "a|bA"];
+
 /// One of a family of problems of two to eight positions, of which many have linkages of one cost and one length.
 pub fn made(alloc: Global, seed: u32) -> Result<Problem, Fail> {
     let mut rest = seed;
     let mut positions = Vec::new(alloc);
-    for _ in 0..2 + seed % 7 {
-        let word = WORDS[rest as usize % WORDS.len()];
+    let count = 2 + seed % 7;
+    for _ in 0..count {
+        let word = if count < 6 {
+            WORDS[rest as usize % WORDS.len()]
+        } else {
+            SHORT[rest as usize % SHORT.len()]
+        };
         positions.push(position(alloc, word)?)?;
         rest = rest / 5 + seed % 11;
     }

@@ -23,6 +23,7 @@ fn listed(alloc: Global, problem: Problem, forest: Forest) -> Result<Vec<Linkage
     Err("too many linkages")?
 }
 
+// Whether the slow lister, the forest and the ranked listing have the same linkages in the same order.
 fn agrees(alloc: Global, seed: u32) -> Result<bool, Fail> {
     let problem = made(alloc, seed)?;
     if problem.positions().len() > PLAIN_POSITIONS {
@@ -30,15 +31,48 @@ fn agrees(alloc: Global, seed: u32) -> Result<bool, Fail> {
     }
     let plain = plain_list(alloc, &problem)?;
     let forest = solve(alloc, &problem, &mut Steps::start())?;
+    let all = spell_all(alloc, &problem, &forest)?;
     let list = listed(alloc, problem, forest)?;
-    Ok(are_same(list.as_slice(), plain.as_slice()))
+    Ok(are_same(all.as_slice(), plain.as_slice()) && are_same(list.as_slice(), plain.as_slice()))
+}
+
+fn all_agree(alloc: Global, from: u32, to: u32) -> Result<bool, Fail> {
+    for seed in from..to {
+        if !agrees(alloc, seed)? {
+            return Ok(false);
+        }
+    }
+    Ok(true)
+}
+
+// 500 problems, in five tests for the time that a test may take.
+#[test]
+fn as_the_slow_lister(rt: HostRuntime) -> Result<(), Fail> {
+    assert!(rt; all_agree(rt.alloc(), 0, 100)?);
+    Ok(())
 }
 
 #[test]
-fn as_the_slow_lister(rt: HostRuntime) -> Result<(), Fail> {
-    for seed in 0..500 {
-        assert!(rt; agrees(rt.alloc(), seed)?, "{seed}");
-    }
+fn as_the_slow_lister_from_100(rt: HostRuntime) -> Result<(), Fail> {
+    assert!(rt; all_agree(rt.alloc(), 100, 200)?);
+    Ok(())
+}
+
+#[test]
+fn as_the_slow_lister_from_200(rt: HostRuntime) -> Result<(), Fail> {
+    assert!(rt; all_agree(rt.alloc(), 200, 300)?);
+    Ok(())
+}
+
+#[test]
+fn as_the_slow_lister_from_300(rt: HostRuntime) -> Result<(), Fail> {
+    assert!(rt; all_agree(rt.alloc(), 300, 400)?);
+    Ok(())
+}
+
+#[test]
+fn as_the_slow_lister_from_400(rt: HostRuntime) -> Result<(), Fail> {
+    assert!(rt; all_agree(rt.alloc(), 400, 500)?);
     Ok(())
 }
 
