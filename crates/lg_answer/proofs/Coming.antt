@@ -1,6 +1,6 @@
 -- How far a listing has come: what it has come past are the first candidates, and how it goes on.
 use Rattle.std.proofs.Common.{◌≡◌, ◌⊎◌, ◌↔◌, ℕ, ◌+◌, ◌-◌, ◌<◌, ◌≤◌, Bool, true, false, List, [], ◌∷◌, ◌++◌, length, Some, Contains, inl, inr, refl, sym, ap, ◌∙◌, subst, arith, append_assoc, append-nil, length-append, Less}
-use Rattle.std.specs.Prelude.{slice_get, Option, None}
+use Rattle.std.specs.Prelude.{slice_get, Option, None, ◌||◌}
 use Rattle.std.specs.Cmp.{nat_cmp_is}
 use Rattle.std.specs.Ordering.{nat_cmp, int_cmp, on, then_cmp, ordering_then}
 use Rattle.std.specs.Option.{option_cmp}
@@ -17,7 +17,7 @@ use Rattle.lg_region.specs.Parts.{UnderWhole}
 use Rattle.lg_knowread.specs.declared.knowledge.Knowledge.{Knowledge}
 use Rattle.lg_rank.specs.Fronts.{IsFront, IsAll, IsIn, IsNext, AllBefore}
 use Rattle.lg_rank.specs.Rankings.{given}
-use Rattle.lg_answer.specs.Candidates.{Decides, IsCandidate, AreFirst, AreAll, Course, IsLower, HasCome, HasComeBut}
+use Rattle.lg_answer.specs.Candidates.{Decides, IsCandidate, AreFirst, AreAll, IsBehind, Course, IsLower, HasCome, HasComeBut, IsNextOf, IsSameCourse}
 use Rattle.lg_answer.specs.declared.options.Nulls.{Nulls}
 use Rattle.lg_answer.proofs.Places.{in_left, in_right, in_either, place_of, at_place}
 use Rattle.lg_answer.proofs.Nothing.{nothing_of, nothing_good, nothing_count, nothing_decides}
@@ -234,3 +234,44 @@ at_start know positions nulls level least =
       least = λ h good decides. least h good;
       decided = (λ t. let no : ⊥ = cc in absurd no, λ h. let n = h.1.1 in absurd (omega arith));
     }
+
+or_either : (a b : Bool) → (a || b) ≡ true → (a ≡ true) ⊎ (b ≡ true)
+or_either true b t = inl refl
+or_either false b t = inr t
+
+either_or : (a b : Bool) → (a ≡ true) ⊎ (b ≡ true) → (a || b) ≡ true
+either_or true b h = refl
+either_or false true h = refl
+either_or false false (inl e) = e
+either_or false false (inr e) = e
+
+-- it is noted whether the one that was given last decides
+pub noted : (know : Knowledge) (c new : Course) (front : List Linkage) (g : Linkage) (decides : Bool) → new ≡ record c { decided = c.decided || decides }
+    → (decides ≡ true) ↔ Decides c.nulls know g → HasComeBut know c front g → HasCome know new (front ++ g ∷ [])
+noted know c new front g decides is tells but =
+    subst (λ n. HasCome know n (front ++ g ∷ [])) (sym is) (but (c.decided || decides) (
+      λ t. elim (or_either c.decided decides t) [ inl old ↦ inl old | inr now ↦ inr (tells.0 now) ],
+      λ h. either_or c.decided decides (elim h [ inl old ↦ inl old | inr now ↦ inr (tells.1 now) ]),
+    ))
+
+-- it need not be noted where one decides already
+pub noted_before : (know : Knowledge) (c : Course) (front : List Linkage) (g : Linkage) → c.decided ≡ true → HasComeBut know c front g → HasCome know c (front ++ g ∷ [])
+noted_before know c front g decided but =
+    subst (λ b. HasCome know (record c { decided = b }) (front ++ g ∷ [])) (sym decided) (but true (λ t. inl decided, λ h. refl))
+
+pub same_after : (a b c : Course) → IsSameCourse a b → IsSameCourse b c → IsSameCourse a c
+same_after a b c first next = record { problem = next.problem ∙ first.problem; nulls = next.nulls ∙ first.nulls }
+
+module _ (know : Knowledge) (old c : Course) (same : IsSameCourse old c) (n : ℕ) (front : List Linkage) where
+  behind_n : HasCome know c front → (c.position ≡ n) ⊎ ((c.position < n) × AreAll c.problem know c.nulls front) → IsBehind old.problem know old.nulls n c.position
+  behind_n come at =
+      subst (λ p. IsBehind p know old.nulls n c.position) same.problem
+      (subst (λ m. IsBehind c.problem know m n c.position) same.nulls
+      (record { front = front; first = are_first know c front come; count = come.position; at = at }))
+
+  -- so many are behind, or all where none is left
+  pub behind_so_many : HasCome know c front → c.position ≡ n → IsBehind old.problem know old.nulls n c.position
+  behind_so_many come at = behind_n come (inl at)
+
+  pub behind_all : IsNextOf know c front None → c.position < n → IsBehind old.problem know old.nulls n c.position
+  behind_all last less = behind_n last.0 (inr (less, last.1))

@@ -1,21 +1,22 @@
 -- One candidate more of a page, and the page of those that were looked at.
 use Rattle.std.proofs.Common.{◌≡◌, ◌⊎◌, ◌↔◌, ℕ, suc, ◌+◌, ◌<◌, ◌≤◌, List, [], ◌∷◌, ◌++◌, length, take, drop, Bool, true, false, cond, inl, inr, refl, sym, ap, ◌∙◌, subst, arith, length-drop}
-use Rattle.std.specs.Prelude.{Option, None, Some, is_none, All}
+use Rattle.std.specs.Prelude.{Option, None, Some, is_none, is_some, not, All, ◌||◌}
 use Rattle.std.specs.List.{enumerate_from}
 use Rattle.std.proofs.lemmas.Bool.{cases_lt}
 use Rattle.std.proofs.lemmas.List.{map-append, take_all, take-append-le, drop-append-le, length_push}
 use Rattle.std.proofs.lemmas.List.Elements.{All-push, All-contains}
-use Rattle.std.proofs.lemmas.List.Sums.{sum_by_push}
+use Rattle.std.proofs.lemmas.List.Sums.{sum_by-append, count_by-le-length}
 use Rattle.lg_gram.specs.Linkages.{Linkage}
+use Rattle.lg_gram.specs.declared.listing.Page.{Page}
 use Rattle.lg_gram.specs.declared.listing.PageItem.{PageItem}
 use Rattle.lg_gram.specs.declared.listing.Violation.{Violation}
 use Rattle.lg_knowread.specs.declared.knowledge.Knowledge.{Knowledge}
 use Rattle.lg_pp.specs.Breaks.{Judges, Holds}
-use Rattle.lg_answer.specs.Candidates.{Course, HasCome}
+use Rattle.lg_answer.specs.Candidates.{Decides, Course, HasCome, HasComeBut, IsNextOf, IsSameCourse}
 use Rattle.lg_answer.specs.Pages.{passed, IsPage}
 use Rattle.lg_answer.specs.Steps.{AreLookedAt, IsLookedAt, HasLooked}
 use Rattle.lg_answer.proofs.Places.{at_place}
-use Rattle.lg_answer.proofs.Coming.{are_first}
+use Rattle.lg_answer.proofs.Coming.{are_first, noted}
 
 enumerate_push : {A : Type 0} (n : ℕ) (xs : List A) (x : A) → enumerate_from n (xs ++ x ∷ []) ≡ enumerate_from n xs ++ (n + length xs, x) ∷ []
 enumerate_push n [] x = let e : n ≡ n + 0 = omega arith in λ i. (e i, x) ∷ []
@@ -24,12 +25,11 @@ enumerate_push n (y ∷ xs) x =
     ap (λ l. (n, y) ∷ l) (enumerate_push (n + 1) xs x) ∙ (λ i. (n, y) ∷ (enumerate_from (n + 1) xs ++ (e i, x) ∷ []))
 
 -- how many pass with one more candidate
-pub passed_push : (items : List PageItem) (item : PageItem) → passed (items ++ item ∷ []) ≡ passed items + cond (is_none item.broken) 1 0
-passed_push items item = sum_by_push (λ (i : PageItem). cond (is_none i.broken) 1 0) items item
+pub passed_push : (items : List PageItem) (item : PageItem) → passed (items ++ item ∷ []) ≡ passed items + passed (item ∷ [])
+passed_push items item = sum_by-append (λ (i : PageItem). cond (is_none i.broken) 1 0) items (item ∷ [])
 
--- a linkage that breaks a rule does not pass
-pub not_both : (know : Knowledge) (g : Linkage) (v : Violation) → Judges know g (Some v) → Judges know g None → ⊥
-not_both know g v is all = All-contains (Holds know g) know.rules is.rule all (at_place know.rules is.rule (_, is.number.1)) is.link is.fails
+pub passes_once : (item : PageItem) → passed (item ∷ []) ≤ 1
+passes_once item = count_by-le-length (λ (i : PageItem). is_none i.broken) (item ∷ [])
 
 module _ (know : Knowledge) (front : List Linkage) (from want examine : ℕ) where
   pub looked_more : (items : List PageItem) (item : PageItem) (g : Linkage) → AreLookedAt know front from want examine items → IsLookedAt know (from + length items + 1) g item
@@ -55,6 +55,22 @@ module _ (know : Knowledge) (front : List Linkage) (from want examine : ℕ) whe
             ];
       }
 
+-- one candidate more was looked at, and it was noted whether it decides
+pub one_looked_at : (know : Knowledge) (c new : Course) (front : List Linkage) (from want examine : ℕ) (items : List PageItem) (item : PageItem) (g : Linkage) (decides : Bool)
+    → HasComeBut know c front g → AreLookedAt know front from want examine items → IsLookedAt know (from + length items + 1) g item → passed items < want → length items < examine
+    → new ≡ record c { decided = c.decided || decides } → (decides ≡ true) ↔ Decides c.nulls know item.linkage
+    → (longer : List Linkage) × HasCome know new longer × AreLookedAt know longer from want examine (items ++ item ∷ [])
+one_looked_at know c new front from want examine items item g decides but old here wanted unseen is tells = (
+  front ++ g ∷ [],
+  noted know c new front g decides is (subst (λ l. (decides ≡ true) ↔ Decides c.nulls know l) here.linkage tells) but,
+  looked_more know front from want examine items item g old here wanted unseen,
+)
+
+-- none is left
+pub looked_at_all : (know : Knowledge) (c : Course) (front : List Linkage) (from want examine : ℕ) (items : List PageItem) → IsNextOf know c front None
+    → AreLookedAt know front from want examine items → passed items < want → length items < examine → HasLooked know c from want examine items true
+looked_at_all know c front from want examine items last old wanted unseen = record { front = front; come = last.0; looked = old; stops = (wanted, unseen, last.1) }
+
 -- before the first one
 pub none_looked_at : (know : Knowledge) (front : List Linkage) (from want examine : ℕ) → length front ≡ from → AreLookedAt know front from want examine []
 none_looked_at know front from want examine long = record {
@@ -65,7 +81,7 @@ none_looked_at know front from want examine long = record {
 }
 
 -- a page is at its end where it stopped for no other reason
-pub page_is : (know : Knowledge) (course : Course) (from want examine : ℕ) (items : List PageItem) (end : Bool) → HasLooked know course from want examine items end
+page_is : (know : Knowledge) (course : Course) (from want examine : ℕ) (items : List PageItem) (end : Bool) → HasLooked know course from want examine items end
     → IsPage course.problem know course.nulls from want examine (record { items = items; next = from + length items + 1; end = end })
 page_is know course from want examine items true is = record {
   front = is.front;
@@ -94,3 +110,10 @@ page_is know course from want examine items false is = record {
   );
   next = refl;
 }
+
+pub page_of_same : (know : Knowledge) (old course : Course) (from want examine : ℕ) (items : List PageItem) (end : Bool) → IsSameCourse old course → HasLooked know course from want examine items end
+    → IsPage old.problem know old.nulls from want examine (record { items = items; next = from + length items + 1; end = end })
+page_of_same know old course from want examine items end same is =
+    let page : Page = record { items = items; next = from + length items + 1; end = end } in
+    subst (λ p. IsPage p know old.nulls from want examine page) same.problem
+    (subst (λ m. IsPage course.problem know m from want examine page) same.nulls (page_is know course from want examine items end is))

@@ -5,7 +5,7 @@ ghost use Rattle.lg_knowread.specs.declared.knowledge.Knowledge.{Knowledge as Se
 ghost use Rattle.lg_pp.specs.Breaks.{Judges};
 ghost use Rattle.lg_pp.specs.Labels.{IsGood};
 ghost use Rattle.lg_answer.specs.Candidates.{StandsFor, IsSameCourse, IsBehind, Decides, HasCome, HasComeBut};
-ghost use Rattle.lg_answer.specs.Pages.{IsPage};
+ghost use Rattle.lg_answer.specs.Pages.{IsPage, passed};
 ghost use Rattle.lg_answer.specs.Steps.{IsLookedAt, HasLooked};
 
 use crate::course::Course;
@@ -131,10 +131,20 @@ fn look_on(
         };
         let item = look_at(alloc, know, from + looked + 1, linkage)?;
         course.note(decides_item(course.nulls(), &item));
-        passed += u64::from(item.broken.is_none());
+        passed += pass_count(&item);
         items.push(item)?;
     }
     Ok(false)
+}
+
+// 1 where this candidate passes, else 0.
+fn pass_count(item: &PageItem) -> u64
+    ensures { result ≡ passed (item.now ∷ []) }
+{
+    match item.broken {
+        None => 1,
+        Some(_) => 0,
+    }
 }
 
 // Whether a candidate that was looked at decides.
