@@ -1,5 +1,5 @@
 -- How far a listing has come: what it has come past are the first candidates, and how it goes on.
-use Rattle.std.proofs.Common.{◌≡◌, ◌⊎◌, ◌↔◌, ℕ, ◌+◌, ◌-◌, ◌<◌, ◌≤◌, Bool, true, false, List, [], ◌∷◌, ◌++◌, length, Some, Contains, inl, inr, refl, sym, ap, ◌∙◌, subst, arith, append_assoc, append-nil, length-append, Less}
+use Rattle.std.proofs.Common.{◌≡◌, ◌⊎◌, ◌↔◌, ℕ, ◌+◌, ◌-◌, ◌<◌, ◌≤◌, Bool, true, false, List, [], ◌∷◌, ◌++◌, length, Some, inl, inr, refl, sym, ap, ◌∙◌, subst, arith, append_assoc, append-nil, length-append, Less}
 use Rattle.std.specs.Prelude.{slice_get, Option, None, ◌||◌}
 use Rattle.std.specs.Cmp.{nat_cmp_is}
 use Rattle.std.specs.Ordering.{nat_cmp, int_cmp, on, then_cmp, ordering_then}
@@ -26,9 +26,9 @@ use Rattle.lg_answer.proofs.Nothing.{nothing_of, nothing_good, nothing_count, no
 fewer_first : (a b : Linkage) → unlinked a < unlinked b → linkage_cmp a b ≡ Less
 fewer_first a b less =
     let rest = then_cmp (on total_cost int_cmp)
-        (then_cmp (on total_length nat_cmp)
-        (then_cmp (on (λ (g : Linkage). g.chosen) (slice_cmp (option_cmp disjunct_cmp)))
-        (on (λ (g : Linkage). g.links) (slice_cmp tie_cmp)))) in
+    (then_cmp (on total_length nat_cmp)
+    (then_cmp (on (λ (g : Linkage). g.chosen) (slice_cmp (option_cmp disjunct_cmp)))
+    (on (λ (g : Linkage). g.links) (slice_cmp tie_cmp)))) in
     ap (λ o. ordering_then o (rest a b)) (sym (nat_cmp_is (unlinked a) (unlinked b) Less less))
 
 nothing_first : (Has : Linkage → Type 0) → ((g : Linkage) → Has g → ⊥) → IsFront linkage_cmp Has []
@@ -70,10 +70,10 @@ module _ (know : Knowledge) (c : Course) where
         ];
         below = λ g h.
             let before : ((i : ℕ) (a : Linkage) → slice_get come.given i ≡ Some a → linkage_cmp a g ≡ Less) → c.level ≤ unlinked g → AllBefore linkage_cmp (come.lower ++ come.given) g =
-                λ later most i a ha. elim (either i a ha) [
-                  | inl x ↦ fewer_first a g (let l = (low.sound i a x).fewer in omega arith)
-                  | inr x ↦ later x.0 a x.2
-                ] in
+            λ later most i a ha. elim (either i a ha) [
+              | inl x ↦ fewer_first a g (let l = (low.sound i a x).fewer in omega arith)
+              | inr x ↦ later x.0 a x.2
+            ] in
             elim (cases_lt (unlinked g) c.level) [
               | inl less ↦ let at = come.lower_all g (record { good = good g h; fewer = less }) in inl (at.0, in_left come.lower come.given at.0 g at.1)
               | inr most ↦ elim (cases_lt c.level (unlinked g)) [

@@ -1,21 +1,19 @@
 -- One candidate more of a page, and the page of those that were looked at.
-use Rattle.std.proofs.Common.{◌≡◌, ◌⊎◌, ◌↔◌, ℕ, suc, ◌+◌, ◌<◌, ◌≤◌, List, [], ◌∷◌, ◌++◌, length, take, drop, Bool, true, false, cond, inl, inr, refl, sym, ap, ◌∙◌, subst, arith, length-drop}
-use Rattle.std.specs.Prelude.{Option, None, Some, is_none, is_some, not, All, ◌||◌}
+use Rattle.std.proofs.Common.{◌≡◌, ◌↔◌, ℕ, suc, ◌+◌, ◌<◌, ◌≤◌, List, [], ◌∷◌, ◌++◌, length, take, drop, map, Bool, true, false, cond, inl, inr, refl, sym, ap, ◌∙◌, subst, arith, length-drop}
+use Rattle.std.specs.Prelude.{None, is_none, ◌||◌}
 use Rattle.std.specs.List.{enumerate_from}
 use Rattle.std.proofs.lemmas.Bool.{cases_lt}
 use Rattle.std.proofs.lemmas.List.{map-append, take_all, take-append-le, drop-append-le, length_push}
-use Rattle.std.proofs.lemmas.List.Elements.{All-push, All-contains}
+use Rattle.std.proofs.lemmas.List.Elements.{All-push}
 use Rattle.std.proofs.lemmas.List.Sums.{sum_by-append, count_by-le-length}
 use Rattle.lg_gram.specs.Linkages.{Linkage}
 use Rattle.lg_gram.specs.declared.listing.Page.{Page}
 use Rattle.lg_gram.specs.declared.listing.PageItem.{PageItem}
-use Rattle.lg_gram.specs.declared.listing.Violation.{Violation}
 use Rattle.lg_knowread.specs.declared.knowledge.Knowledge.{Knowledge}
-use Rattle.lg_pp.specs.Breaks.{Judges, Holds}
+use Rattle.lg_pp.specs.Breaks.{Judges}
 use Rattle.lg_answer.specs.Candidates.{Decides, Course, HasCome, HasComeBut, IsNextOf, IsSameCourse}
 use Rattle.lg_answer.specs.Pages.{passed, IsPage}
 use Rattle.lg_answer.specs.Steps.{AreLookedAt, IsLookedAt, HasLooked}
-use Rattle.lg_answer.proofs.Places.{at_place}
 use Rattle.lg_answer.proofs.Coming.{are_first, noted}
 
 enumerate_push : {A : Type 0} (n : ℕ) (xs : List A) (x : A) → enumerate_from n (xs ++ x ∷ []) ≡ enumerate_from n xs ++ (n + length xs, x) ∷ []
@@ -31,20 +29,24 @@ passed_push items item = sum_by-append (λ (i : PageItem). cond (is_none i.broke
 pub passes_once : (item : PageItem) → passed (item ∷ []) ≤ 1
 passes_once item = count_by-le-length (λ (i : PageItem). is_none i.broken) (item ∷ [])
 
+-- the numbers of the candidates that a page looked at, and of one more
+numbers_more : (front : List Linkage) (from n : ℕ) (g : Linkage) → from + n ≡ length front
+    → enumerate_from (from + 1) (drop from (front ++ g ∷ [])) ≡ enumerate_from (from + 1) (drop from front) ++ (from + n + 1, g) ∷ []
+numbers_more front from n g long =
+    let rest = drop from front in
+    let count : from + 1 + length rest ≡ from + n + 1 = omega (arith, length-drop from front) in
+    ap (enumerate_from (from + 1)) (drop-append-le from front (g ∷ []) (omega arith)) ∙ enumerate_push (from + 1) rest g ∙ ap (λ k. enumerate_from (from + 1) rest ++ (k, g) ∷ []) count
+
 module _ (know : Knowledge) (front : List Linkage) (from want examine : ℕ) where
   pub looked_more : (items : List PageItem) (item : PageItem) (g : Linkage) → AreLookedAt know front from want examine items → IsLookedAt know (from + length items + 1) g item
       → passed items < want → length items < examine → AreLookedAt know (front ++ g ∷ []) from want examine (items ++ item ∷ [])
   looked_more items item g old new more_wanted more_examined =
-      let rest = drop from front in
       let within = old.within in
-      let start : from ≤ length front = omega arith in
-      let count : from + 1 + length rest ≡ from + length items + 1 = omega (arith, length-drop from front) in
+      let shown : map (λ (i : PageItem). (i.number, i.linkage)) (items ++ item ∷ []) ≡ enumerate_from (from + 1) (drop from front) ++ (from + length items + 1, g) ∷ [] =
+          map-append (λ (i : PageItem). (i.number, i.linkage)) items (item ∷ []) ∙ (λ j. old.numbered j ++ (new.number_is j, new.linkage j) ∷ []) in
       record {
         within = omega (arith, length_push items item, length_push front g);
-        numbered =
-            map-append (λ (i : PageItem). (i.number, i.linkage)) items (item ∷ [])
-            ∙ (λ j. old.numbered j ++ (new.number_is j, new.linkage j) ∷ [])
-            ∙ sym (ap (enumerate_from (from + 1)) (drop-append-le from front (g ∷ []) start) ∙ enumerate_push (from + 1) rest g ∙ (λ i. enumerate_from (from + 1) rest ++ (count i, g) ∷ []));
+        numbered = shown ∙ sym (numbers_more front from (length items) g within);
         judged = All-push (λ (i : PageItem). Judges know i.linkage i.broken) items item old.judged (subst (λ l. Judges know l item.broken) (sym new.linkage) new.judged);
         goes_on = λ k below.
             let inside : k ≤ length items = omega (arith, length_push items item) in

@@ -1,5 +1,5 @@
 -- The linkage in which no word is linked is good, and it decides.
-use Rattle.std.proofs.Common.{◌≡◌, ℕ, zero, suc, ◌+◌, ◌*◌, List, [], length, get_or, replicate, Option, Some, None, IsSome, Contains, refl, sym, ◌∙◌, subst, arith}
+use Rattle.std.proofs.Common.{◌≡◌, ℕ, zero, suc, List, [], length, get_or, replicate, Option, Some, None, IsSome, refl, sym, ◌∙◌, subst, arith}
 use Rattle.std.specs.Prelude.{is_none, cond}
 use Rattle.std.specs.List.Sorted.{IsStrictlySortedBy}
 use Rattle.std.proofs.lemmas.List.{length-replicate}

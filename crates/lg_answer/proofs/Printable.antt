@@ -13,7 +13,7 @@ items_fit : (P : Linkage → Type 0) (n : ℕ) (items : List PageItem) (gs : Lis
 items_fit P n [] gs same all = All-nil (λ (item : PageItem). P item.linkage)
 items_fit P n (item ∷ items) [] same all = let no : ⊥ = cc in absurd no
 items_fit P n (item ∷ items) (g ∷ gs) same all =
-    let shown : (item.number, item.linkage) ≡ (n, g) = cc in
+    let shown : ◌≡◌ {A = ℕ × Linkage} (item.number, item.linkage) (n, g) = cc in
     let first : g ≡ item.linkage = ap (λ (p : ℕ × Linkage). p.1) (sym shown) in
     let rest : map (λ item. (item.number, item.linkage)) items ≡ enumerate_from (n + 1) gs = cc in
     All-cons (λ (item : PageItem). P item.linkage) item items (subst P first (All-head P g gs all)) (items_fit P (n + 1) items gs rest (All-tail P g gs all))
@@ -24,6 +24,6 @@ page_fits listing know want examine page is of =
     let P = IsLinkageFor listing.tokens in
     let from = listing.course.position in
     let fit = all_places P of.front (λ i g at.
-        let good = (of.first.sound i g at).good in
-        record { same_length = sym is ∙ sym good.belongs.same_length; good = record { positions = listing.course.problem; good = good } }) in
+    let good = (of.first.sound i g at).good in
+    record { same_length = sym is ∙ sym good.belongs.same_length; good = record { positions = listing.course.problem; good = good } }) in
     items_fit P (from + 1) page.items (drop from of.front) of.numbered (All-drop P from of.front fit)

@@ -1,4 +1,4 @@
-use Rattle.std.proofs.Common.{◌≡◌, ◌≤◌, ◌+◌, List, length}
+use Rattle.std.proofs.Common.{◌≡◌, ◌≤◌, List, length}
 use Rattle.lg_gram.specs.Linkages.{Linkage}
 use Rattle.lg_answer.specs.Candidates.{HasCome, IsSameCourse}
 use Rattle.lg_answer.specs.Pages.{passed}

@@ -1,4 +1,4 @@
-use Rattle.std.proofs.Common.{◌≡◌, ◌+◌, ◌<◌, [], ◌∷◌, ◌++◌, length, sym, ◌∙◌, subst, arith}
+use Rattle.std.proofs.Common.{◌+◌, [], ◌∷◌, ◌++◌, subst, arith}
 use Rattle.std.proofs.lemmas.List.{length_push}
 use Rattle.lg_answer.specs.Candidates.{IsNextOf}
 use Rattle.lg_answer.proofs.Coming.{same_after, behind_so_many, behind_all}

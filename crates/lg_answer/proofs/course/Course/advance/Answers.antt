@@ -1,4 +1,4 @@
-use Rattle.std.proofs.Common.{◌≡◌, true, false, sym, ap, ◌∙◌, subst}
+use Rattle.std.proofs.Common.{sym, ap, ◌∙◌, subst}
 use Rattle.lg_gram.specs.Rules.{Good}
 use Rattle.lg_answer.specs.Candidates.{Course}
 use Rattle.lg_answer.proofs.Coming.{found_next, found_good, spent, unmoved, falls, not_last, all_behind, rises}
