@@ -1,6 +1,9 @@
 pub mod Found
 pub mod Whole
 pub mod Ordered
-pub mod Paging
-pub mod Printable
 pub mod Lists
+pub mod Places
+pub mod Nothing
+pub mod Coming
+pub mod Looking
+pub mod Printable

@@ -1,5 +1,5 @@
 -- Which linkages of a sentence are listed, in which order, and how far a listing of them has come.
-use Rattle.std.specs.Prelude.{◌≡◌, ◌↔◌, ℕ, ◌<◌, ◌≤◌, Bool, true, Unit, List, [], ◌∷◌, ◌++◌, length, Option, None, Some, ◌⊎◌, Contains}
+use Rattle.std.specs.Prelude.{◌≡◌, ◌↔◌, ℕ, ◌<◌, ◌≤◌, Bool, true, List, [], ◌∷◌, ◌++◌, length, Option, None, Some, ◌⊎◌, Contains}
 use Rattle.lg_gram.specs.Linkages.{Linkage, linkage_cmp, unlinked}
 use Rattle.lg_gram.specs.Rules.{Good}
 use Rattle.lg_gram.specs.declared.disjunct.Disjunct.{Disjunct}
@@ -61,7 +61,7 @@ pub record HasCome (know : Knowledge) (c : Course) (front : List Linkage) : Type
   pub given_first : IsFront linkage_cmp (UnderWhole c.problem c.level) given
   pub before : length lower ≡ c.before
   pub position : length front ≡ c.position
-  pub open : (h : Linkage) → Good c.problem h → Decides c.nulls know h → c.level ≤ unlinked h
+  pub least : (h : Linkage) → Good c.problem h → Decides c.nulls know h → c.level ≤ unlinked h
   pub decided : (c.decided ≡ true) ↔ ((g : Linkage) × Contains given g × Decides c.nulls know g)
 
 -- what a listing keeps is right for this knowledge

@@ -1,5 +1,5 @@
 -- Listings of a sentence, and their pages.
-use Rattle.std.specs.Prelude.{◌≡◌, ◌↔◌, ◌⊎◌, ℕ, ◌+◌, ◌<◌, ◌≤◌, true, List, length, map, take, drop, All, None, is_none, count_by}
+use Rattle.std.specs.Prelude.{◌≡◌, ◌↔◌, ◌⊎◌, ℕ, ◌+◌, ◌<◌, true, List, length, map, take, drop, All, None, is_none, count_by}
 use Rattle.std.specs.List.{enumerate_from}
 use Rattle.lg_gram.specs.Linkages.{Linkage}
 use Rattle.lg_gram.specs.declared.disjunct.Disjunct.{Disjunct}

@@ -1,5 +1,5 @@
 -- The work step by step: what the loops over words, tokens and candidates keep.
-use Rattle.std.specs.Prelude.{◌≡◌, ◌≤◌, ◌<◌, ℕ, ◌+◌, List, [], ◌∷◌, ◌++◌, length, map, take, drop, All}
+use Rattle.std.specs.Prelude.{◌≡◌, ◌≤◌, ◌<◌, ℕ, ◌+◌, List, [], ◌∷◌, ◌++◌, length, map, take, drop, All, Bool, MatchBool, ◌⊎◌}
 use Rattle.std.specs.List.{AllZip, sum_by, enumerate_from}
 use Rattle.std.specs.List.Sorted.{IsStrictlySortedBy}
 use Rattle.std.specs.Ordering.{nat_cmp}
@@ -14,6 +14,7 @@ use Rattle.lg_knowread.specs.declared.knowledge.Knowledge.{Knowledge}
 use Rattle.lg_pp.specs.Breaks.{Judges}
 use Rattle.lg_token.specs.Bounds.{word_choices}
 use Rattle.lg_answer.specs.Problems.{IsPositionOf}
+use Rattle.lg_answer.specs.Candidates.{Course, HasCome, AreAll}
 use Rattle.lg_answer.specs.Pages.{passed}
 
 -- words that increase by bytes, and tokens whose words do
@@ -51,3 +52,10 @@ pub record IsLookedAt (know : Knowledge) (number : ℕ) (g : Linkage) (item : Pa
   pub number_is : item.number ≡ number
   pub linkage : item.linkage ≡ g
   pub judged : Judges know g item.broken
+
+-- A page has looked at these candidates and stops: at the end where none is left, and else where enough have passed or were looked at.
+pub record HasLooked (know : Knowledge) (course : Course) (from want examine : ℕ) (items : List PageItem) (end : Bool) : Type 0 where
+  pub front : List Linkage
+  pub come : HasCome know course front
+  pub looked : AreLookedAt know front from want examine items
+  pub stops : MatchBool end ((passed items < want) × (length items < examine) × AreAll course.problem know course.nulls front) ((passed items ≡ want) ⊎ (length items ≡ examine))

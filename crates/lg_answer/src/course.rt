@@ -1,7 +1,10 @@
 //! The candidates of a problem one by one, those with fewer unlinked words first.
-ghost use Rattle.std.specs.Prelude.{◌≡◌, ◌+◌, ◌<◌, ◌≤◌, ◌^◌, ℕ, Bool, true, false, List, length, Option, None, IfOk, OnOk};
-ghost use Rattle.lg_gram.specs.Linkages.{Linkage as Seen};
-ghost use Rattle.lg_gram.specs.Problems.{IsProblem};
+ghost use Rattle.std.specs.Prelude.{◌≡◌, ◌+◌, ◌<◌, ◌^◌, ◌||◌, List, length, IfOk, OnOk, IfSome};
+ghost use Rattle.lg_gram.specs.Linkages.{Linkage as Seen, linkage_cmp};
+ghost use Rattle.lg_gram.specs.Rules.{Good};
+ghost use Rattle.lg_region.specs.Parts.{UnderWhole};
+ghost use Rattle.lg_rank.specs.Fronts.{IsFront, IsNext};
+ghost use Rattle.lg_rank.specs.Rankings.{given};
 ghost use Rattle.lg_knowread.specs.declared.knowledge.Knowledge.{Knowledge as SeenKnowledge};
 ghost use Rattle.lg_answer.specs.Candidates.{HasCome, StandsFor, IsNextOf, IsSameCourse};
 
@@ -82,11 +85,11 @@ impl Course {
         self.nulls
     }
 
-    /// Notes whether a candidate of the level that is behind decides.
-    pub fn note(&mut self, decided: bool)
-        ensures { self.new ≡ record self.old { decided = decided } }
+    /// Notes whether the candidate that was given last decides.
+    pub fn note(&mut self, decides: bool)
+        ensures { self.new ≡ record self.old { decided = self.old.decided || decides } }
     {
-        self.decided = decided;
+        self.decided = self.decided || decides;
     }
 
     /// The next candidate, or none where all are behind. Whether it decides is still to be noted. The knowledge is one that the
@@ -95,28 +98,42 @@ impl Course {
         requires room { self.old.position < 2 ^ 62 }
         requires stands { (know : SeenKnowledge) × StandsFor know self.old }
         ensures next { (know : SeenKnowledge) (front : List Seen) → HasCome know self.old front → IfOk result (λ g. IsNextOf know self.new front g) }
+        ensures good { IfOk result (λ g. IfSome g (Good self.old.problem)) }
         ensures same { OnOk result (IsSameCourse self.old self.new) }
     {
-        loop {
-            if let Some(linkage) = self.ranked.next(alloc)? {
-                return Ok(Some(linkage));
+        'levels: loop {
+            match self.next_of_level(alloc)? {
+                Some(linkage) => return Ok(Some(linkage)),
+                None => {
+                    if self.is_decided() {
+                        return Ok(None);
+                    }
+                    self.rise(alloc)?;
+                }
             }
-            if self.decided {
-                return Ok(None);
-            }
-            self.rise(alloc)?;
         }
     }
 
+    // The next linkage of the level, or none where all of it are behind.
+    fn next_of_level(&mut self, alloc: Global) -> Result<Option<Linkage>, NoMemory>
+        requires room { self.old.position < 2 ^ 62 }
+        ensures next { (gs : List Seen) → IsFront linkage_cmp (UnderWhole self.old.problem self.old.level) gs → self.old.before + length gs ≡ self.old.position → IfOk result (λ g. IsNext linkage_cmp (UnderWhole self.old.problem self.old.level) gs g) }
+        ensures moved { IfOk result (λ g. self.new ≡ record self.old { position = self.old.position + given g }) }
+    {
+        self.ranked.next(alloc)
+    }
+
     // Goes on to one more unlinked word.
-    fn rise(&mut self, alloc: Global) -> Result<(), NoMemory> {
+    fn rise(&mut self, alloc: Global) -> Result<(), NoMemory>
+        requires room { self.old.position < 2 ^ 62 }
+        requires level { self.old.level < length self.old.problem }
+        ensures { OnOk result (self.new ≡ record self.old { level = self.old.level + 1; before = self.old.position }) }
+    {
+        let problem = self.ranked.problem();
+        // the call tells that there are few positions
+        let _positions = problem.positions();
         let level = self.ranked.nulls() + 1;
-        let forest = solve_at(
-            alloc,
-            self.ranked.problem(),
-            level,
-            &mut Steps::<Own>::start(),
-        )?;
+        let forest = solve_at(alloc, problem, level, &mut Steps::<Own>::start())?;
         let given = self.ranked.position();
         self.ranked.restart(alloc, forest)?;
         self.before += given;

@@ -1,9 +1,12 @@
 //! Pages of candidates.
-ghost use Rattle.std.specs.Prelude.{◌≡◌, ◌≤◌, ◌<◌, ◌^◌, ◌+◌, ◌⊎◌, ◌↔◌, true, length, None, IfOk, OnOk};
+ghost use Rattle.std.specs.Prelude.{◌≡◌, ◌≤◌, ◌<◌, ◌^◌, ◌+◌, ◌↔◌, ◌∷◌, ◌++◌, true, [], length, List, IfOk, OnOk};
+ghost use Rattle.lg_gram.specs.Linkages.{Linkage as Seen};
+ghost use Rattle.lg_knowread.specs.declared.knowledge.Knowledge.{Knowledge as SeenKnowledge};
+ghost use Rattle.lg_pp.specs.Breaks.{Judges};
 ghost use Rattle.lg_pp.specs.Labels.{IsGood};
-ghost use Rattle.lg_answer.specs.Candidates.{StandsFor, IsSameCourse, IsBehind, Decides};
-ghost use Rattle.lg_answer.specs.Pages.{passed, IsPage};
-ghost use Rattle.lg_answer.specs.Steps.{IsLookedAt};
+ghost use Rattle.lg_answer.specs.Candidates.{StandsFor, IsSameCourse, IsBehind, Decides, HasCome, HasComeBut};
+ghost use Rattle.lg_answer.specs.Pages.{IsPage, passed};
+ghost use Rattle.lg_answer.specs.Steps.{IsLookedAt, HasLooked};
 
 use crate::course::Course;
 use crate::options::Nulls;
@@ -32,11 +35,28 @@ pub(crate) fn skip(
         let Some(linkage) = course.advance(alloc)? else {
             return Ok(());
         };
-        if !course.is_decided() {
-            let decides = decides(alloc, know, course.nulls(), &linkage)?;
-            course.note(decides);
-        }
+        pass_over(alloc, know, course, &linkage)?;
     }
+    Ok(())
+}
+
+// Notes of the candidate that was given last whether it decides, and judges it only where that is not clear.
+fn pass_over(
+    alloc: Global,
+    know: &Knowledge,
+    course: &mut Course,
+    linkage: &Linkage,
+) -> Result<(), NoMemory>
+    requires few { length know.now.rules < 2 ^ 32 }
+    requires good { IsGood linkage.now }
+    ensures passed { (front : List Seen) → HasComeBut know.now course.old front linkage.now → OnOk result (HasCome know.now course.new (front ++ linkage.now ∷ [])) }
+    ensures same { OnOk result (IsSameCourse course.old course.new) }
+{
+    if course.is_decided() {
+        return Ok(());
+    }
+    let decides = decides(alloc, know, course.nulls(), linkage)?;
+    course.note(decides);
     Ok(())
 }
 
@@ -76,21 +96,7 @@ pub(crate) fn page_of(
 {
     let from = course.position();
     let mut items = Vec::new(alloc);
-    let mut passed = 0;
-    let mut end = false;
-    while !end && passed < want && (items.len() as u64) < examine {
-        match course.advance(alloc)? {
-            None => end = true,
-            Some(linkage) => {
-                let item = look_at(alloc, know, from + items.len() as u64 + 1, linkage)?;
-                if item.broken.is_none() {
-                    passed += 1;
-                }
-                course.note(course.is_decided() || decides_item(course.nulls(), &item));
-                items.push(item)?;
-            }
-        }
-    }
+    let end = look_on(alloc, know, course, want, examine, &mut items)?;
     Ok(Page {
         next: from + items.len() as u64 + 1,
         items: PageItems::of(items),
@@ -98,10 +104,57 @@ pub(crate) fn page_of(
     })
 }
 
+// Puts the candidates that a page looks at into the list, which is empty, and says whether none is left.
+fn look_on(
+    alloc: Global,
+    know: &Knowledge,
+    course: &mut Course,
+    want: u64,
+    examine: u64,
+    items: &mut Vec<PageItem>,
+) -> Result<bool, NoMemory>
+    requires few { length know.now.rules < 2 ^ 32 }
+    requires stands { StandsFor know.now course.old }
+    requires room { course.old.position + examine ≤ 2 ^ 62 }
+    requires empty { items.old.items ≡ [] }
+    ensures looked { IfOk result (HasLooked know.now course.new course.old.position want examine items.new.items) }
+    ensures same { OnOk result (IsSameCourse course.old course.new) }
+{
+    let from = course.position();
+    let mut passed = 0;
+    for looked in 0..examine {
+        if passed == want {
+            return Ok(false);
+        }
+        let Some(linkage) = course.advance(alloc)? else {
+            return Ok(true);
+        };
+        let item = look_at(alloc, know, from + looked + 1, linkage)?;
+        course.note(decides_item(course.nulls(), &item));
+        passed += pass_count(&item);
+        items.push(item)?;
+    }
+    Ok(false)
+}
+
+// 1 where this candidate passes, else 0.
+fn pass_count(item: &PageItem) -> u64
+    ensures { result ≡ passed (item.now ∷ []) }
+{
+    match item.broken {
+        None => 1,
+        Some(_) => 0,
+    }
+}
+
 // Whether a candidate that was looked at decides.
 fn decides_item(nulls: Nulls, item: &PageItem) -> bool
+    ensures { (know : SeenKnowledge) → Judges know item.now.linkage item.now.broken → (result ≡ true) ↔ Decides nulls know item.now.linkage }
 {
-    nulls == Nulls::First || item.broken.is_none()
+    match nulls {
+        Nulls::First => true,
+        Nulls::Passing => item.broken.is_none(),
+    }
 }
 
 fn look_at(

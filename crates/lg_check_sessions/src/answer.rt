@@ -1,10 +1,12 @@
 //! That calls succeed: the pages of a sentence with three linkages.
-ghost use Rattle.std.specs.Prelude.{◌≡◌, ◌≤◌, ◌<◌, ◌^◌, [], ◌∷◌, length, IfOk};
+ghost use Rattle.std.specs.Prelude.{◌≡◌, ◌+◌, ◌≤◌, ◌<◌, ◌^◌, [], ◌∷◌, length, IfOk};
 ghost use Rattle.lg_gram.specs.Trees.{tree_of};
 ghost use Rattle.lg_gram.specs.Formulas.{LevelFits};
 ghost use Rattle.lg_dict.specs.Dictionary.{AreEntries};
+ghost use Rattle.lg_knowread.specs.declared.knowledge.Knowledge.{Knowledge as SeenKnowledge};
+ghost use Rattle.lg_answer.specs.Candidates.{StandsFor};
 
-use lg_answer::{Listing, Options};
+use lg_answer::{Listing, Nulls, Options};
 use lg_base::{Text, Texts};
 use lg_dict::{Dict, View};
 use lg_gram::{Connector, Entry, Expr, Exprs, Formula, Page, PageItem, Violation};
@@ -107,23 +109,40 @@ fn expect_count<R: Abort>(rt: &R, page: &Page, count: usize, next: u64, end: boo
 }
 
 // The listing of a sentence at its start.
-fn started(alloc: Global, entries: Vec<Entry>, text: &str) -> Result<Listing, Fail>
+fn started(
+    alloc: Global,
+    entries: Vec<Entry>,
+    text: &str,
+    nulls: Nulls,
+) -> Result<Listing, Fail>
     requires entries { AreEntries entries.items }
     requires short { length text.now < 2 ^ 32 }
+    ensures first { IfOk result (λ listing. listing.course.position ≡ 0) }
+    ensures stands { (know : SeenKnowledge) → IfOk result (λ listing. StandsFor know listing.course) }
 {
     let dict = Dict::of(alloc, entries)?;
-    Ok(Listing::start(alloc, &View::of(alloc, &dict), text)?)
+    let options = Options {
+        want: 10,
+        examine: 1000,
+        nulls,
+    };
+    Ok(Listing::start(alloc, &View::of(alloc, &dict), text, &options)?)
 }
 
-// The next page, where no rule or the strict one is asked of candidates.
+// The next page, of at most so many candidates that pass.
 fn turned(
     alloc: Global,
     listing: Listing,
-    strict: bool,
-    options: Options,
-) -> Result<(Listing, Page), Fail> {
-    let know = knowledge(alloc, strict)?;
-    Ok(listing.page(alloc, &know, options.want, options.examine)?)
+    know: &Knowledge,
+    want: u64,
+) -> Result<(Listing, Page), Fail>
+    requires few { length know.now.rules ≤ 1 }
+    requires stands { StandsFor know.now listing.course }
+    requires room { listing.course.position < 2 ^ 32 }
+    ensures stands { IfOk result (λ both. StandsFor know.now both.0.course) }
+    ensures moved { IfOk result (λ both. both.0.course.position + 1 ≡ both.1.next) }
+{
+    Ok(listing.page(alloc, know, want, 10)?)
 }
 
 // Wants that the next page of one is so, and gives the listing after it.
@@ -131,14 +150,17 @@ fn expect_next<R: Abort>(
     rt: &R,
     alloc: Global,
     listing: Listing,
+    know: &Knowledge,
     number: u32,
     word: &[u8],
-) -> Result<Listing, Fail> {
-    let options = Options {
-        want: 1,
-        examine: 10,
-    };
-    let (listing, page) = turned(alloc, listing, false, options)?;
+) -> Result<Listing, Fail>
+    requires few { length know.now.rules ≤ 1 }
+    requires stands { StandsFor know.now listing.course }
+    requires room { listing.course.position < 2 ^ 32 }
+    ensures stands { IfOk result (λ listing. StandsFor know.now listing.course) }
+    ensures position { IfOk result (λ listing. listing.course.position ≡ number) }
+{
+    let (listing, page) = turned(alloc, listing, know, 1)?;
     expect_one(rt, &page, number, word);
     Ok(listing)
 }
@@ -146,21 +168,34 @@ fn expect_next<R: Abort>(
 #[test]
 fn pages_of_one(rt: HostRuntime) -> Result<(), Fail> {
     let alloc = rt.alloc();
-    let listing = started(alloc, entries(alloc)?, "x run")?;
-    let listing = expect_next(&rt, alloc, listing, 1, b"run.n")?;
-    let listing = expect_next(&rt, alloc, listing, 2, b"run.v")?;
-    expect_next(&rt, alloc, listing, 3, b"run.n")?;
+    let know = knowledge(alloc, false)?;
+    let listing = started(alloc, entries(alloc)?, "x run", Nulls::First)?;
+    let listing = expect_next(&rt, alloc, listing, &know, 1, b"run.n")?;
+    let listing = expect_next(&rt, alloc, listing, &know, 2, b"run.v")?;
+    expect_next(&rt, alloc, listing, &know, 3, b"run.n")?;
     Ok(())
 }
 
 #[test]
-fn skips(rt: HostRuntime) -> Result<(), Fail> {
+fn skips_one(rt: HostRuntime) -> Result<(), Fail> {
     let alloc = rt.alloc();
-    let listing = started(alloc, entries(alloc)?, "x run")?;
+    let know = knowledge(alloc, false)?;
+    let listing = started(alloc, entries(alloc)?, "x run", Nulls::First)?;
     assert!(rt; listing.tokens().items().len() == 2 && listing.problem().positions().len() == 2);
     assert!(rt; listing.stats().disjuncts == 6 && listing.stats().kept == 6);
-    let listing = expect_next(&rt, alloc, listing.skip(1), 2, b"run.v")?;
-    let (_, last) = turned(alloc, listing.skip(u64::MAX), false, Options::default())?;
+    let listing = listing.skip(alloc, &know, 1)?;
+    let (_, page) = listing.page(alloc, &know, 1, 10)?;
+    expect_one(&rt, &page, 2, b"run.v");
+    Ok(())
+}
+
+#[test]
+fn skips_all(rt: HostRuntime) -> Result<(), Fail> {
+    let alloc = rt.alloc();
+    let know = knowledge(alloc, false)?;
+    let listing = started(alloc, entries(alloc)?, "x run", Nulls::First)?;
+    let listing = listing.skip(alloc, &know, 1000)?;
+    let (_, last) = listing.page(alloc, &know, 10, 1000)?;
     expect_count(&rt, &last, 0, 4, true);
     Ok(())
 }
@@ -168,12 +203,9 @@ fn skips(rt: HostRuntime) -> Result<(), Fail> {
 #[test]
 fn first_is_broken(rt: HostRuntime) -> Result<(), Fail> {
     let alloc = rt.alloc();
-    let options = Options {
-        want: 1,
-        examine: 10,
-    };
-    let listing = started(alloc, entries(alloc)?, "x run")?;
-    let (listing, page) = turned(alloc, listing, true, options)?;
+    let know = knowledge(alloc, true)?;
+    let listing = started(alloc, entries(alloc)?, "x run", Nulls::First)?;
+    let (listing, page) = turned(alloc, listing, &know, 1)?;
     expect_count(&rt, &page, 2, 3, false);
     let broken = Violation {
         rule: 1,
@@ -181,7 +213,37 @@ fn first_is_broken(rt: HostRuntime) -> Result<(), Fail> {
         right: 1,
     };
     expect_first_broken(&rt, &page, broken);
-    let (_, last) = turned(alloc, listing, true, Options::default())?;
+    let (_, last) = turned(alloc, listing, &know, 10)?;
     expect_count(&rt, &last, 1, 4, true);
     Ok(())
+}
+
+// A linkage of `x run` has a link A, or no word of it is linked.
+fn broken_entries(alloc: Global) -> Result<Vec<Entry>, Fail>
+    ensures { IfOk result (λ entries. AreEntries entries.items) }
+{
+    let mut entries = Vec::new(alloc);
+    entries.push(entry(alloc, b"x", any_of(alloc, b"A", true)?)?)?;
+    entries.push(entry(alloc, b"run", any_of(alloc, b"A", false)?)?)?;
+    Ok(entries)
+}
+
+// The link alone breaks the strict rule: this many candidates are listed.
+fn expect_listed(rt: HostRuntime, nulls: Nulls, count: u32) -> Result<(), Fail> {
+    let alloc = rt.alloc();
+    let know = knowledge(alloc, true)?;
+    let listing = started(alloc, broken_entries(alloc)?, "x run", nulls)?;
+    let (_, page) = turned(alloc, listing, &know, 10)?;
+    expect_count(&rt, &page, count as usize, u64::from(count) + 1, true);
+    Ok(())
+}
+
+#[test]
+fn all_decide(rt: HostRuntime) -> Result<(), Fail> {
+    expect_listed(rt, Nulls::First, 1)
+}
+
+#[test]
+fn those_that_pass_decide(rt: HostRuntime) -> Result<(), Fail> {
+    expect_listed(rt, Nulls::Passing, 2)
 }

@@ -1,0 +1,8 @@
+use Rattle.lg_answer.specs.Pages.{Listing}
+use Rattle.lg_answer.proofs.Printable.{page_fits}
+use Rattle.lg_answer.proofs.listing.Listing.page.Goals as goal
+
+pub returns-clause-printable : goal.returns-clause-printable
+returns-clause-printable c =
+    let seen : Listing = record { tokens = c.self.inside.tokens; course = c.self.inside.course } in
+    rw (← c.self.view_is) (page_fits seen c.args.know.now c.args.want c.args.examine c.in_ok-page.page c.self.invariant c.in_ok-page.ensures.page)
