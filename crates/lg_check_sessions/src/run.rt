@@ -69,6 +69,19 @@ fn dictionary_of(alloc: Global, text: &[u8]) -> Result<MemFiles, Fail> {
     Ok(files)
 }
 
+// The files `d`, `k` and `s1`.
+fn files_of(
+    alloc: Global,
+    dictionary: &str,
+    knowledge: &str,
+    script: &[u8],
+) -> Result<MemFiles, Fail> {
+    let mut files = dictionary_of(alloc, dictionary.as_bytes())?;
+    files.add("k", knowledge.as_bytes())?;
+    files.add("s1", script)?;
+    Ok(files)
+}
+
 // The words that ask for this sentence with the dictionary in file `d`.
 fn one(alloc: Global, sentence: &str) -> Result<Vec<String>, Fail> {
     let mut words = words_of(alloc, "one|d")?;

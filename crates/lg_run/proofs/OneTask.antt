@@ -1,55 +1,89 @@
 -- The task that words are.
-use Rattle.std.proofs.Common.{◌≡◌, ℕ, Bool, true, false, cond, ◌≤◌, ◌==◌, List, [], ◌∷◌, ◌++◌, length, map, All, get_or, codes, bytes_eq, IsTrue, Option, None, Some, refl, sym, ap, ◌∙◌, arith}
+use Rattle.std.proofs.Common.{◌≡◌, ℕ, Bool, true, false, cond, ◌≤◌, ◌==◌, List, [], ◌∷◌, ◌++◌, length, map, All, get_or, codes, bytes_eq, IsTrue, Option, None, Some, IfSome, refl, sym, ap, subst, ◌∙◌, arith}
 use Rattle.std.specs.List.{list_all}
 use Rattle.std.proofs.lemmas.Bool.Decides.{nat_tests}
+use Rattle.std.proofs.lemmas.Slice.Eq.{bytes_eq-Decides}
 use Rattle.std.proofs.lemmas.List.Folds.{list_all-map}
 use Rattle.std.proofs.lemmas.List.Sums.{AllPass-from_list_all, list_all-from_AllPass}
 use Rattle.lg_answer.specs.Pages.{default_options}
+use Rattle.lg_answer.specs.declared.options.Nulls.{Nulls as Unlinked}
+use Rattle.lg_answer.specs.declared.options.Nulls.TheVariants.{First, Passing}
 use Rattle.lg_answer.specs.declared.options.Options.{Options}
 use Rattle.lg_script.specs.Bounds.{IsCount}
 use Rattle.lg_script.specs.Commands.{IsNumber}
-use Rattle.lg_run.specs.Words.{Task, One, Run, IsKnown, want, examine, value_of, AreOptions, none, apart, joined, GivesNumber, Gives, OptionsAre, is_operand, SENTENCE, SCRIPTS, TaskIs, one, run, AreInRange}
-use Rattle.lg_run.specs.Settings.{operand, IsCut}
+use Rattle.lg_run.specs.Words.{Task, One, Run, IsKnown, want, examine, nulls, WritesNulls, first, passing, value_of, AreOptions, none, apart, joined, GivesNumber, GivesNulls, Gives, OptionsAre, is_operand, SENTENCE, SCRIPTS, TaskIs, one, run, AreInRange}
+use Rattle.lg_run.specs.Settings.{name_of, operand, IsCut}
+use Rattle.lg_run.specs.declared.options.Setting.{Setting}
+use Rattle.lg_run.specs.declared.options.Setting.TheVariants.{Want, Examine, Nulls}
 use Rattle.lg_run.specs.Commands.{option_words, task, IsCommand}
 use Rattle.lg_run.specs.declared.command.Command.{Command}
-use Rattle.lg_run.proofs.OptionWords.{Settings, same_cut}
+use Rattle.lg_run.proofs.OptionWords.{Settings, same_setting, same_cut}
 
 -- ---- what options give
 
-known_number : (name value : List ℕ) → IsKnown name value → (n : ℕ) × IsNumber value n
-known_number name value (want v n is) = (n, is)
-known_number name value (examine v n is) = (n, is)
+-- the form of an option's value
+abbrev FormOf : Setting → List ℕ → Type 0
+FormOf Want value = (n : ℕ) × IsNumber value n
+FormOf Examine value = (n : ℕ) × IsNumber value n
+FormOf Nulls value = (n : Unlinked) × WritesNulls value n
+
+form_by : (name value : List ℕ) → IsKnown name value → (s : Setting) × (name ≡ name_of s) × FormOf s value
+form_by name value (want v n is) = (Want, refl, (n, is))
+form_by name value (examine v n is) = (Examine, refl, (n, is))
+form_by name value (nulls v n is) = (Nulls, refl, (n, is))
+
+-- the value that is given to an option is in its form
+form_first : (s : Setting) (b : Bool) (name value : List ℕ) (o : Option (List ℕ)) → bytes_eq name (name_of s) ≡ b → IsKnown name value → IfSome o (FormOf s) → IfSome (cond b (Some value) o) (FormOf s)
+form_first s true name value o e known more =
+    let f = form_by name value known in
+    let same : name_of f.0 ≡ name_of s = sym f.1 ∙ (bytes_eq-Decides name (name_of s)).0 e in
+    subst (λ (t : Setting). FormOf t value) (same_setting f.0 s (ap (λ (n : List ℕ). codes "--" ++ n) same)) f.2
+form_first s false name value o e known more = more
+
+form_given : (s : Setting) (words : List (List ℕ)) (settings : Settings) → AreOptions words settings → IfSome (value_of (name_of s) settings) (FormOf s)
+form_given s words settings none = tt
+form_given s words settings (apart other value more others known new read) = form_first s (bytes_eq other (name_of s)) other value (value_of (name_of s) others) refl known (form_given s more others read)
+form_given s words settings (joined other value more others known new read) = form_first s (bytes_eq other (name_of s)) other value (value_of (name_of s) others) refl known (form_given s more others read)
 
 -- a number from 1 to 1,000,000
-abbrev Counts : Option (List ℕ) → ℕ → Type 0
-Counts o usual = (n : ℕ) × GivesNumber o usual n × IsCount n
+number_given : (o : Option (List ℕ)) (usual : ℕ) → IsCount usual → IfSome o (λ value. (n : ℕ) × IsNumber value n) → (n : ℕ) × GivesNumber o usual n × IsCount n
+number_given None usual u h = (usual, refl, u)
+number_given (Some value) usual u h = (h.0, h.1, (h.1.least, h.1.most))
 
-counts_first : (b : Bool) (name value : List ℕ) (o : Option (List ℕ)) (usual : ℕ) → IsKnown name value → Counts o usual → Counts (cond b (Some value) o) usual
-counts_first true name value o usual known more = let n = known_number name value known in (n.0, n.1, (n.1.least, n.1.most))
-counts_first false name value o usual known more = more
-
-counts : (name : List ℕ) (usual : ℕ) → IsCount usual → (words : List (List ℕ)) (settings : Settings) → AreOptions words settings → Counts (value_of name settings) usual
-counts name usual u words settings none = (usual, refl, u)
-counts name usual u words settings (apart other value more others known new read) = counts_first (bytes_eq other name) other value (value_of name others) usual known (counts name usual u more others read)
-counts name usual u words settings (joined other value more others known new read) = counts_first (bytes_eq other name) other value (value_of name others) usual known (counts name usual u more others read)
+nulls_given : (o : Option (List ℕ)) (usual : Unlinked) → IfSome o (λ value. (n : Unlinked) × WritesNulls value n) → (n : Unlinked) × GivesNulls o usual n
+nulls_given None usual h = (usual, refl)
+nulls_given (Some value) usual h = (h.0, h.1)
 
 gives_some : (words : List (List ℕ)) (settings : Settings) → AreOptions words settings → (options : Options) × Gives settings options × AreInRange options
 gives_some words settings read =
-    let w = counts (codes "want") default_options.want (omega arith, omega arith) words settings read in
-    let x = counts (codes "examine") default_options.examine (omega arith, omega arith) words settings read in
-    (record { want = w.0; examine = x.0 }, record { want = w.1; examine = x.1 }, (w.2, x.2))
+    let w = number_given (value_of (codes "want") settings) default_options.want (omega arith, omega arith) (form_given Want words settings read) in
+    let x = number_given (value_of (codes "examine") settings) default_options.examine (omega arith, omega arith) (form_given Examine words settings read) in
+    let v = nulls_given (value_of (codes "nulls") settings) default_options.nulls (form_given Nulls words settings read) in
+    (record { want = w.0; examine = x.0; nulls = v.0 }, record { want = w.1; examine = x.1; nulls = v.1 }, (w.2, x.2))
 
 one_number : (o : Option (List ℕ)) (usual n m : ℕ) → GivesNumber o usual n → GivesNumber o usual m → n ≡ m
 one_number None usual n m h k = h ∙ sym k
 one_number (Some value) usual n m h k = h.value ∙ sym k.value
 
--- options with the same numbers
-pub same_numbers : (x y : Options) → x.want ≡ y.want → x.examine ≡ y.examine → x ≡ y
-same_numbers x y same also = ap (λ (n : ℕ). record x { want = n }) same ∙ ap (λ (n : ℕ). record y { examine = n }) also
+-- what a word says of unlinked words
+abbrev said : List ℕ → Unlinked
+said value = cond (bytes_eq value (codes "first")) First Passing
+
+said_is : (value : List ℕ) (n : Unlinked) → WritesNulls value n → n ≡ said value
+said_is value n first = refl
+said_is value n passing = refl
+
+pub one_nulls : (o : Option (List ℕ)) (usual n m : Unlinked) → GivesNulls o usual n → GivesNulls o usual m → n ≡ m
+one_nulls None usual n m h k = h ∙ sym k
+one_nulls (Some value) usual n m h k = said_is value n h ∙ sym (said_is value m k)
+
+-- options with the same values
+pub same_values : (x y : Options) → x.want ≡ y.want → x.examine ≡ y.examine → x.nulls ≡ y.nulls → x ≡ y
+same_values x y w e n = ap (λ (m : ℕ). record x { want = m }) w ∙ ap (λ (m : ℕ). record x { want = y.want; examine = m }) e ∙ ap (λ (m : Unlinked). record y { nulls = m }) n
 
 pub same_gives : (settings : Settings) (x y : Options) → Gives settings x → Gives settings y → x ≡ y
 same_gives settings x y h k =
-    same_numbers x y (one_number _ _ x.want y.want h.want k.want) (one_number _ _ x.examine y.examine h.examine k.examine)
+    same_values x y (one_number _ _ x.want y.want h.want k.want) (one_number _ _ x.examine y.examine h.examine k.examine) (one_nulls _ _ x.nulls y.nulls h.nulls k.nulls)
 
 -- ---- the task
 

@@ -1,15 +1,15 @@
 -- Words that begin with options.
-use Rattle.std.proofs.Common.{◌≡◌, ◌≢◌, ◌⊎◌, cond, ℕ, suc, ◌<◌, ◌≤◌, ◌-◌, Bool, true, false, not, ◌&&◌, nat_eq, bytes_eq, List, [], map, take, drop, ◌∷◌, ◌++◌, length, get_or, codes, Option, None, Some, MatchOption, inl, inr, Bor, ◌↔◌, refl, sym, ap, subst, ◌∙◌, arith}
+use Rattle.std.proofs.Common.{◌≡◌, ◌≢◌, ◌⊎◌, cond, ℕ, zero, suc, ◌<◌, ◌≤◌, ◌-◌, Bool, true, false, not, ◌&&◌, nat_eq, bytes_eq, List, [], map, take, drop, ◌∷◌, ◌++◌, length, get_or, set, codes, Option, None, Some, is_some, MatchOption, inl, inr, Bor, ◌↔◌, refl, sym, ap, subst, ◌∙◌, arith}
 use Rattle.std.proofs.lemmas.Bool.{and_parts}
-use Rattle.std.proofs.lemmas.List.{length-append, length-map, map-append, take-append-drop}
+use Rattle.std.proofs.lemmas.List.{length-append, length-map, map-append, take-append-drop, get_or-set_same, get_or-set_other}
 use Rattle.std.proofs.lemmas.Slice.Eq.{bytes_eq-Decides}
 use Rattle.std.proofs.lemmas.Bool.Decides.{nat_tests}
 use Rattle.std.proofs.lemmas.Str.Pattern.{IsSplitOnceResult, split_parts}
-use Rattle.lg_run.specs.Words.{IsKnown, want, examine, value_of, AreOptions, none, is_operand}
+use Rattle.lg_run.specs.Words.{IsKnown, want, examine, nulls, value_of, AreOptions, none, is_operand}
 use Rattle.lg_run.specs.Words as forms
 use Rattle.lg_run.specs.Settings.{name_of, option_word, IsPlain, Begins, apart, joined, BeginsWith, is_set, with_setting, Ends, nothing, operand, Cuts, IsCut}
 use Rattle.lg_run.specs.declared.options.Setting.{Setting}
-use Rattle.lg_run.specs.declared.options.Setting.TheVariants.{Want, Examine}
+use Rattle.lg_run.specs.declared.options.Setting.TheVariants.{Want, Examine, Nulls}
 use Rattle.lg_run.specs.declared.options.Given.{Given}
 
 abbrev pub Settings : Type 0
@@ -51,6 +51,11 @@ same_beginning n v m w b c words others (joined p) (joined q) e = let same = one
 pub of_none : {T : Type 0} (r : Option T) (P : Type 0) (Q : T → Type 0) → r ≡ None → P → MatchOption r P Q
 of_none {T = T} r P Q e h = subst (λ (o : Option T). MatchOption o P Q) (sym e) h
 
+-- and where something is
+pub some_by : {T : Type 0} (r : Option T) (P : Type 0) (Q : T → Type 0) → true ≡ is_some r → MatchOption r P Q → (x : T) × Q x
+some_by None P Q e h = cc
+some_by (Some x) P Q e h = (x, h)
+
 -- no name where the words end behind the first, and that has no equals sign
 pub ends_early : (word : List ℕ) → IsPlain word → (name value : List ℕ) (behind words : List (List ℕ)) → Begins name value behind words → words ≡ word ∷ [] → ⊥
 ends_early word plain name value behind words (apart p) e = cc
@@ -73,39 +78,99 @@ plain_word : (s : Setting) → IsPlain (option_word s)
 unfolding plain_test
 plain_word Want = plain_tested (option_word Want) refl
 plain_word Examine = plain_tested (option_word Examine) refl
-
-same_setting : (s t : Setting) → option_word s ≡ option_word t → s ≡ t
-same_setting Want Want e = refl
-same_setting Want Examine e = cc
-same_setting Examine Want e = cc
-same_setting Examine Examine e = refl
+plain_word Nulls = plain_tested (option_word Nulls) refl
 
 -- a name that is known is that of an option
 setting_by : (name value : List ℕ) → IsKnown name value → (s : Setting) × (name ≡ name_of s)
 setting_by name value (want v n is) = (Want, refl)
 setting_by name value (examine v n is) = (Examine, refl)
+setting_by name value (nulls v n is) = (Nulls, refl)
+
+-- the option that begins with a word
+abbrev begun : List ℕ → Setting
+begun word = cond (bytes_eq word (option_word Want)) Want (cond (bytes_eq word (option_word Examine)) Examine Nulls)
+
+begun_is : (s : Setting) → begun (option_word s) ≡ s
+begun_is Want = refl
+begun_is Examine = refl
+begun_is Nulls = refl
+
+pub same_setting : (s t : Setting) → option_word s ≡ option_word t → s ≡ t
+same_setting s t e = sym (begun_is s) ∙ ap begun e ∙ begun_is t
 
 -- ---- what is set
 
+-- each option has a place of its own
+abbrev place : Setting → ℕ
+place Want = 0
+place Examine = 1
+place Nulls = 2
+
+abbrev placed : ℕ → Setting
+placed zero = Want
+placed (suc zero) = Examine
+placed n = Nulls
+
+placed_is : (s : Setting) → placed (place s) ≡ s
+placed_is Want = refl
+placed_is Examine = refl
+placed_is Nulls = refl
+
+same_place : (s t : Setting) → place s ≡ place t → s ≡ t
+same_place s t e = sym (placed_is s) ∙ ap placed e ∙ placed_is t
+
+-- whether each is set, by places
+abbrev marks : Given → List Bool
+marks given = given.want ∷ given.examine ∷ given.nulls ∷ []
+
+marked : (s : Setting) (given : Given) → is_set s given ≡ get_or (marks given) (place s) false
+marked Want given = refl
+marked Examine given = refl
+marked Nulls given = refl
+
+marks_with : (s : Setting) (given : Given) → marks (with_setting s given) ≡ set (marks given) (place s) true
+marks_with Want given = refl
+marks_with Examine given = refl
+marks_with Nulls given = refl
+
+few_places : (s : Setting) → place s < 3
+few_places Want = omega arith
+few_places Examine = omega arith
+few_places Nulls = omega arith
+
+mark_now : (s t : Setting) (given : Given) → is_set t (with_setting s given) ≡ get_or (set (marks given) (place s) true) (place t) false
+mark_now s t given = marked t (with_setting s given) ∙ ap (λ (ms : List Bool). get_or ms (place t) false) (marks_with s given)
+
+-- the others stay as they were
+stays : (s t : Setting) (given : Given) → (place t ≡ place s → ⊥) → is_set t (with_setting s given) ≡ is_set t given
+stays s t given differ = mark_now s t given ∙ get_or-set_other (marks given) (place s) (place t) true false differ ∙ sym (marked t given)
+
 was_set : (s t : Setting) (given : Given) → is_set t (with_setting s given) ≡ true → (t ≡ s) ⊎ (is_set t given ≡ true)
-was_set Want Want given e = inl refl
-was_set Examine Examine given e = inl refl
-was_set Want Examine given e = inr e
-was_set Examine Want given e = inr e
+was_set s t given e = by (nat_eq (place t) (place s)) refl where
+  by : (b : Bool) → nat_eq (place t) (place s) ≡ b → (t ≡ s) ⊎ (is_set t given ≡ true)
+  by true h = inl (same_place t s (grind (arith, nat_tests)))
+  by false h = inr (sym (stays s t given (λ same. grind (arith, nat_tests))) ∙ e)
 
 is_set_now : (s : Setting) (given : Given) → is_set s (with_setting s given) ≡ true
-is_set_now Want given = refl
-is_set_now Examine given = refl
+is_set_now s given = mark_now s s given ∙ get_or-set_same (marks given) (place s) true false (few_places s)
 
 stays_set : (s t : Setting) (given : Given) → is_set s given ≡ false → is_set t given ≡ true → (bytes_eq (name_of s) (name_of t) ≡ false) × (is_set t (with_setting s given) ≡ true)
-stays_set Want Want given e f = cc
-stays_set Examine Examine given e f = cc
-stays_set Want Examine given e f = (refl, f)
-stays_set Examine Want given e f = (refl, f)
+stays_set s t given e f = (by (bytes_eq (name_of s) (name_of t)) refl, stays s t given (λ same. differ (sym (same_place t s same))) ∙ f) where
+  differ : s ≡ t → ⊥
+  differ same = let clash : is_set t given ≡ false = subst (λ (r : Setting). is_set r given ≡ false) same e in let no : false ≡ true = sym clash ∙ f in cc
 
-not_set_first : (s : Setting) → is_set s (record { want = false; examine = false }) ≡ true → ⊥
+  by : (b : Bool) → bytes_eq (name_of s) (name_of t) ≡ b → bytes_eq (name_of s) (name_of t) ≡ false
+  by true h = absurd (differ (same_setting s t (ap (λ (name : List ℕ). codes "--" ++ name) ((bytes_eq-Decides (name_of s) (name_of t)).0 h))))
+  by false h = h
+
+-- nothing is set at first
+abbrev pub unset : Given
+unset = record { want = false; examine = false; nulls = false }
+
+not_set_first : (s : Setting) → is_set s unset ≡ true → ⊥
 not_set_first Want e = cc
 not_set_first Examine e = cc
+not_set_first Nulls e = cc
 
 same_name : (name : List ℕ) → bytes_eq name name ≡ true
 same_name name = (bytes_eq-Decides name name).1 refl
@@ -193,7 +258,7 @@ module _ (given : Given) (words : List (List ℕ)) (s : Setting) (value : List �
           split = sym x.2;
           read = x.0.read;
           ends = c.cuts.ends;
-          new = λ t set. new_behind x.0 x.1 t (was_set s t given set);
+          new = λ t k. new_behind x.0 x.1 t (was_set s t given k);
         };
       } where
         new_behind : (o : Opens words c.front c.settings behind) → o.setting ≡ s → (t : Setting) → (t ≡ s) ⊎ (is_set t given ≡ true) → value_of (name_of t) o.others ≡ None
@@ -203,7 +268,7 @@ module _ (given : Given) (words : List (List ℕ)) (s : Setting) (value : List �
   pub goes_before : is_set s given ≡ false → CutOn (with_setting s given) rest behind → CutOn given words behind
   goes_before free c = by words h.begins where
     new_before : (t : Setting) → is_set t given ≡ true → value_of (name_of t) ((name_of s, value) ∷ c.settings) ≡ None
-    new_before t set = let both = stays_set s t given free set in rw both.0 (c.cuts.new t both.1)
+    new_before t k = let both = stays_set s t given free k in rw both.0 (c.cuts.new t both.1)
 
     by : (words : List (List ℕ)) → Begins (option_word s) value rest words → CutOn given words behind
     by words (apart plain) = record {
@@ -228,7 +293,7 @@ module _ (given : Given) (words : List (List ℕ)) (s : Setting) (value : List �
     }
 
 -- before the first word, and at the end
-pub at_start : (words behind : List (List ℕ)) → ((front : List (List ℕ)) × IsCut words front behind) ↔ CutOn (record { want = false; examine = false }) words behind
+pub at_start : (words behind : List (List ℕ)) → ((front : List (List ℕ)) × IsCut words front behind) ↔ CutOn unset words behind
 at_start words behind = (
   λ h. record { front = h.0; settings = h.1.settings; cuts = record { split = h.1.split; read = h.1.read; ends = h.1.ends; new = λ s e. absurd (not_set_first s e) } },
   λ c. (c.front, record { settings = c.settings; split = c.cuts.split; read = c.cuts.read; ends = c.cuts.ends }),

@@ -1,19 +1,22 @@
 -- A page of a listing, and what is held after it.
-use Rattle.std.proofs.Common.{◌≡◌, Option, None, Some, ℕ, zero, suc, ◌+◌, ◌-◌, ◌≤◌, ◌<◌, List, All, length, min, refl, sym, ap, subst, ◌∙◌, arith}
+use Rattle.std.proofs.Common.{◌≡◌, ◌⊎◌, inl, inr, Option, None, Some, ℕ, zero, suc, ◌+◌, ◌-◌, ◌^◌, ◌≤◌, ◌<◌, List, All, length, refl, sym, subst, ◌∙◌, arith}
 use Rattle.std.specs.List.{sum_by}
 use Rattle.std.specs.Option.{unwrap_or}
-use Rattle.lg_gram.specs.Linkages.{Linkage}
+use Rattle.lg_gram.specs.declared.disjunct.Disjunct.{Disjunct}
 use Rattle.lg_gram.specs.declared.listing.Page.{Page}
 use Rattle.lg_gram.specs.declared.listing.Stats.{Stats}
 use Rattle.lg_gram.specs.declared.listing.Token.{Token}
 use Rattle.lg_dict.specs.Dictionary.{Dictionary}
 use Rattle.lg_knowread.specs.declared.knowledge.Knowledge.{Knowledge}
 use Rattle.lg_token.specs.Bounds.{AreListed}
-use Rattle.lg_answer.specs.Pages.{Listing, IsListing, IsPage, IsLinkageFor}
+use Rattle.lg_answer.specs.Candidates.{IsBehind}
+use Rattle.lg_answer.specs.Candidates as candidates
+use Rattle.lg_answer.specs.Pages.{Listing, IsListing, IsSentenceOf, IsSameListing, HasSkipped, IsPage, IsLinkageFor}
+use Rattle.lg_answer.specs.declared.options.Nulls.{Nulls}
 use Rattle.lg_answer.specs.declared.options.Options.{Options}
 use Rattle.lg_session.specs.Engines.{Progress, GoesOn, IsOpened, start_of, moved}
 use Rattle.lg_run.specs.Documents.{IsShown, listings, wanted}
-use Rattle.lg_run.specs.Listers.{Lister, StandsFor, Turns}
+use Rattle.lg_run.specs.Listers.{Lister, StandsFor, Turns, MayTurn}
 use Rattle.lg_run.specs.declared.lister.Held.{Held}
 
 -- what is above no number that is less is no more
@@ -21,42 +24,70 @@ no_more_than : (looked examine : ℕ) → ((k : ℕ) → k < looked → k < exam
 no_more_than zero examine h = omega arith
 no_more_than (suc k) examine h = omega (arith, h k (omega arith))
 
--- where a page stops
-pub stops_near : (know : Knowledge) (candidates : List Linkage) (from want examine : ℕ) (page : Page) → IsPage know candidates from want examine page → page.next - 1 ≤ from + examine
-stops_near know candidates from want examine page p =
-    let few = no_more_than p.looked examine (λ k h. (p.goes_on k h).1) in
-    omega (arith, p.next, few)
+-- the place behind so many candidates, or behind all where they are fewer, is no farther
+pub no_farther : (positions : List (List Disjunct)) (know : Knowledge) (nulls : Nulls) (n place : ℕ) → IsBehind positions know nulls n place → place ≤ n
+no_farther positions know nulls n place behind = by behind.at where
+  by : (place ≡ n) ⊎ ((place < n) × candidates.AreAll positions know nulls behind.front) → place ≤ n
+  by (inl same) = omega (arith, same)
+  by (inr fewer) = omega (arith, fewer.0)
 
-pub stops_within : (know : Knowledge) (candidates : List Linkage) (from want examine : ℕ) (page : Page) → IsPage know candidates from want examine page → page.next - 1 ≤ length candidates
-stops_within know candidates from want examine page p = omega (arith, p.next, p.within)
+module _ (positions : List (List Disjunct)) (know : Knowledge) (nulls : Nulls) (from want examine : ℕ) (page : Page) (p : IsPage positions know nulls from want examine page) where
+  -- where a page stops
+  pub stops_near : page.next - 1 ≤ from + examine
+  stops_near =
+      let few = no_more_than p.looked examine (λ k h. (p.goes_on k h).1) in
+      omega (arith, p.next, few)
 
--- where a listing has come to is no matter
-pub still_listing : (dict : Dictionary) (text : List ℕ) (listing : Listing) (position : ℕ) → IsListing dict text listing → IsListing dict text (record listing { position = position })
-still_listing dict text listing position is = record { of_text = is.of_text; unbound = is.unbound; of_tokens = is.of_tokens; of_problem = is.of_problem }
+  -- behind the candidates of its front
+  pub stops_behind : (place : ℕ) → place + 1 ≡ page.next → IsBehind positions know nulls (page.next - 1) place
+  stops_behind place moved = record { front = p.front; first = p.first; count = omega (arith, moved, p.next, p.within); at = inl (omega (arith, moved)) }
 
-module _ (l : Lister) (dict : Dictionary) (progress : Progress) (held next : Held) (tokens : List Token) (page : Page) (stands : StandsFor l.options held dict progress) (turns : Turns l held next tokens page) where
+-- a listing of the same sentence
+pub same_sentence : (dict : Dictionary) (text : List ℕ) (old new : Listing) → IsSameListing old new → IsListing dict text old → IsListing dict text new
+same_sentence dict text old new same is =
+    subst (λ (ts : List Token). IsSentenceOf dict text ts new.course.problem) (sym same.tokens)
+    (subst (λ (p : List (List Disjunct)). IsSentenceOf dict text old.tokens p) (sym same.course.problem) is)
+
+-- what is held has come no farther than the progress says
+pub may_turn : (l : Lister) (dict : Dictionary) (progress : Progress) (held : Held) → StandsFor l held dict progress → progress.position ≤ 2 ^ 60 → MayTurn l held
+may_turn l dict progress held stands near = record {
+  knows = stands.knows;
+  near = let low = no_farther _ _ _ progress.position held.listing.course.position stands.behind in omega (arith, low, near);
+}
+
+module _ (l : Lister) (dict : Dictionary) (progress : Progress) (held next : Held) (tokens : List Token) (page : Page) (stands : StandsFor l held dict progress) (turns : Turns l held next tokens page) where
+  shown_so : IsPage held.listing.course.problem l.know l.options.nulls held.listing.course.position (wanted l.options progress.want) l.options.examine page
+  shown_so =
+      subst (λ (n : Nulls). IsPage held.listing.course.problem l.know n held.listing.course.position (wanted l.options progress.want) l.options.examine page) stands.nulls
+      (subst (λ (n : ℕ). IsPage held.listing.course.problem l.know held.listing.course.nulls held.listing.course.position n l.options.examine page) stands.want turns.shown)
+
   pub page_shown : IsShown l.know l.options dict progress page
   page_shown = record {
-    listing = held.listing;
-    of_text = stands.of_text;
-    same_tokens = stands.same_tokens;
-    shown = subst (λ (n : ℕ). IsPage l.know held.listing.candidates n (wanted l.options progress.want) l.options.examine page) stands.position
-        (subst (λ (n : ℕ). IsPage l.know held.listing.candidates held.listing.position n l.options.examine page) stands.want turns.shown);
+    problem = held.listing.course.problem;
+    sentence = subst (λ (ts : List Token). IsSentenceOf dict progress.text ts held.listing.course.problem) (sym stands.same_tokens) stands.of_text;
+    place = held.listing.course.position;
+    behind = stands.behind;
+    shown = shown_so;
     printable = subst (λ (ts : List Token). All (λ item. IsLinkageFor ts item.linkage) page.items) (turns.same_tokens ∙ sym stands.same_tokens) turns.printable;
   }
 
-  pub next_stands : StandsFor l.options next dict (moved progress page)
-  next_stands =
-      let within = stops_within l.know held.listing.candidates held.listing.position held.want l.options.examine page turns.shown in
-      subst (λ (h : Held). StandsFor l.options h dict (moved progress page)) (sym turns.moved)
-      (record { of_text = still_listing dict progress.text held.listing (page.next - 1) stands.of_text; same_tokens = stands.same_tokens; position = omega arith; want = stands.want })
+  pub next_stands : StandsFor l next dict (moved progress page)
+  next_stands = record {
+    of_text = same_sentence dict progress.text held.listing next.listing turns.same stands.of_text;
+    same_tokens = stands.same_tokens ∙ sym turns.same.tokens;
+    nulls = turns.same.course.nulls ∙ stands.nulls;
+    behind = subst (λ (p : List (List Disjunct)). IsBehind p l.know l.options.nulls (page.next - 1) next.listing.course.position) (sym turns.same.course.problem)
+        (stops_behind _ _ _ _ _ _ page shown_so next.listing.course.position turns.moved);
+    knows = turns.knows;
+    want = turns.want ∙ stands.want;
+  }
 
-  pub goes_on : GoesOn (listings l.know l.options) (StandsFor l.options) dict progress next tokens page
+  pub goes_on : GoesOn (listings l.know l.options) (StandsFor l) dict progress next tokens page
   goes_on = record {
     shows = page_shown;
     same_tokens = turns.same_tokens ∙ sym stands.same_tokens;
     stands = next_stands;
-    near = omega (arith, turns.near, stands.position);
+    near = let low = no_farther _ _ _ progress.position held.listing.course.position stands.behind in omega (arith, turns.near, low);
   }
 
 -- ---- the start of a listing
@@ -69,26 +100,42 @@ wanted_is options (Some n) = refl
 pub record Skips (l : Lister) (dict : Dictionary) (text : List ℕ) (want : Option ℕ) (first : ℕ) (held : Held) : Type 0 where
   pub start : Listing
   pub of_text : IsListing dict text start
-  pub at_start : start.position ≡ 0
-  pub skipped : held.listing ≡ record start { position = min (start.position + (first - 1)) (length start.candidates) }
+  pub nulls : start.course.nulls ≡ l.options.nulls
+  pub at_start : start.course.position ≡ 0
+  pub skipped : HasSkipped l.know start (first - 1) held.listing
+  pub same : IsSameListing start held.listing
+  pub knows : candidates.StandsFor l.know held.listing.course
   pub wants : held.want ≡ wanted l.options want
 
 module _ (l : Lister) (dict : Dictionary) (text : List ℕ) (want : Option ℕ) (first : ℕ) (held : Held) (skips : Skips l dict text want first held) where
-  skipped_listing : IsListing dict text held.listing
-  skipped_listing =
-      let start = skips.start in
-      subst (IsListing dict text) (sym skips.skipped) (still_listing dict text start (min (start.position + (first - 1)) (length start.candidates)) skips.of_text)
+  pub skipped_stands : (tokens : List Token) → tokens ≡ held.listing.tokens → StandsFor l held dict (start_of text want tokens first)
+  skipped_stands tokens same =
+      let from_start : skips.start.course.position + (first - 1) ≡ first - 1 = omega (arith, skips.at_start) in
+      let place = held.listing.course.position in
+      record {
+        of_text = same_sentence dict text skips.start held.listing skips.same skips.of_text;
+        same_tokens = same;
+        nulls = skips.same.course.nulls ∙ skips.nulls;
+        behind = subst (λ (p : List (List Disjunct)). IsBehind p l.know l.options.nulls (first - 1) place) (sym skips.same.course.problem)
+            (subst (λ (n : Nulls). IsBehind skips.start.course.problem l.know n (first - 1) place) skips.nulls
+            (subst (λ (n : ℕ). IsBehind skips.start.course.problem l.know skips.start.course.nulls n place) from_start skips.skipped));
+        knows = skips.knows;
+        want = skips.wants;
+      }
 
-  skipped_stands : (tokens : List Token) → tokens ≡ held.listing.tokens → StandsFor l.options held dict (start_of text want tokens first)
-  skipped_stands tokens same = record {
-    of_text = skipped_listing;
-    same_tokens = same;
-    position = omega (arith, ap (λ (x : Listing). x.position) skips.skipped, ap (λ (x : Listing). length x.candidates) skips.skipped, skips.at_start);
-    want = skips.wants;
-  }
-
-  pub opened : (next : Held) (tokens : List Token) (page : Page) (stats : Stats) → first ≤ 1000000 → Turns l held next tokens page → stats.disjuncts ≡ sum_by length held.listing.problem → stats.kept ≡ stats.disjuncts
-      → IsOpened (listings l.know l.options) (StandsFor l.options) dict (start_of text want tokens first) next page stats
+  pub opened : (next : Held) (tokens : List Token) (page : Page) (stats : Stats) → first ≤ 1000000 → Turns l held next tokens page → stats.disjuncts ≡ sum_by length held.listing.course.problem → stats.kept ≡ stats.disjuncts
+      → IsOpened (listings l.know l.options) (StandsFor l) dict (start_of text want tokens first) next page stats
   opened next tokens page stats low turns disjuncts kept =
+      let is = same_sentence dict text skips.start held.listing skips.same skips.of_text in
       let on = goes_on l dict (start_of text want tokens first) held next tokens page (skipped_stands tokens turns.same_tokens) turns in
-      record { tokenized = subst (AreListed dict text) (sym turns.same_tokens) (record { of_text = skipped_listing.of_text; unbound = skipped_listing.unbound }); shows = on.shows; counts = record { listing = held.listing; of_text = skipped_listing; disjuncts = disjuncts; kept = kept }; stands = on.stands; near = omega (arith, on.near, low) }
+      record {
+        tokenized = subst (AreListed dict text) (sym turns.same_tokens) (record { of_text = is.of_text; unbound = is.unbound });
+        shows = on.shows;
+        counts = record { tokens = held.listing.tokens; problem = held.listing.course.problem; sentence = is; disjuncts = disjuncts; kept = kept };
+        stands = on.stands;
+        near = omega (arith, on.near, low);
+      }
+
+-- the place of a listing that has passed over some candidates is not far
+pub skips_near : (know : Knowledge) (start listing : Listing) (n : ℕ) → HasSkipped know start n listing → start.course.position ≡ 0 → listing.course.position ≤ n
+skips_near know start listing n skipped at_start = let low = no_farther _ _ _ (start.course.position + n) listing.course.position skipped in omega (arith, low, at_start)

@@ -44,10 +44,11 @@ const SCRIPTS: usize = 64;
 
 /// The command that the words ask for. None where they are in no form.
 ///
-/// The first word is `one` or `run`. Options follow, each at most once and in any order, in two words or joined by `=`: `--want N`
-/// and `--examine N`, where N is one to seven digits that write a number from 1 to 1,000,000, and `--nulls first` or
-/// `--nulls passing`. Where an option is left out, want is 10, examine is 1000 and nulls is first. Operands are last, and none of them begins with `-`: `one` has two, DICT
-/// and SENTENCE, of which the second has at most 67,108,864 bytes, and `run` has DICT, KNOWLEDGE and 1 to 64 scripts.
+/// The first word is `one` or `run`. Options follow, each at most once and in any order, in two words or joined by `=`:
+/// `--want N` and `--examine N`, where N is one to seven digits that write a number from 1 to 1,000,000, and
+/// `--nulls first` or `--nulls passing`. Where an option is left out, want is 10, examine is 1000 and nulls is first.
+/// Operands are last, and none of them begins with `-`: `one` has two, DICT and SENTENCE, of which the second has at most
+/// 67,108,864 bytes, and `run` has DICT, KNOWLEDGE and 1 to 64 scripts.
 pub fn command_of(words: &[String]) -> Option<Command<'_>>
     ensures { MatchOption result
         ((t : Task) → TaskIs (map string_bytes words.now) t → ⊥)

@@ -94,7 +94,10 @@ impl Given {
                 examine: true,
                 ..self
             }),
-            Setting::Nulls if !self.nulls => Some(Given { nulls: true, ..self }),
+            Setting::Nulls if !self.nulls => Some(Given {
+                nulls: true,
+                ..self
+            }),
             _ => None,
         }
     }

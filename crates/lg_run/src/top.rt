@@ -4,7 +4,7 @@ ghost use Rattle.std.specs.Io.KnownBytes.{Appends};
 ghost use Rattle.lg_base.specs.Faults.{Rose};
 ghost use Rattle.lg_base.specs.Sinks.{HasWriteCause};
 ghost use Rattle.lg_session.specs.Legal.{script_views};
-ghost use Rattle.lg_run.specs.Words.{SENTENCE};
+ghost use Rattle.lg_run.specs.Words.{SENTENCE, AreInRange};
 ghost use Rattle.lg_run.specs.Inputs.{OneGiven, RunGiven};
 ghost use Rattle.lg_run.specs.Reads.{AsksInOrder, given_in};
 ghost use Rattle.lg_run.specs.Written.{HasHaltCause};
@@ -140,7 +140,8 @@ fn write_sentence<O: Sink>(
     sentence: &str,
     out: &mut O,
 ) -> Result<(), Halt>
-    requires { length sentence.now ≤ SENTENCE }
+    requires short { length sentence.now ≤ SENTENCE }
+    requires range { AreInRange options }
     ensures written { Documents (OneGiven options dict.now sentence.now) (O.written out.old) (O.written out.new) result }
     ensures cause { HasHaltCause (O.faults out.old) (O.faults out.new) result }
 {

@@ -405,3 +405,91 @@ fn an_option_in_one_word(rt: HostRuntime) -> Result<(), Fail> {
 fn both_options_with_leading_zeros(rt: HostRuntime) -> Result<(), Fail> {
     shows_one(&rt, rt.alloc(), "--examine|0000001|--want=1000000|")
 }
+
+// The files of a script, where the first linkage of `Mary ran` breaks the rule.
+fn mary(alloc: Global, script: &str) -> Result<MemFiles, Fail> {
+    files_of(alloc, FIRST, "none: S { S };", script.as_bytes())
+}
+
+// Wants this document by a rule for unlinked words.
+fn decides<R: Abort + Threads + Sync>(
+    rt: &R,
+    alloc: Global,
+    nulls: &str,
+    files: MemFiles,
+    document: &str,
+) -> Result<(), Fail> {
+    let text = format!(in alloc; "run|--nulls|{nulls}|d|k|s1")?;
+    let words = words_of(alloc, &text)?;
+    expect(rt, alloc, files, &words, Status::Done, document, "")
+}
+
+#[test]
+fn passing_goes_on_to_more_unlinked_words(rt: HostRuntime) -> Result<(), Fail> {
+    let document = "\
+1.1 parse version 0
+fail 1 rule 1 link 0 1
+linkage 2 unused 2 cost 0.000 length 0
+word 0 Mary null
+word 1 ran null
+page shown 1 examined 2 next 3 end
+journal 0
+done
+";
+    let files = mary(rt.alloc(), "parse Mary ran\n")?;
+    decides(&rt, rt.alloc(), "passing", files, document)
+}
+
+#[test]
+fn first_stops_at_the_fewest_unlinked_words(rt: HostRuntime) -> Result<(), Fail> {
+    let document = "\
+1.1 parse version 0
+fail 1 rule 1 link 0 1
+page shown 0 examined 1 next 2 end
+journal 0
+done
+";
+    let files = mary(rt.alloc(), "parse Mary ran\n")?;
+    decides(&rt, rt.alloc(), "first", files, document)
+}
+
+#[test]
+fn passing_from_the_second_candidate(rt: HostRuntime) -> Result<(), Fail> {
+    let document = "\
+1.1 list version 0
+linkage 2 unused 2 cost 0.000 length 0
+word 0 Mary null
+word 1 ran null
+page shown 1 examined 1 next 3 more
+1.2 more version 0
+page shown 0 examined 0 next 3 end
+journal 0
+done
+";
+    let files = mary(rt.alloc(), "list 2 1 Mary ran\nmore\n")?;
+    decides(&rt, rt.alloc(), "passing", files, document)
+}
+
+#[test]
+fn passing_from_past_the_end(rt: HostRuntime) -> Result<(), Fail> {
+    let document = "\
+1.1 list version 0
+page shown 0 examined 0 next 3 end
+journal 0
+done
+";
+    let files = mary(rt.alloc(), "list 9 1 Mary ran\n")?;
+    decides(&rt, rt.alloc(), "passing", files, document)
+}
+
+#[test]
+fn passing_does_not_list_a_further_level(rt: HostRuntime) -> Result<(), Fail> {
+    let document = "\
+1.1 list version 0
+page shown 0 examined 0 next 3 end
+journal 0
+done
+";
+    let files = files_of(rt.alloc(), "x: (); y: ();", "", b"list 3 1 x y\n")?;
+    decides(&rt, rt.alloc(), "passing", files, document)
+}

@@ -15,19 +15,6 @@ fn documents<R: Abort + Threads + Sync>(
     expect(rt, alloc, files, &words, Status::Done, document, "")
 }
 
-// The files `d`, `k` and `s1`.
-fn files_of(
-    alloc: Global,
-    dictionary: &str,
-    knowledge: &str,
-    script: &[u8],
-) -> Result<MemFiles, Fail> {
-    let mut files = dictionary_of(alloc, dictionary.as_bytes())?;
-    files.add("k", knowledge.as_bytes())?;
-    files.add("s1", script)?;
-    Ok(files)
-}
-
 const SHARING: &str = "w: @A+ & @A+; z: A-;";
 
 #[test]

@@ -8,7 +8,9 @@ use Rattle.lg_run.proofs.matched.matches_of.Goals as goal
 command_is : (c : goal.After-try_get_matches_from) → app_of c.in_ok-command.command ≡ app
 command_is c =
     let named = bare_is c.new.result c.no_binary_name.result c.disable_help_flag.result c.new.ensures.app c.no_binary_name.ensures c.disable_help_flag.ensures in
-    c.in_ok-command.ensures.shape c.option-2.ensures.local ∙ ap₂ with_rule (c.in_ok-arg.ensures.shape c.option.ensures.local ∙ ap₂ with_rule named c.option.ensures.rule) c.option-2.ensures.rule
+    let wants = c.in_ok-arg.ensures.shape c.option.ensures.local ∙ ap₂ with_rule named c.option.ensures.rule in
+    let examines = c.in_ok-arg-2.ensures.shape c.option-2.ensures.local ∙ ap₂ with_rule wants c.option-2.ensures.rule in
+    c.in_ok-command.ensures.shape c.option-3.ensures.local ∙ ap₂ with_rule examines c.option-3.ensures.rule
 
 pub returns-clause-ok : goal.returns-clause-ok
 returns-clause-ok c = λ settings are.

@@ -1,5 +1,6 @@
 use Rattle.std.proofs.Common.{refl}
-use Rattle.lg_run.specs.Words.{want, examine}
+use Rattle.lg_run.specs.Words.{want, examine, nulls}
+use Rattle.lg_run.proofs.OptionWords.{some_by}
 use Rattle.lg_run.proofs.options.setting_of.Goals as goal
 
 pub returns-in-text : goal.returns-in-text
@@ -7,3 +8,6 @@ returns-in-text c = let n = c.if-is_number.ensures.yes refl in (c.in-text.is, wa
 
 pub returns-in-text-2 : goal.returns-in-text-2
 returns-in-text-2 c = let n = c.if-is_number-2.ensures.yes refl in (c.in-text-2.is, examine _ n.0 n.1)
+
+pub returns-in-text-3 : goal.returns-in-text-3
+returns-in-text-3 c = let n = some_by c.nulls_of.result _ _ c.if-is_some.ensures c.nulls_of.ensures in (c.in-text-3.is, nulls _ n.0 n.1)

@@ -1,5 +1,6 @@
-use Rattle.std.proofs.Common.{◌≡◌, ℕ, List, subst, ◌∙◌}
-use Rattle.lg_answer.specs.Pages.{IsListing}
+use Rattle.std.proofs.Common.{◌≡◌, ◌-◌, ℕ, List, subst, ◌∙◌}
+use Rattle.lg_answer.specs.Candidates.{StandsFor}
+use Rattle.lg_answer.specs.Pages.{IsListing, HasSkipped}
 use Rattle.lg_run.specs.Documents.{wanted}
 use Rattle.lg_run.specs.Listers.{Lister}
 use Rattle.lg_run.proofs.Turned.{Skips, wanted_is, opened}
@@ -12,12 +13,15 @@ returns g c =
     let text = c.args.text.now in
     let options = c.self.inside.options in
     let want = subst (λ (x : Lister). c.unwrap_or-want.result ≡ wanted x.options c.args.want) c.self.view_is (c.unwrap_or-want.ensures ∙ wanted_is options c.args.want) in
-    let skips : Skips l c.args.view.now text c.args.want c.args.first (record { listing = c.skip-listing.result; want = c.unwrap_or-want.result }) = record {
-      start = c.in-Ok-start.listing;
-      of_text = subst (λ (bytes : List ℕ). IsListing c.args.view.now bytes c.in-Ok-start.listing) (c.in-Ok.ensures.cases.0 ∙ c.bytes.ensures) c.in-Ok-start.ensures.listing;
+    let skips : Skips l c.args.view.now text c.args.want c.args.first (record { listing = c.in_ok-listing.listing; want = c.unwrap_or-want.result }) = record {
+      start = c.in-Ok-start.start;
+      of_text = subst (λ (bytes : List ℕ). IsListing c.args.view.now bytes c.in-Ok-start.start) (c.in-Ok.ensures.cases.0 ∙ c.bytes.ensures) c.in-Ok-start.ensures.listing;
+      nulls = subst (λ (x : Lister). c.in-Ok-start.start.course.nulls ≡ x.options.nulls) c.self.view_is c.in-Ok-start.ensures.nulls;
       at_start = c.in-Ok-start.ensures.first;
-      skipped = c.skip-listing.ensures;
+      skipped = subst (λ (x : Lister). HasSkipped x.know c.in-Ok-start.start (c.args.first - 1) c.in_ok-listing.listing) c.self.view_is c.in_ok-listing.ensures.skipped;
+      same = c.in_ok-listing.ensures.same;
+      knows = subst (λ (x : Lister). StandsFor x.know c.in_ok-listing.listing.course) c.self.view_is c.in_ok-listing.ensures.stands;
       wants = want;
     } in
-    opened l c.args.view.now text c.args.want c.args.first (record { listing = c.skip-listing.result; want = c.unwrap_or-want.result }) skips c.in_ok-held.held c.in_ok-held.tokens c.in_ok-held.page c.stats-stats.result
+    opened l c.args.view.now text c.args.want c.args.first (record { listing = c.in_ok-listing.listing; want = c.unwrap_or-want.result }) skips c.in_ok-held.held c.in_ok-held.tokens c.in_ok-held.page c.stats-stats.result
     c.requires.first.1 c.in_ok-held.ensures c.stats-stats.ensures.disjuncts c.stats-stats.ensures.kept

@@ -1,6 +1,10 @@
 use Rattle.lg_run.proofs.Answered.{of_each}
-use Rattle.lg_run.proofs.Turned.{goes_on}
+use Rattle.lg_run.proofs.Turned.{may_turn, goes_on}
 use Rattle.lg_run.proofs.lister.ListerEngine.more.Goals as goal
+
+-- what is held has come no farther than a page may start
+pub page-requires : goal.page-requires
+page-requires c = let r = c.requires in may_turn c.args.self.now r.0 r.1 c.args.held r.2 r.3
 
 -- the page after the last
 pub returns : goal.returns
