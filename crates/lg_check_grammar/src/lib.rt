@@ -1,12 +1,6 @@
-//! Tests of the grammar, the dictionary and the slow lister: outside values, and calls that succeed.
+//! Tests of the grammar, the slow lister and post-processing: outside values, and calls that succeed.
 #![tactic(auto)]
 
-#[cfg(test)]
-mod dict;
-#[cfg(test)]
-mod disj;
-#[cfg(test)]
-mod edit;
 #[cfg(test)]
 mod gram;
 #[cfg(test)]
@@ -15,5 +9,3 @@ mod linkages;
 mod pp;
 #[cfg(test)]
 mod rules;
-#[cfg(test)]
-mod token;

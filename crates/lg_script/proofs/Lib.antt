@@ -11,3 +11,4 @@ pub mod SomeCommand
 pub mod Some
 pub mod Bounds
 pub mod Numbers
+pub mod Coded

@@ -1,5 +1,5 @@
 -- What a command line says, or why it is none.
-use Rattle.std.specs.Prelude.{◌≡◌, ◌≢◌, ◌≤◌, ◌⊎◌, ℕ, ◌+◌, ◌*◌, ◌-◌, Bool, true, false, List, [], ◌∷◌, ◌++◌, length, codes, Result, Ok, Err}
+use Rattle.std.specs.Prelude.{◌≡◌, ◌≢◌, ◌≤◌, ◌⊎◌, ℕ, ◌+◌, ◌*◌, ◌-◌, Bool, true, false, List, [], ◌∷◌, ◌++◌, length, map, codes, Result, Ok, Err}
 use Rattle.std.specs.List.{AllByRecursion}
 use Rattle.lg_lex.specs.declared.run.Separators.TheVariants.{Blanks}
 use Rattle.lg_lex.specs.Runs.{AreSeparators, AreInner, EndsRun}
@@ -25,6 +25,10 @@ command_view (commands.List from want sentence) = lists from want sentence
 command_view commands.More = goes_on
 command_view (commands.Edit edit) = makes (edit_view edit)
 command_view commands.Version = asks
+
+-- the scripts of sessions as contracts see them
+abbrev pub script_views : List (List Command) → List (List CommandView)
+script_views scripts = map (map command_view) scripts
 
 abbrev pub is_edit : CommandView → Bool
 is_edit (makes edit) = true

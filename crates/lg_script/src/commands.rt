@@ -1,15 +1,19 @@
 //! Lists of commands.
 
-ghost use Rattle.std.specs.Prelude.{◌≡◌, ◌+◌, ◌<◌, ◌≤◌, ◌^◌, Some, length, map, take, count_by, slice_get, IfOk, IfNone, IfSome};
+ghost use Rattle.std.specs.Prelude.{◌≡◌, ◌+◌, ◌<◌, ◌≤◌, ◌^◌, true, Some, length, map, take, count_by, slice_get, IfOk, IfNone, IfSome};
 ghost use Rattle.std.specs.Option.{option_map};
-ghost use Rattle.lg_edit.specs.Edits.{EditView, edit_view};
-ghost use Rattle.lg_script.specs.Commands.{command_view, is_edit, makes};
-ghost use Rattle.lg_script.specs.EditNumbers.{edit_numbers};
-ghost use Rattle.lg_script.specs.Histories.{numbered};
+ghost use Rattle.lg_edit.specs.Edits.{EditView, edit_view, DefinesAsItMay, IsEditInBounds};
+ghost use Rattle.lg_log.specs.Codes.{is_code};
+ghost use Rattle.lg_script.specs.Codes.{AreScripts, place_of};
+ghost use Rattle.lg_script.specs.Commands.{command_view, script_views, is_edit, makes};
+ghost use Rattle.lg_script.specs.EditNumbers.{edit_numbers, edit_counts};
+ghost use Rattle.lg_script.specs.Histories.{numbered, command_at};
 
 use crate::command::Command;
 use lg_base::NoMemory;
 use lg_edit::Edit;
+use lg_gram::Place;
+use lg_log::{code_laws, index_of, session_of};
 use std::alloc::Global;
 use std::marker::Model;
 
@@ -145,6 +149,30 @@ impl Scripts {
         ensures { result.now ≡ self.now }
     {
         self.items.as_slice()
+    }
+
+    /// The edit that a code names, with its place. The time does not depend on the scripts.
+    ///
+    /// The code is one of these scripts, which sessions may run.
+    pub fn edit_of(&self, code: u64) -> (Place, &Edit)
+        requires scripts { AreScripts (script_views self.now) }
+        requires code { is_code (edit_counts (script_views self.now)) code ≡ true }
+        ensures place { result.0 ≡ place_of (script_views self.now) code }
+        ensures edit { command_at (script_views self.now) (place_of (script_views self.now) code) ≡ Some (makes (edit_view result.1.now)) }
+        ensures items { DefinesAsItMay (edit_view result.1.now) }
+        ensures bounds { IsEditInBounds (edit_view result.1.now) }
+    {
+        code_laws();
+        let session = session_of(code);
+        let commands = &self.items()[session as usize];
+        let Some((command, edit)) = commands.edit(index_of(code)) else {
+            unreachable!()
+        };
+        let place = Place {
+            session: session + 1,
+            command,
+        };
+        (place, edit)
     }
 
     /// The commands of each session, as a vector.

@@ -1,11 +1,13 @@
 ghost use Rattle.std.specs.Prelude.{◌≡◌, ◌≤◌, ℕ, List, length, Ok};
 ghost use Rattle.lg_dictread.specs.Limits.{FILE};
 ghost use Rattle.lg_script.specs.Bounds.{AreInBounds};
+ghost use Rattle.lg_script.specs.Codes.{EditsHavePlaces, CommandsKeepBounds};
 ghost use Rattle.lg_script.specs.Commands.{CommandView};
 ghost use Rattle.lg_script.specs.Scripts.{Outcome, ScriptIs};
 
 use lg_dictread::{entry_texts_keep_bounds, exactly_one_entry_text};
 use lg_lex::{bytes_are_utf8_or_at_fault, parts_are_utf8};
+use lg_log::code_laws;
 
 /// A script stands for one outcome: its commands, or its first fault.
 ///
@@ -27,4 +29,14 @@ pub fn scripts_keep_bounds()
 {
     entry_texts_keep_bounds();
     parts_are_utf8();
+}
+
+/// What holds of places in scripts: each edit has a code, which names its place, and each command keeps its bounds.
+///
+/// The function does nothing: a caller whose proof needs the facts calls it.
+pub fn place_laws()
+    ensures edits { EditsHavePlaces }
+    ensures bounds { CommandsKeepBounds }
+{
+    code_laws();
 }

@@ -1,5 +1,5 @@
 use Rattle.std.proofs.Common.{◌≢◌, ◌-◌, ◌≤◌, length, AllPairs}
-use Rattle.lg_check_grammar.proofs.token.words_in.Given as goal
+use Rattle.lg_check_sentences.proofs.token.words_in.Given as goal
 
 abbrev pub invariant-loop-run : goal.invariant-loop-run
 invariant-loop-run l = record {
