@@ -4,3 +4,8 @@ pub mod PlainTexts
 pub mod TextLines
 pub mod Heads
 pub mod Reading
+pub mod Greatest
+pub mod Painting
+pub mod Heights
+pub mod Columns
+pub mod Lines

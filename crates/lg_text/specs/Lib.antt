@@ -2,3 +2,5 @@ pub mod Texts
 pub mod Replies
 pub mod Pieces
 pub mod Shown
+pub mod Diagrams
+pub mod Painted

@@ -1,6 +1,7 @@
 //! The texts that are printed of linkages, pages, answers and the journal.
 #![tactic(auto)]
 
+mod drawing;
 mod journal;
 pub mod law;
 mod linkage;
@@ -8,6 +9,7 @@ mod page;
 mod piece;
 mod reply;
 
+pub use drawing::diagram;
 pub use journal::journal_text;
 pub use law::documents_show;
 pub use linkage::linkage_text;
