@@ -1,7 +1,7 @@
 //! Two sessions at once, each held at its second command until the other has come there.
 ghost use Rattle.std.specs.Prelude.{IfOk};
 ghost use Rattle.lg_script.specs.Codes.{AreScripts};
-ghost use Rattle.lg_session.specs.Legal.{script_views};
+ghost use Rattle.lg_script.specs.Commands.{script_views};
 ghost use Rattle.lg_check_sessions.specs.Small.{IsSmall};
 
 use crate::session::{Told, Toy, add, commands_of, dictionary, expect, put};

@@ -6,9 +6,8 @@ ghost use Rattle.lg_gram.specs.Formulas.{LevelFits};
 ghost use Rattle.lg_dict.specs.Dictionary.{AreEntries};
 ghost use Rattle.lg_edit.specs.Edits.{edit_view, DefinesAsItMay, IsEditInBounds};
 ghost use Rattle.lg_script.specs.Bounds.{IsInBounds};
-ghost use Rattle.lg_script.specs.Commands.{command_view};
+ghost use Rattle.lg_script.specs.Commands.{command_view, script_views};
 ghost use Rattle.lg_script.specs.Codes.{AreScripts};
-ghost use Rattle.lg_session.specs.Legal.{script_views};
 ghost use Rattle.lg_check_sessions.specs.Small.{IsSmall};
 
 use lg_base::{NoMemory, Text, Texts};
@@ -165,7 +164,7 @@ fn entry(alloc: Global) -> Result<Entry, Fail>
     })
 }
 
-fn parse(alloc: Global, sentence: &str) -> Result<Command, Fail>
+pub(crate) fn parse(alloc: Global, sentence: &str) -> Result<Command, Fail>
     requires { length sentence.now < 2 ^ 32 }
     ensures { IfOk result (λ command. IsInBounds (command_view command)) }
 {

@@ -10,9 +10,8 @@ use Rattle.std.proofs.KnownBytes.{Appends-nil, Appends-trans}
 use Rattle.lg_base.specs.Sinks.{AppendsFront}
 use Rattle.lg_gram.specs.declared.reply.Reply.{Reply}
 use Rattle.lg_script.specs.declared.command.Command.{Command}
-use Rattle.lg_script.specs.Commands.{command_view}
+use Rattle.lg_script.specs.Commands.{command_view, script_views}
 use Rattle.lg_script.specs.Kinds.{kind_of}
-use Rattle.lg_session.specs.Legal.{script_views}
 use Rattle.lg_text.specs.Replies.{reply_text}
 use Rattle.lg_run.specs.Documents.{reply_texts, session_texts}
 use Rattle.lg_run.specs.Lines.{joined}

@@ -6,7 +6,7 @@ use Rattle.lg_base.specs.Faults.{Rose}
 use Rattle.lg_base.specs.Files.{AsksWithin, EndsWith}
 use Rattle.lg_dictread.specs.declared.dict_error.DictError.{DictError}
 use Rattle.lg_dictread.specs.declared.dict_error.DictError.TheVariants as errors
-use Rattle.lg_session.specs.Legal.{script_views}
+use Rattle.lg_script.specs.Commands.{script_views}
 use Rattle.lg_run.specs.Inputs.{Found, Reading, accepted, refused, Given, OneGiven, RunGiven}
 use Rattle.lg_run.specs.Lines.{unreadable_line}
 use Rattle.lg_run.specs.Stops.{stop_status, stop_line}

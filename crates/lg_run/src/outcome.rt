@@ -1,8 +1,7 @@
 //! What is written of sessions.
 ghost use Rattle.std.specs.Prelude.{◌<◌, ◌^◌, length, map, All};
-ghost use Rattle.lg_script.specs.Commands.{command_view};
+ghost use Rattle.lg_script.specs.Commands.{command_view, script_views};
 ghost use Rattle.lg_script.specs.Kinds.{kind_of};
-ghost use Rattle.lg_session.specs.Legal.{script_views};
 ghost use Rattle.lg_text.specs.Replies.{IsAnswerTo, IsPrintableReply, reply_text};
 ghost use Rattle.lg_run.specs.Documents.{reply_texts, outcome_text};
 ghost use Rattle.lg_run.specs.Lines.{joined};

@@ -2,10 +2,9 @@
 ghost use Rattle.std.specs.Prelude.{◌≡◌, ◌≤◌, ◌<◌, ℕ, suc, List, length, map, take, sum, slice_get, Some, string_bytes, IfSome, IfOk, IfErr, MatchOption, All, [], ◌∷◌};
 ghost use Rattle.lg_dictread.specs.Limits.{FILE};
 ghost use Rattle.lg_script.specs.Bounds.{AreInBounds};
-ghost use Rattle.lg_script.specs.Commands.{command_view};
+ghost use Rattle.lg_script.specs.Commands.{command_view, script_views};
 ghost use Rattle.lg_script.specs.EditNumbers.{edit_counts};
 ghost use Rattle.lg_script.specs.Codes.{AreScripts};
-ghost use Rattle.lg_session.specs.Legal.{script_views};
 ghost use Rattle.lg_run.specs.Words.{SCRIPTS};
 ghost use Rattle.lg_run.specs.Inputs.{Followed, ScriptReads, ScriptInput, ScriptsInput, EditsRead, EDITS};
 ghost use Rattle.lg_run.specs.Reads.{AsksInOrder, Tells, HasCause, IsAbout, IsNoFault};

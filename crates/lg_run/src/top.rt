@@ -3,7 +3,7 @@ ghost use Rattle.std.specs.Prelude.{◌≡◌, ◌↔◌, ◌≤◌, ◌++◌, l
 ghost use Rattle.std.specs.Io.KnownBytes.{Appends};
 ghost use Rattle.lg_base.specs.Faults.{Rose};
 ghost use Rattle.lg_base.specs.Sinks.{HasWriteCause};
-ghost use Rattle.lg_session.specs.Legal.{script_views};
+ghost use Rattle.lg_script.specs.Commands.{script_views};
 ghost use Rattle.lg_run.specs.Words.{SENTENCE, AreInRange};
 ghost use Rattle.lg_run.specs.Inputs.{OneGiven, RunGiven};
 ghost use Rattle.lg_run.specs.Reads.{AsksInOrder, given_in};

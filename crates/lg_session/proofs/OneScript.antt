@@ -3,50 +3,36 @@ use Rattle.std.proofs.Common.{◌≡◌, ℕ, ◌+◌, ◌<◌, ◌^◌, List, [
 use Rattle.std.proofs.Math.Seq.{drop-cons}
 use Rattle.std.proofs.lemmas.List.{length-map, get_or-map, get_or_default}
 use Rattle.std.proofs.lemmas.Option.{slice_get_read}
-use Rattle.lg_gram.specs.declared.reply.Place.{Place}
 use Rattle.lg_script.specs.declared.command.Command.{Command}
-use Rattle.lg_script.specs.Commands.{CommandView, command_view, asks}
+use Rattle.lg_script.specs.Commands.{CommandView, command_view, asks, script_views}
 use Rattle.lg_script.specs.Histories.{command_at, command_in, numbered}
-use Rattle.lg_log.specs.Codes.{code_session, code_index}
-use Rattle.lg_script.specs.EditNumbers.{edit_numbers}
-use Rattle.lg_script.specs.Codes.{place_of, AreScripts}
-use Rattle.lg_session.specs.Legal.{script_views}
-use Rattle.lg_session.specs.Rows.{Ground, commands_of}
+use Rattle.lg_script.specs.Codes.{commands_of, AreScripts}
+use Rattle.lg_session.specs.Rows.{Ground}
 
 module _ (g : Ground) (number : ℕ) (in_ : number < length g.scripts) where
-  pub few_commands : AreScripts g.scripts → length (commands_of g number) < 2 ^ 32
+  pub few_commands : AreScripts g.scripts → length (commands_of g.scripts number) < 2 ^ 32
   few_commands are = (are.each number [] in_).few
 
-  script_at : numbered g.scripts (number + 1) ≡ Some (commands_of g number)
-  script_at = rw add-one (slice_get_read g.scripts (length g.scripts) number (commands_of g number) refl in_ (get_or_default g.scripts number [] (commands_of g number) in_))
+  script_at : numbered g.scripts (number + 1) ≡ Some (commands_of g.scripts number)
+  script_at = rw add-one (slice_get_read g.scripts (length g.scripts) number (commands_of g.scripts number) refl in_ (get_or_default g.scripts number [] (commands_of g.scripts number) in_))
 
-  module _ (n : ℕ) (inside : n < length (commands_of g number)) where
+  module _ (n : ℕ) (inside : n < length (commands_of g.scripts number)) where
     -- the command after the first n
     abbrev pub command_after : CommandView
-    command_after = slice_index_or (commands_of g number) n asks
+    command_after = slice_index_or (commands_of g.scripts number) n asks
 
     pub stands : command_at g.scripts (record { session = number + 1; command = n + 1 }) ≡ Some command_after
-    stands = ap (λ cs. command_in cs (n + 1)) script_at ∙ (rw add-one (slice_get_read (commands_of g number) (length (commands_of g number)) n command_after refl inside (get_or_default (commands_of g number) n asks command_after inside)))
+    stands = ap (λ cs. command_in cs (n + 1)) script_at ∙ (rw add-one (slice_get_read (commands_of g.scripts number) (length (commands_of g.scripts number)) n command_after refl inside (get_or_default (commands_of g.scripts number) n asks command_after inside)))
 
-    pub split : drop n (commands_of g number) ≡ command_after ∷ drop (n + 1) (commands_of g number)
-    split = rw add-one (drop-cons (commands_of g number) n asks inside)
+    pub split : drop n (commands_of g.scripts number) ≡ command_after ∷ drop (n + 1) (commands_of g.scripts number)
+    split = rw add-one (drop-cons (commands_of g.scripts number) n asks inside)
 
 -- ---- a script in code
 
-abbrev pub at_command : ℕ → ℕ → Place
-at_command session command = record { session = session; command = command }
-
 module _ (scripts seen : List (List Command)) (script : List Command) (number : ℕ) (in_ : number < length (script_views scripts)) (same : seen ≡ scripts) (found : script ≡ slice_index_or seen number script) where
-  pub script_is : slice_index_or (script_views scripts) number [] ≡ map command_view script
+  pub script_is : commands_of (script_views scripts) number ≡ map command_view script
   script_is = get_or-map (λ (l : List Command). map command_view l) scripts number script [] (omega (arith, in_, length-map scripts (λ (l : List Command). map command_view l)))
       ∙ ap (λ (l : List Command). map command_view l) (ap (λ (l : List (List Command)). get_or l number script) (sym same) ∙ sym found)
 
-  pub as_many : (items : List Command) → items ≡ script → length items ≡ length (slice_index_or (script_views scripts) number [])
+  pub as_many : (items : List Command) → items ≡ script → length items ≡ length (commands_of (script_views scripts) number)
   as_many items are = ap length are ∙ sym (length-map script command_view) ∙ ap length (sym script_is)
-
-  pub place_is : (code index command : ℕ) → number ≡ code_session code → index ≡ code_index code → command ≡ slice_index_or (edit_numbers (map command_view script)) index 0
-      → at_command (number + 1) command ≡ place_of (script_views scripts) code
-  place_is code index command session index_is is =
-      let same : command ≡ (place_of (script_views scripts) code).command = is ∙ (λ i. slice_index_or (edit_numbers (sym script_is i)) (index_is i) 0)
-      ∙ ap (λ (k : ℕ). slice_index_or (edit_numbers (slice_index_or (script_views scripts) k [])) (code_index code) 0) session in
-      (λ i. at_command (session i + 1) (same i))

@@ -15,10 +15,10 @@ use Rattle.lg_log.specs.Passes.{LogId, Standing, at_start}
 use Rattle.lg_script.specs.Commands.{CommandView}
 use Rattle.lg_script.specs.Histories.{command_at, dictionary_after, fresh, version_of}
 use Rattle.lg_session.specs.declared.session.Session.{Session}
-use Rattle.lg_script.specs.Codes.{place_of, places_of}
+use Rattle.lg_script.specs.Codes.{commands_of, place_of, places_of}
 use Rattle.lg_session.specs.Engines.{Progress}
 use Rattle.lg_session.specs.Legal.{Holding, Run, AnswerIs}
-use Rattle.lg_session.specs.Rows.{Ground, run_on, commands_of, HasEnded}
+use Rattle.lg_session.specs.Rows.{Ground, run_on, HasEnded}
 use Rattle.lg_session.specs.Turns.{Story, HasCome, HoldsSo, IsAt, MayGoOn, IsTimely, Turned, added, place_in}
 use Rattle.lg_session.proofs.OneScript.{command_after, stands, split}
 use Rattle.lg_session.proofs.Rest.{Rest, own_of, ended, answers_first, pairs_after}
@@ -38,8 +38,8 @@ pub record Reached {H : Type 0} (g : Ground) (Stands : H → Dictionary → Prog
   pub holding : Option Holding
   pub come : HasCome Stands (story_at g holding n) session
   pub many : length replies ≡ n
-  pub gives : (final : List Place) (rs : List Reply) → Rest (run_with g final) (number + 1) (n + 1) (places_of g.scripts session.pass.seen) holding (drop n (commands_of g number)) rs
-      → Rest (run_with g final) (number + 1) 1 [] None (commands_of g number) (replies ++ rs)
+  pub gives : (final : List Place) (rs : List Reply) → Rest (run_with g final) (number + 1) (n + 1) (places_of g.scripts session.pass.seen) holding (drop n (commands_of g.scripts number)) rs
+      → Rest (run_with g final) (number + 1) 1 [] None (commands_of g.scripts number) (replies ++ rs)
 
 module _ {H : Type 0} (g : Ground) (Stands : H → Dictionary → Progress → Type 0) (log : LogId) (number : ℕ) where
   pub none_reached : (session : Session H) → session.session ≡ number → session.place ≡ 0 → session.pass ≡ at_start log (number ∷ []) → session.view ≡ g.base → session.held ≡ None
@@ -72,7 +72,7 @@ module _ {H : Type 0} (g : Ground) (Stands : H → Dictionary → Progress → T
     next_place : place_in session ≡ record { session = number + 1; command = n + 1 }
     next_place = (λ i. record { session = reached.same i + 1; command = reached.place i + 1 })
 
-    module _ (in_ : number < length g.scripts) (inside : n < length (commands_of g number)) where
+    module _ (in_ : number < length g.scripts) (inside : n < length (commands_of g.scripts number)) where
       pub next_command : command_at g.scripts (place_in session) ≡ Some (command_after g number in_ n inside)
       next_command = ap (command_at g.scripts) next_place ∙ stands g number in_ n inside
 
@@ -100,9 +100,9 @@ module _ {H : Type 0} (g : Ground) (Stands : H → Dictionary → Progress → T
                 let own : own_of (number + 1) more ≡ added p reply = subst (λ (q : Place). own_of q.session more ≡ added q reply) next_place turn.grown.own in
                 let answer = subst (λ (q : Place). AnswerIs (run_with g new) q reached.holding (command_after g number in_ n inside) reply turn.then) next_place turn.answer in
                 let timely = subst (λ (k : ℕ). IsTimely (command_after g number in_ n inside) reply k) (sym (length-map after.pass.seen (place_of g.scripts))) turn.timely in
-                let first = answers_first run (number + 1) (n + 1) before new more reached.holding turn.then (command_after g number in_ n inside) (drop (n + 1) (commands_of g number)) reply rs grows own answer timely rest in
+                let first = answers_first run (number + 1) (n + 1) before new more reached.holding turn.then (command_after g number in_ n inside) (drop (n + 1) (commands_of g.scripts number)) reply rs grows own answer timely rest in
                 let all = reached.gives final (reply ∷ rs) (subst (λ (cs : List CommandView). Rest run (number + 1) (n + 1) before reached.holding cs (reply ∷ rs)) (sym (split g number in_ n inside)) first) in
-                subst (λ (r : List Reply). Rest run (number + 1) 1 [] None (commands_of g number) r) (sym (append_assoc replies (reply ∷ []) rs)) all;
+                subst (λ (r : List Reply). Rest run (number + 1) 1 [] None (commands_of g.scripts number) r) (sym (append_assoc replies (reply ∷ []) rs)) all;
           }
 
   -- ---- the end
@@ -115,17 +115,17 @@ module _ {H : Type 0} (g : Ground) (Stands : H → Dictionary → Progress → T
       let other : (code_session c + 1) == (number + 1) ≡ false = grind (arith, nat_tests) in
       rw other (none_own cs parts.1)
 
-  pub all_reached : (session : Session H) (replies : List Reply) (n : ℕ) → n ≡ length (commands_of g number) → Reached g Stands log number session replies n → HasEnded g session.pass.seen number replies
+  pub all_reached : (session : Session H) (replies : List Reply) (n : ℕ) → n ≡ length (commands_of g.scripts number) → Reached g Stands log number session replies n → HasEnded g session.pass.seen number replies
   all_reached session replies n all reached history later =
       let run : Run = run_on g history in
       let before : List Place = places_of g.scripts session.pass.seen in
       let more : List Place = places_of g.scripts later.rest in
       let grows : run.journal ≡ before ++ more = ap (places_of g.scripts) later.begins ∙ map-append (place_of g.scripts) session.pass.seen later.rest in
-      let none : drop n (commands_of g number) ≡ [] = ap (λ (k : ℕ). drop k (commands_of g number)) all ∙ drop-length (commands_of g number) in
-      let last : Rest run (number + 1) (n + 1) before reached.holding (drop n (commands_of g number)) [] = rw none (ended run (number + 1) (n + 1) before more reached.holding grows (none_own later.rest later.none)) in
-      let rest = subst (λ (r : List Reply). Rest run (number + 1) 1 [] None (commands_of g number) r) (append-nil replies) (reached.gives run.journal [] last) in record {
+      let none : drop n (commands_of g.scripts number) ≡ [] = ap (λ (k : ℕ). drop k (commands_of g.scripts number)) all ∙ drop-length (commands_of g.scripts number) in
+      let last : Rest run (number + 1) (n + 1) before reached.holding (drop n (commands_of g.scripts number)) [] = rw none (ended run (number + 1) (n + 1) before more reached.holding grows (none_own later.rest later.none)) in
+      let rest = subst (λ (r : List Reply). Rest run (number + 1) 1 [] None (commands_of g.scripts number) r) (append-nil replies) (reached.gives run.journal [] last) in record {
         legal = record {
-          in_time = record { there = rest.there; rise = pairs_after (At 0) (fresh (commands_of g number) replies) rest.rise };
+          in_time = record { there = rest.there; rise = pairs_after (At 0) (fresh (commands_of g.scripts number) replies) rest.rise };
           answered = rest.answered;
         };
         whole = reached.many ∙ all;

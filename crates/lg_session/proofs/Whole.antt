@@ -12,9 +12,9 @@ use Rattle.lg_log.specs.Codes.{is_code, code_session, CodesAreOfEdits}
 use Rattle.lg_script.specs.Commands.{CommandView, is_edit}
 use Rattle.lg_script.specs.EditNumbers.{edit_counts}
 use Rattle.lg_script.specs.Histories.{numbered, published_by}
-use Rattle.lg_script.specs.Codes.{place_of, places_of}
+use Rattle.lg_script.specs.Codes.{commands_of, place_of, places_of}
 use Rattle.lg_session.specs.Legal.{IsLegal, IsLegalSession, AnswersAll}
-use Rattle.lg_session.specs.Rows.{Ground, run_on, commands_of, IsRight, HaveEnded}
+use Rattle.lg_session.specs.Rows.{Ground, run_on, IsRight, HaveEnded}
 
 module _ (g : Ground) (seen : List ℕ) where
   many_ended : (first n : ℕ) (lists : List (List Reply)) → HaveEnded g seen (range_with_len first n) lists → length lists ≡ n
@@ -38,7 +38,7 @@ module _ (g : Ground) (seen : List ℕ) where
     right : (i : ℕ) (rs : List Reply) → numbered lists (suc i) ≡ Some rs → IsRight g seen i rs
     right i rs is = subst (λ (k : ℕ). IsRight g seen k rs) (omega arith) (right_at 0 (length g.scripts) lists ended i rs is)
 
-    script_of : (i : ℕ) (commands : List CommandView) → numbered g.scripts (suc i) ≡ Some commands → commands_of g i ≡ commands
+    script_of : (i : ℕ) (commands : List CommandView) → numbered g.scripts (suc i) ≡ Some commands → commands_of g.scripts i ≡ commands
     script_of i commands is = get_or_from_slice_get g.scripts i commands [] is
 
     each_own : (session : ℕ) (rs : List Reply) → numbered lists session ≡ Some rs → filter (λ p. p.session == session) (places_of g.scripts seen) ≡ published_by session rs

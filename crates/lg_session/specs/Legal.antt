@@ -1,5 +1,5 @@
 -- What has to hold of the journal and of the answers of sessions that edit one dictionary and ask for sentences.
-use Rattle.std.specs.Prelude.{◌≡◌, ℕ, ◌+◌, List, [], ◌∷◌, length, map, Option, Some, None}
+use Rattle.std.specs.Prelude.{◌≡◌, ℕ, ◌+◌, List, [], ◌∷◌, length, Option, Some, None}
 use Rattle.lg_gram.specs.declared.edit.EditRefusal.{EditRefusal}
 use Rattle.lg_gram.specs.declared.listing.Bound.{Bound}
 use Rattle.lg_gram.specs.declared.listing.Page.{Page}
@@ -12,7 +12,7 @@ use Rattle.lg_dict.specs.Dictionary.{Dictionary}
 use Rattle.lg_token.specs.Bounds.{AreListed, IsBeyond}
 use Rattle.lg_edit.specs.Edits.{EditView}
 use Rattle.lg_script.specs.declared.command.Command.{Command}
-use Rattle.lg_script.specs.Commands.{CommandView, command_view, parses, lists, goes_on, makes, asks}
+use Rattle.lg_script.specs.Commands.{CommandView, script_views, parses, lists, goes_on, makes, asks}
 use Rattle.lg_script.specs.Histories.{numbered, version_of, HasPublished, AreInTime, IsPublishedAt, IsRefusedAt}
 use Rattle.lg_session.specs.Engines.{Meaning, Progress, start_of, moved}
 
@@ -33,10 +33,6 @@ pub record Run : Type 1 where
   pub scripts : List (List CommandView)
   pub base : Dictionary
   pub journal : List Place
-
--- the scripts of sessions as contracts see them
-abbrev pub script_views : List (List Command) → List (List CommandView)
-script_views scripts = map (map command_view) scripts
 
 abbrev pub run_of : Meaning → List (List Command) → Dictionary → List Place → Run
 run_of meaning scripts base journal = record { meaning = meaning; scripts = script_views scripts; base = base; journal = journal }

@@ -1,17 +1,17 @@
 -- What rows of sessions have come to, each session with its answers.
-use Rattle.std.specs.Prelude.{◌≡◌, ℕ, ◌+◌, ◌<◌, ◌==◌, List, [], ◌∷◌, length, map, filter, All, slice_index_or}
+use Rattle.std.specs.Prelude.{◌≡◌, ℕ, ◌+◌, ◌<◌, ◌==◌, List, [], ◌∷◌, length, map, filter, All}
 use Rattle.std.specs.List.{enumerate_from}
 use Rattle.lg_gram.specs.declared.reply.Reply.{Reply}
 use Rattle.lg_dict.specs.Dictionary.{Dictionary}
 use Rattle.lg_log.specs.Passes.{LogId, Standing, HasAllOf, at_start}
 use Rattle.lg_script.specs.declared.command.Command.{Command}
-use Rattle.lg_script.specs.Commands.{CommandView}
+use Rattle.lg_script.specs.Commands.{CommandView, script_views}
 use Rattle.lg_script.specs.EditNumbers.{edit_counts}
 use Rattle.lg_script.specs.Histories.{published_by}
 use Rattle.lg_session.specs.declared.job.Job.{Job}
-use Rattle.lg_script.specs.Codes.{places_of, AreScripts}
+use Rattle.lg_script.specs.Codes.{commands_of, places_of, AreScripts}
 use Rattle.lg_session.specs.Engines.{Meaning}
-use Rattle.lg_session.specs.Legal.{Run, IsLegalSession, script_views}
+use Rattle.lg_session.specs.Legal.{Run, IsLegalSession}
 
 -- what sessions are held against: the meaning of their engine, their scripts, and the dictionary at their start
 pub record Ground : Type 1 where
@@ -25,15 +25,11 @@ ground_of meaning scripts base = record { meaning = meaning; scripts = script_vi
 abbrev pub run_on : Ground → List ℕ → Run
 run_on g history = record { meaning = g.meaning; scripts = g.scripts; base = g.base; journal = places_of g.scripts history }
 
--- the commands of a session, which is numbered from 0
-abbrev pub commands_of : Ground → ℕ → List CommandView
-commands_of g session = slice_index_or g.scripts session []
-
 -- By this history the answers of a session, numbered from 0, are legal, and there is one for each command. Of its edits the
 -- history has those that were answered as published.
 pub record IsRight (g : Ground) (history : List ℕ) (session : ℕ) (replies : List Reply) : Type 0 where
-  pub legal : IsLegalSession (run_on g history) (session + 1) (commands_of g session) replies
-  pub whole : length replies ≡ length (commands_of g session)
+  pub legal : IsLegalSession (run_on g history) (session + 1) (commands_of g.scripts session) replies
+  pub whole : length replies ≡ length (commands_of g.scripts session)
   pub own : filter (λ p. p.session == session + 1) (places_of g.scripts history) ≡ published_by (session + 1) replies
 
 -- A session has ended: its answers are right by every history that goes on from what was seen with edits of others alone.

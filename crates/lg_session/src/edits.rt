@@ -10,7 +10,7 @@ ghost use Rattle.lg_script.specs.EditNumbers.{edit_counts};
 ghost use Rattle.lg_script.specs.Histories.{names_in, unknown_name as name_of};
 ghost use Rattle.lg_script.specs.Codes.{AreScripts};
 ghost use Rattle.lg_session.specs.Learning.{IsEdited};
-ghost use Rattle.lg_session.specs.Legal.{script_views};
+ghost use Rattle.lg_script.specs.Commands.{script_views};
 
 use crate::learning::{MORE_THAN_ALL, catch_up, learn};
 use lg_base::{NoMemory, Text};

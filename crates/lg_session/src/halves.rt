@@ -1,7 +1,7 @@
 //! Many sessions at once, each on a thread of its own.
 ghost use Rattle.std.specs.Prelude.{IfOk};
 ghost use Rattle.std.specs.Thread.{IsSync};
-ghost use Rattle.lg_session.specs.Legal.{script_views};
+ghost use Rattle.lg_script.specs.Commands.{script_views};
 ghost use Rattle.lg_session.specs.Rows.{ground_of, AreDone, MayRun, numbers_of};
 
 use crate::engine::Engine;

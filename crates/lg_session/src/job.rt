@@ -2,7 +2,7 @@
 ghost use Rattle.std.specs.Prelude.{◌≡◌, ◌∷◌, [], IfOk};
 ghost use Rattle.lg_script.specs.EditNumbers.{edit_counts};
 ghost use Rattle.lg_script.specs.Codes.{AreScripts};
-ghost use Rattle.lg_session.specs.Legal.{script_views};
+ghost use Rattle.lg_script.specs.Commands.{script_views};
 ghost use Rattle.lg_session.specs.Rows.{ground_of, AreDone, IsFresh};
 
 use crate::engine::Engine;

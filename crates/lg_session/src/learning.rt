@@ -1,20 +1,18 @@
 //! How a session learns what others have published.
-ghost use Rattle.std.specs.Prelude.{◌≡◌, ◌∷◌, [], true, Some, IfOk, OnOk};
-ghost use Rattle.lg_edit.specs.Edits.{edit_view, DefinesAsItMay, IsEditInBounds};
+ghost use Rattle.std.specs.Prelude.{◌≡◌, ◌∷◌, [], true, IfOk, OnOk};
 ghost use Rattle.lg_log.specs.Codes.{is_code};
-ghost use Rattle.lg_script.specs.Commands.{makes};
+ghost use Rattle.lg_script.specs.Commands.{script_views};
 ghost use Rattle.lg_script.specs.EditNumbers.{edit_counts};
-ghost use Rattle.lg_script.specs.Histories.{command_at, dictionary_after};
+ghost use Rattle.lg_script.specs.Histories.{dictionary_after};
 ghost use Rattle.lg_session.specs.Answering.{IsUp};
 ghost use Rattle.lg_script.specs.Codes.{AreScripts, place_of};
 ghost use Rattle.lg_session.specs.Learning.{CatchesUp};
-ghost use Rattle.lg_session.specs.Legal.{script_views};
 
 use crate::session::Session;
 use lg_base::NoMemory;
 use lg_dict::View;
-use lg_edit::{Edit, apply, check};
-use lg_log::{Log, Pass, index_of, session_of};
+use lg_edit::{apply, check};
+use lg_log::{Log, Pass};
 use lg_script::Scripts;
 use std::alloc::Global;
 
@@ -83,24 +81,9 @@ pub(crate) fn learn(
     requires code { is_code (edit_counts (script_views scripts.now)) code ≡ true }
     ensures { OnOk result (view.new ≡ dictionary_after (script_views scripts.now) view.old (place_of (script_views scripts.now) code ∷ [])) }
 {
-    let edit = edit_of(scripts, code);
+    let (_, edit) = scripts.edit_of(code);
     match check(view, edit) {
         Ok(()) => apply(alloc, view, edit),
         Err(_) => Ok(()),
-    }
-}
-
-// The edit that a code names.
-fn edit_of(scripts: &Scripts, code: u64) -> &Edit
-    requires scripts { AreScripts (script_views scripts.now) }
-    requires code { is_code (edit_counts (script_views scripts.now)) code ≡ true }
-    ensures edit { command_at (script_views scripts.now) (place_of (script_views scripts.now) code) ≡ Some (makes (edit_view result.now)) }
-    ensures items { DefinesAsItMay (edit_view result.now) }
-    ensures bounds { IsEditInBounds (edit_view result.now) }
-{
-    let commands = &scripts.items()[session_of(code) as usize];
-    match commands.edit(index_of(code)) {
-        Some((_, edit)) => edit,
-        None => unreachable!(),
     }
 }

@@ -2,7 +2,8 @@
 ghost use Rattle.std.specs.Prelude.{◌≡◌, ◌≤◌, length, IfOk};
 ghost use Rattle.lg_script.specs.EditNumbers.{edit_counts};
 ghost use Rattle.lg_script.specs.Codes.{AreScripts};
-ghost use Rattle.lg_session.specs.Legal.{IsLegal, AnswersAll, script_views, run_of};
+ghost use Rattle.lg_script.specs.Commands.{script_views};
+ghost use Rattle.lg_session.specs.Legal.{IsLegal, AnswersAll, run_of};
 ghost use Rattle.lg_session.specs.Rows.{jobs_from};
 
 use crate::engine::Engine;

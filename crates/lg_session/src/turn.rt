@@ -3,12 +3,12 @@ ghost use Rattle.std.specs.Prelude.{◌≡◌, ◌+◌, true, Some, IfOk, IfSome
 ghost use Rattle.lg_edit.specs.Edits.{EditView, edit_view};
 ghost use Rattle.lg_log.specs.Codes.{is_code, code_session};
 ghost use Rattle.lg_script.specs.Bounds.{IsSentence, IsCount, IsInBounds};
-ghost use Rattle.lg_script.specs.Commands.{CommandView, command_view, goes_on, makes};
+ghost use Rattle.lg_script.specs.Commands.{CommandView, command_view, goes_on, makes, script_views};
 ghost use Rattle.lg_script.specs.EditNumbers.{edit_counts};
 ghost use Rattle.lg_script.specs.Histories.{command_at};
 ghost use Rattle.lg_session.specs.Answering.{IsAnswered, IsMade, Answers, GivesNextPage};
 ghost use Rattle.lg_script.specs.Codes.{AreScripts, place_of};
-ghost use Rattle.lg_session.specs.Legal.{AsksFor, script_views};
+ghost use Rattle.lg_session.specs.Legal.{AsksFor};
 ghost use Rattle.lg_session.specs.Turns.{Story, HasCome, IsAt, MayGoOn, Turned, place_in};
 
 use crate::edits::publish;
@@ -19,7 +19,7 @@ use lg_base::{NoMemory, Text};
 use lg_edit::Edit;
 use lg_gram::Reply;
 use lg_log::{Log, code};
-use lg_script::{Command, Scripts};
+use lg_script::{Command, Scripts, place_laws};
 use std::alloc::Global;
 use std::thread::Threads;
 
@@ -89,6 +89,7 @@ fn next_command(scripts: &Scripts, session: u32, place: u32) -> &Command
     ensures command { command_at (script_views scripts.now) (record { session = session + 1; command = place + 1 }) ≡ Some (command_view result.now) }
     ensures bounds { IsInBounds (command_view result.now) }
 {
+    place_laws();
     let commands = &scripts.items()[session as usize];
     &commands.items()[place as usize]
 }
@@ -226,6 +227,7 @@ fn code_at(scripts: &Scripts, session: u32, place: u32) -> u64
     ensures session { code_session result ≡ session }
     ensures at { place_of (script_views scripts.now) result ≡ record { session = session + 1; command = place + 1 } }
 {
+    place_laws();
     code(
         session,
         scripts.items()[session as usize].edits_before(place),

@@ -1,7 +1,7 @@
 use Rattle.std.proofs.Common.{[], map, string_bytes, refl, sym}
 use Rattle.std.proofs.lemmas.List.{append-nil}
 use Rattle.std.proofs.lemmas.Option.{IfSome_then}
-use Rattle.lg_session.specs.Legal.{script_views}
+use Rattle.lg_script.specs.Commands.{script_views}
 use Rattle.lg_run.specs.Inputs.{Followed, ScriptsInput, EditsRead, RunGiven, given, accepted}
 use Rattle.lg_run.specs.Stops.{stop_status, stop_line}
 use Rattle.lg_run.proofs.Readings.{asks_none, asks_first, asks_next, comes_next, stops_first}

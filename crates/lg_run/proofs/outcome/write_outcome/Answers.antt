@@ -7,8 +7,7 @@ use Rattle.std.specs.Iterator.Adapters.{zip_first, zip_second}
 use Rattle.std.specs.Slice.Iter.{iter_rest}
 use Rattle.lg_gram.specs.declared.reply.Place.{Place}
 use Rattle.lg_script.specs.declared.command.Command.{Command}
-use Rattle.lg_script.specs.Commands.{CommandView, command_view}
-use Rattle.lg_session.specs.Legal.{script_views}
+use Rattle.lg_script.specs.Commands.{CommandView, command_view, script_views}
 use Rattle.lg_text.specs.Replies.{journal_text}
 use Rattle.lg_run.specs.Written.{AreAllPrintable}
 use Rattle.lg_run.proofs.Writing.{written_more, written_last, written_front, written_so_far, no_sessions, next_session}

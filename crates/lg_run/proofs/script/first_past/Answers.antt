@@ -4,7 +4,7 @@ use Rattle.std.specs.Iterator.Adapters.{zip_second}
 use Rattle.std.specs.Slice.Iter.{iter_rest}
 use Rattle.lg_script.specs.EditNumbers.{edit_counts}
 use Rattle.lg_script.specs.declared.command.Command.{Command}
-use Rattle.lg_session.specs.Legal.{script_views}
+use Rattle.lg_script.specs.Commands.{script_views}
 use Rattle.lg_run.proofs.EditSums.{left_next, left_past}
 use Rattle.lg_run.proofs.script.first_past.Goals as goal
 

@@ -2,7 +2,7 @@ use Rattle.std.proofs.Common.{◌≡◌, length, map, string_bytes}
 use Rattle.std.specs.Iterator.Adapters.{zip_first, zip_second}
 use Rattle.std.specs.Slice.Iter.{iter_rest}
 use Rattle.lg_script.specs.EditNumbers.{edit_counts}
-use Rattle.lg_session.specs.Legal.{script_views}
+use Rattle.lg_script.specs.Commands.{script_views}
 use Rattle.lg_run.proofs.EditSums.{IsLeft}
 use Rattle.lg_run.proofs.script.first_past.Given as goal
 

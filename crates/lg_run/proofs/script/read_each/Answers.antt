@@ -3,8 +3,7 @@ use Rattle.std.proofs.lemmas.List.{map-append, length-append, drop_all}
 use Rattle.std.proofs.lemmas.Option.{IfSome_then}
 use Rattle.lg_base.specs.Contents.{Contents}
 use Rattle.lg_script.specs.Bounds.{AreInBounds}
-use Rattle.lg_script.specs.Commands.{CommandView, command_view}
-use Rattle.lg_session.specs.Legal.{script_views}
+use Rattle.lg_script.specs.Commands.{CommandView, command_view, script_views}
 use Rattle.lg_run.specs.Inputs.{ScriptInput, accepted}
 use Rattle.lg_run.specs.Reads.{AsksInOrder, Comes, TellsStop, IsAbout}
 use Rattle.lg_run.specs.Stops.{stop_status, stop_line}

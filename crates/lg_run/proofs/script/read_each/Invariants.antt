@@ -1,6 +1,6 @@
 use Rattle.std.proofs.Common.{◌≡◌, ◌≤◌, All, IfSome, length, map, drop, string_bytes}
 use Rattle.lg_script.specs.Bounds.{AreInBounds}
-use Rattle.lg_session.specs.Legal.{script_views}
+use Rattle.lg_script.specs.Commands.{script_views}
 use Rattle.lg_run.proofs.ScriptLists.{ComesOn}
 use Rattle.lg_run.proofs.script.read_each.Given as goal
 

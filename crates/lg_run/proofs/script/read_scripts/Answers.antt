@@ -3,9 +3,8 @@ use Rattle.std.proofs.lemmas.List.{length-map}
 use Rattle.std.proofs.lemmas.Option.{IfSome_then}
 use Rattle.lg_script.specs.EditNumbers.{edit_counts}
 use Rattle.lg_script.specs.declared.command.Command.{Command}
-use Rattle.lg_script.specs.Commands.{command_view}
+use Rattle.lg_script.specs.Commands.{command_view, script_views}
 use Rattle.lg_script.specs.Codes.{AreScripts}
-use Rattle.lg_session.specs.Legal.{script_views}
 use Rattle.lg_run.specs.Inputs.{ScriptsInput, EditsRead, EDITS}
 use Rattle.lg_run.specs.Stops.{stop_status, stop_line}
 use Rattle.lg_run.proofs.Answered.{of_each}

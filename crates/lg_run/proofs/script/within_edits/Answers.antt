@@ -1,5 +1,5 @@
 use Rattle.std.proofs.Common.{map, string_bytes}
-use Rattle.lg_session.specs.Legal.{script_views}
+use Rattle.lg_script.specs.Commands.{script_views}
 use Rattle.lg_run.specs.Inputs.{EditsRead, accepted, refused, few, many}
 use Rattle.lg_run.specs.Lines.{edits_line}
 use Rattle.lg_run.proofs.EditSums.{name_at}

@@ -1,5 +1,6 @@
 use Rattle.std.proofs.Common.{refl, subst}
-use Rattle.lg_session.specs.Legal.{IsLegal, script_views, run_of}
+use Rattle.lg_script.specs.Commands.{script_views}
+use Rattle.lg_session.specs.Legal.{IsLegal, run_of}
 use Rattle.lg_run.specs.Documents.{listings, outcome_text}
 use Rattle.lg_run.specs.Inputs.{RunGiven}
 use Rattle.lg_run.specs.Listers.{Lister}

@@ -2,7 +2,7 @@ use Rattle.std.proofs.Common.{length, arith, ap, sym}
 use Rattle.std.proofs.lemmas.Result.{IfOk-weaker}
 use Rattle.lg_edit.specs.Edits.{edit_view}
 use Rattle.lg_session.specs.Learning.{Known, Learns}
-use Rattle.lg_session.specs.Legal.{script_views}
+use Rattle.lg_script.specs.Commands.{script_views}
 use Rattle.lg_session.proofs.Learned.{learns_code, learns_more, one_longer, no_shorter, still_fresh, up_more, refused_so}
 use Rattle.lg_session.proofs.edits.publish.Goals as goal
 

@@ -3,7 +3,7 @@ use Rattle.std.specs.List.{list_all}
 use Rattle.lg_log.specs.Codes.{is_code}
 use Rattle.lg_script.specs.EditNumbers.{edit_counts}
 use Rattle.lg_script.specs.Codes.{places_of}
-use Rattle.lg_session.specs.Legal.{script_views}
+use Rattle.lg_script.specs.Commands.{script_views}
 use Rattle.lg_session.proofs.journal.journal_of.Given as goal
 
 abbrev pub invariant-loop-code : goal.invariant-loop-code

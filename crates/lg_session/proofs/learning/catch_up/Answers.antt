@@ -1,6 +1,6 @@
 use Rattle.std.proofs.Common.{arith}
 use Rattle.lg_session.specs.Learning.{Known}
-use Rattle.lg_session.specs.Legal.{script_views}
+use Rattle.lg_script.specs.Commands.{script_views}
 use Rattle.lg_session.proofs.Learned.{learns_code, learns_more, one_longer}
 use Rattle.lg_session.proofs.learning.catch_up.Goals as goal
 

@@ -1,6 +1,6 @@
 use Rattle.std.proofs.Common.{◌+◌, ◌≤◌, ◌<◌, length, sum}
 use Rattle.lg_session.specs.Learning.{Learns}
-use Rattle.lg_session.specs.Legal.{script_views}
+use Rattle.lg_script.specs.Commands.{script_views}
 use Rattle.lg_session.proofs.learning.catch_up.Given as goal
 
 abbrev pub invariant-loop : goal.invariant-loop

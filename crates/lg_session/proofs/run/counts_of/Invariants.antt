@@ -1,6 +1,6 @@
 use Rattle.std.proofs.Common.{◌≡◌, ◌++◌, drop}
 use Rattle.lg_script.specs.EditNumbers.{edit_counts}
-use Rattle.lg_session.specs.Legal.{script_views}
+use Rattle.lg_script.specs.Commands.{script_views}
 use Rattle.lg_session.proofs.run.counts_of.Given as goal
 
 abbrev pub invariant-loop-commands : goal.invariant-loop-commands

@@ -4,7 +4,7 @@ use Rattle.lg_gram.specs.declared.reply.Reply.{Reply}
 use Rattle.lg_log.specs.Codes.{is_code}
 use Rattle.lg_script.specs.EditNumbers.{edit_counts}
 use Rattle.lg_script.specs.Codes.{places_of}
-use Rattle.lg_session.specs.Legal.{script_views}
+use Rattle.lg_script.specs.Commands.{script_views}
 use Rattle.lg_session.specs.Rows.{Ground, ground_of, HaveEnded}
 use Rattle.lg_session.proofs.Jobs.{a_pass_each, all_begin}
 use Rattle.lg_session.proofs.Whole.{all_answered, all_legal}

@@ -1,10 +1,9 @@
 use Rattle.std.proofs.Common.{List, length, refl, ap, sym, subst}
 use Rattle.std.proofs.lemmas.Result.{IfOk-weaker}
 use Rattle.lg_edit.specs.Edits.{edit_view}
-use Rattle.lg_script.specs.Commands.{CommandView, command_view, parses, lists, goes_on, makes, asks}
+use Rattle.lg_script.specs.Commands.{CommandView, command_view, parses, lists, goes_on, makes, asks, script_views}
 use Rattle.lg_session.specs.Answering.{IsUp, IsMade}
 use Rattle.lg_session.specs.Legal as legal
-use Rattle.lg_session.specs.Legal.{script_views}
 use Rattle.lg_session.specs.Turns.{place_in}
 use Rattle.lg_session.proofs.Answered.{at_version}
 use Rattle.lg_session.proofs.Counted.{stands_in, at_once, after_look, is_made}

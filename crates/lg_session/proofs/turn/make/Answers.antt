@@ -1,6 +1,6 @@
 use Rattle.std.proofs.Common.{arith, ap}
 use Rattle.lg_gram.specs.declared.reply.Place.{Place}
-use Rattle.lg_session.specs.Legal.{script_views}
+use Rattle.lg_script.specs.Commands.{script_views}
 use Rattle.lg_session.proofs.Elsewhere.{fresh_by_place}
 use Rattle.lg_session.proofs.turn.make.Goals as goal
 

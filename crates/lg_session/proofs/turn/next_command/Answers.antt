@@ -1,8 +1,7 @@
 use Rattle.std.proofs.Common.{◌≡◌, ◌+◌, List, Some, map, slice_get, ap, sym, ◌∙◌, refl}
-use Rattle.lg_script.specs.Commands.{CommandView, command_view}
+use Rattle.lg_script.specs.Commands.{CommandView, command_view, script_views}
 use Rattle.lg_script.specs.Histories.{command_at}
-use Rattle.lg_session.specs.Legal.{script_views}
-use Rattle.lg_session.proofs.Named.{at_place, commands_read, some_of, place_in_items, read_command, in_bounds}
+use Rattle.lg_session.proofs.Named.{at_place, commands_read, some_of, place_in_items, read_command}
 use Rattle.lg_session.proofs.turn.next_command.Goals as goal
 
 -- what stands at the place
@@ -26,4 +25,4 @@ pub returns-clause-command : goal.returns-clause-command
 returns-clause-command c = stands c
 
 pub returns-clause-bounds : goal.returns-clause-bounds
-returns-clause-bounds c = in_bounds (script_views c.args.scripts.now) _ _ c.requires.scripts.each (stands c)
+returns-clause-bounds c = c.place_laws.ensures.bounds (script_views c.args.scripts.now) c.requires.scripts _ _ (stands c)

@@ -1,5 +1,5 @@
 use Rattle.std.proofs.Common.{◌+◌, ◌<◌, ◌^◌, None, refl, arith}
-use Rattle.lg_session.specs.Legal.{script_views}
+use Rattle.lg_script.specs.Commands.{script_views}
 use Rattle.lg_session.specs.Turns.{Story}
 use Rattle.lg_session.proofs.Named.{place_fits}
 use Rattle.lg_session.proofs.Counted.{is_at}
