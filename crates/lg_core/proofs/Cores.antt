@@ -1,11 +1,10 @@
 -- States from which steps can be made stay such.
-use Rattle.std.proofs.Common.{◌≡◌, ℕ, zero, suc, ◌+◌, ◌≤◌, ◌<◌, ◌⊎◌, inl, inr, ⊎_elim, List, [], ◌∷◌, ◌++◌, length, replicate, Option, Some, None, IfSome, Result, Ok, Err, IfOk, OnOk, slice_get, slice_set, slice_index_or, refl, ap, sym, subst, ◌∙◌, arith, length-append}
+use Rattle.std.proofs.Common.{◌≡◌, ℕ, zero, suc, ◌+◌, ◌≤◌, ◌<◌, ◌⊎◌, inl, inr, ⊎_elim, List, [], ◌∷◌, ◌++◌, length, replicate, Option, Some, None, IfSome, Result, Ok, Err, IfOk, OnOk, slice_get, slice_set, refl, ap, sym, subst, ◌∙◌, arith, length-append}
 use Rattle.std.proofs.lemmas.List.{length-map, length-replicate, length-set, map-append}
 use Rattle.std.proofs.lemmas.Option.{none-some, same_Some, slice_get_within}
 use Rattle.lg_gram.specs.declared.reply.Place.{Place}
 use Rattle.lg_dict.specs.Dictionary.{Dictionary}
 use Rattle.lg_edit.specs.Edits.{EditView, accept}
-use Rattle.lg_log.specs.Codes.{EditsHaveCodes}
 use Rattle.lg_script.specs.Commands.{CommandView, goes_on, makes}
 use Rattle.lg_script.specs.Histories.{command_at, version_of}
 use Rattle.lg_core.specs.declared.event.Event.{Event}
@@ -16,10 +15,10 @@ use Rattle.lg_core.specs.declared.note.NoteKind.TheVariants.{Published}
 use Rattle.lg_core.specs.declared.state.Actor.{Actor}
 use Rattle.lg_core.specs.declared.state.Core.{Core}
 use Rattle.lg_core.specs.declared.state.Hold.{Hold}
-use Rattle.lg_script.specs.Codes.{place_of, places_of, AreScripts}
+use Rattle.lg_script.specs.Codes.{commands_of, place_of, places_of, AreScripts, EditsHavePlaces}
 use Rattle.lg_core.specs.Core as happens
-use Rattle.lg_core.specs.Core.{journal_of, newcomer, start_of, ended, published, next_place, next_code, note_of, IsNext, IsNextAtEnd, Happens, IsStep, IsActor, IsAccepted, AreActors, IsCore}
-use Rattle.lg_core.proofs.Places.{asked, next_names}
+use Rattle.lg_core.specs.Core.{journal_of, newcomer, start_of, ended, published, next_code, note_of, IsNext, IsNextAtEnd, Happens, IsStep, IsActor, IsAccepted, IsCore}
+use Rattle.lg_core.proofs.NextCommand.{asked}
 use Rattle.lg_core.proofs.Legal.{actors_set, version_more}
 
 -- ---- the start
@@ -38,8 +37,8 @@ starts scripts base sessions same = record {
 
 -- ---- a session has a command left
 
-pub within : (scripts : List (List CommandView)) (core : Core) (s : ℕ) (a : Actor) (command : CommandView) → IsNext scripts core s a command → a.place < length (slice_index_or scripts s [])
-within scripts core s a command next = slice_get_within (slice_index_or scripts s []) a.place command (asked scripts s a.place command next.asks_for).1
+pub within : (scripts : List (List CommandView)) (core : Core) (s : ℕ) (a : Actor) (command : CommandView) → IsNext scripts core s a command → a.place < length (commands_of scripts s)
+within scripts core s a command next = slice_get_within (commands_of scripts s) a.place command (asked scripts s a.place command next.asks_for).1
 
 -- its place and its session are numbers of 32 bits
 pub small_place : (scripts : List (List CommandView)) (core : Core) (s : ℕ) (a : Actor) (command : CommandView) → AreScripts scripts → IsNext scripts core s a command → a.place + 1 < 4294967296
@@ -89,12 +88,12 @@ module _ (scripts : List (List CommandView)) (base : Dictionary) (core : Core) (
   sees_one : (command : CommandView) → IsNext scripts core s a command → a.seen < length core.history → IsCore scripts base (happens.with_actor core s (record a { seen = a.seen + 1 }))
   sees_one command next less = let old = is.actors s a next.stands in same_history (record a { seen = a.seen + 1 }) (record { place = old.place; seen = omega (arith, less); mores = old.mores })
 
-  pub_more : EditsHaveCodes → AreScripts scripts → (edit : EditView) → IsNextAtEnd scripts core s a (makes edit) → accept (version_of scripts base (journal_of scripts core) a.seen) edit ≡ None
+  pub_more : EditsHavePlaces → AreScripts scripts → (edit : EditView) → IsNextAtEnd scripts core s a (makes edit) → accept (version_of scripts base (journal_of scripts core) a.seen) edit ≡ None
       → IsCore scripts base (published core s a (next_code scripts s a))
   pub_more have good edit end accepted =
       let code : ℕ = next_code scripts s a in
       let old = is.actors s a end.next.stands in
-      let names = next_names have scripts good s a (makes edit) end.next.asks_for refl in
+      let names = have scripts good s a.place edit end.next.asks_for in
       let long : length (core.history ++ code ∷ []) ≡ length core.history + 1 = length-append core.history (code ∷ []) in
       let journal : List Place = journal_of scripts core in
       let same_long : length journal ≡ length core.history = length-map core.history (place_of scripts) in
@@ -108,10 +107,10 @@ module _ (scripts : List (List CommandView)) (base : Dictionary) (core : Core) (
       record { is_one = was.is_one; edit = was.edit; names = was.names; accepted = stays version was.edit (omega (arith, h.0)) was.accepted })
       (λ (h : (version ≡ length core.history) × (code ≡ c)). subst (λ (z : ℕ × ℕ). IsAccepted scripts base (record { history = core.history ++ code ∷ []; actors = core.actors }) z.0 z.1)
       (λ i. ((end.has_seen_all ∙ sym h.0) i, h.1 i))
-      (record { is_one = names.is_one; edit = edit; names = ap (command_at scripts) names.place ∙ end.next.asks_for; accepted = stays a.seen edit (omega (arith, end.has_seen_all)) accepted }))
+      (record { is_one = names.0; edit = edit; names = ap (command_at scripts) names.1 ∙ end.next.asks_for; accepted = stays a.seen edit (omega (arith, end.has_seen_all)) accepted }))
       (got_push core.history code version c at))
 
-module _ (have : EditsHaveCodes) (scripts : List (List CommandView)) (base : Dictionary) (good : AreScripts scripts) (core : Core) (is : IsCore scripts base core) where
+module _ (have : EditsHavePlaces) (scripts : List (List CommandView)) (base : Dictionary) (good : AreScripts scripts) (core : Core) (is : IsCore scripts base core) where
   stays_core : (event : Event) (then : Core) (told : Option Note) → Happens scripts base core event then told → IsCore scripts base then
   stays_core _ _ _ (happens.learns s a command next less) = sees_one scripts base core is s a command next less
   stays_core _ _ _ (happens.passes_over s a edit end accepted) = is

@@ -6,7 +6,7 @@ use Rattle.std.proofs.lemmas.List.Elements.{All-nil, All-cons}
 use Rattle.lg_gram.specs.declared.reply.Place.{Place}
 use Rattle.lg_dict.specs.Dictionary.{Dictionary}
 use Rattle.lg_edit.specs.Edits.{EditView, accept}
-use Rattle.lg_log.specs.Codes.{is_code, EditsHaveCodes}
+use Rattle.lg_log.specs.Codes.{is_code}
 use Rattle.lg_script.specs.Commands.{CommandView, goes_on, makes, asks}
 use Rattle.lg_script.specs.EditNumbers.{edit_counts}
 use Rattle.lg_script.specs.Histories.{numbered, version_of}
@@ -17,17 +17,16 @@ use Rattle.lg_core.specs.declared.note.NoteKind.TheVariants.{Listed, Beyond, Pag
 use Rattle.lg_core.specs.declared.state.Actor.{Actor}
 use Rattle.lg_core.specs.declared.state.Core.{Core}
 use Rattle.lg_core.specs.declared.state.Hold.{Hold}
-use Rattle.lg_script.specs.Codes.{place_of, places_of, AreScripts}
+use Rattle.lg_script.specs.Codes.{place_of, places_of, AreScripts, EditsHavePlaces}
 use Rattle.lg_core.specs.Core as core
-use Rattle.lg_core.specs.Core.{journal_of, newcomer, start_of, ended, published, next_place, next_code, note_of, IsNext, IsNextAtEnd, Happens}
+use Rattle.lg_core.specs.Core.{journal_of, start_of, ended, published, next_place, next_code, note_of, IsNext, IsNextAtEnd, Happens}
 use Rattle.lg_core.specs.Lawful as law
-use Rattle.lg_core.specs.Lawful.{notes_of, noted, is_published, is_listing, is_paged, is_fresh, rises, Leaves, Says, IsLegalCore, Runs, EveryRunIsLegal}
+use Rattle.lg_core.specs.Lawful.{notes_of, noted, is_published, is_listing, is_paged, is_fresh, Leaves, Says, Runs, EveryRunIsLegal}
 use Rattle.lg_core.proofs.Cores.{at_start}
-use Rattle.lg_core.proofs.Places.{next_names}
 use Rattle.lg_core.proofs.Notes.{all_at, Holds, holds_same, holds_page, holds_new, holds_none, holds_at_start, rises_from}
 use Rattle.lg_core.proofs.Legal.{IsReached, HasCome, sees, noted_more, version_more, numbered_push}
 
-module _ (have : EditsHaveCodes) (scripts : List (List CommandView)) (base : Dictionary) (good : AreScripts scripts) where
+module _ (have : EditsHavePlaces) (scripts : List (List CommandView)) (base : Dictionary) (good : AreScripts scripts) where
   -- nothing new is published by a note of another kind
   none_published : (t : ℕ) (n : Note) → is_published n.kind ≡ false → [] ≡ map noted (filter (λ m. is_published m.kind) (notes_of t (n ∷ [])))
   none_published t n plain = go (n.session == t)
@@ -75,16 +74,16 @@ module _ (have : EditsHaveCodes) (scripts : List (List CommandView)) (base : Dic
     publishes edit end accepted =
         let come = reached.actors s a end.next.stands in
         let code : ℕ = next_code scripts s a in
-        let names = next_names have scripts good s a (makes edit) end.next.asks_for refl in
+        let names = have scripts good s a.place edit end.next.asks_for in
         let long : length (state.history ++ code ∷ []) ≡ length state.history + 1 = length-append state.history (code ∷ []) in
         let p : Place = next_place s a in
         let journal : List Place = journal_of scripts state in
         let same_length : length journal ≡ length state.history = length-map state.history (place_of scripts) in
-        let longer : places_of scripts (state.history ++ code ∷ []) ≡ journal ++ p ∷ [] = map-append (place_of scripts) state.history (code ∷ []) ∙ ap (λ (q : Place). journal ++ q ∷ []) names.place in
+        let longer : places_of scripts (state.history ++ code ∷ []) ≡ journal ++ p ∷ [] = map-append (place_of scripts) state.history (code ∷ []) ∙ ap (λ (q : Place). journal ++ q ∷ []) names.1 in
         noted_more scripts base state notes reached s a end.next.stands (state.history ++ code ∷ []) (code ∷ []) refl (a.seen + 1) Published (makes edit) (record a { place = a.place + 1; seen = a.seen + 1 })
         (record {
-          codes = All-cons (λ c. is_code (edit_counts scripts) c ≡ true) code [] names.is_one (All-nil (λ c. is_code (edit_counts scripts) c ≡ true));
-          published = λ t. one_published t (note_of s a (a.seen + 1) Published) (place_of scripts code) names.place refl;
+          codes = All-cons (λ c. is_code (edit_counts scripts) c ≡ true) code [] names.0 (All-nil (λ c. is_code (edit_counts scripts) c ≡ true));
+          published = λ t. one_published t (note_of s a (a.seen + 1) Published) (place_of scripts code) names.1 refl;
           rise = λ is old le. omega arith;
           there = omega (arith, long, end.has_seen_all);
           stands = end.next.asks_for;
@@ -150,5 +149,5 @@ module _ (have : EditsHaveCodes) (scripts : List (List CommandView)) (base : Dic
   reached_by _ _ law.start = none_yet (length scripts)
   reached_by _ _ (law.step state then notes event note run happens) = keeps state then notes event note (reached_by state notes run) happens
 
-pub every_run : EditsHaveCodes → EveryRunIsLegal
+pub every_run : EditsHavePlaces → EveryRunIsLegal
 every_run have scripts base good state notes run = (reached_by have scripts base good state notes run).legal

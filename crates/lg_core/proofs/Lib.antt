@@ -1,4 +1,3 @@
-pub mod Places
 pub mod Notes
 pub mod Legal
 pub mod EveryRun

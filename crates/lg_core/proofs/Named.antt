@@ -1,57 +1,25 @@
 -- The edit that a code of the history names, and the dictionary after it.
-use Rattle.std.proofs.Common.{◌≡◌, ℕ, zero, suc, ◌+◌, ◌<◌, List, [], ◌∷◌, ◌++◌, length, map, take, get_or, All, Option, Some, None, slice_get, slice_index, slice_index_or, count_by, refl, ap, sym, subst, ◌∙◌, arith, add-one}
+use Rattle.std.proofs.Common.{◌≡◌, ℕ, ◌+◌, ◌<◌, List, [], ◌∷◌, ◌++◌, length, map, take, get_or, Some, None, slice_get, count_by, refl, ap, sym, subst, ◌∙◌, arith}
 use Rattle.std.specs.Option.{option_map}
 use Rattle.std.proofs.lemmas.List.{take_more, length-map}
-use Rattle.std.proofs.lemmas.Option.{none-some, same_Some, get_or_from_slice_get, slice_get_within, slice_get-map, slice_get-get_or}
+use Rattle.std.proofs.lemmas.Option.{same_Some, get_or_from_slice_get, slice_get_within, slice_get-map, slice_get-get_or}
 use Rattle.lg_gram.specs.declared.reply.Place.{Place}
 use Rattle.lg_dict.specs.Dictionary.{Dictionary}
 use Rattle.lg_edit.specs.Edits.{EditView, accept, after_edit}
-use Rattle.lg_log.specs.Codes.{code_of, code_session, code_index}
+use Rattle.lg_log.specs.Codes.{code_of}
 use Rattle.lg_script.specs.declared.command.Command.{Command}
-use Rattle.lg_script.specs.Bounds.{IsInBounds, AreInBounds}
-use Rattle.lg_script.specs.Commands.{CommandView, command_view, is_edit, makes}
-use Rattle.lg_script.specs.EditNumbers.{edit_numbers, edit_counts}
-use Rattle.lg_script.specs.Histories.{numbered, command_in, command_at, after_command, dictionary_after, version_of}
+use Rattle.lg_script.specs.Commands.{CommandView, command_view, is_edit, makes, script_views}
+use Rattle.lg_script.specs.Histories.{command_at, after_command, dictionary_after, version_of}
 use Rattle.lg_core.specs.declared.state.Actor.{Actor}
 use Rattle.lg_core.specs.declared.state.Core.{Core}
-use Rattle.lg_script.specs.Codes.{place_of, AreScripts}
-use Rattle.lg_core.specs.Core.{views_of, journal_of, next_code, IsNext, IsAccepted}
-use Rattle.lg_core.proofs.NextCommand.{item_at}
+use Rattle.lg_script.specs.Codes.{commands_of, place_of}
+use Rattle.lg_core.specs.Core.{journal_of, next_code, IsNext, IsAccepted}
+use Rattle.lg_core.proofs.NextCommand.{item_at, asked}
 use Rattle.lg_core.proofs.Outcomes.{same_edit}
-use Rattle.lg_core.proofs.Places.{counts_at, asked}
 
 -- the views of the script of a session
-pub view_at : (scripts : List (List Command)) (s : ℕ) (commands : List Command) → slice_get scripts s ≡ Some commands → slice_get (views_of scripts) s ≡ Some (map command_view commands)
+pub view_at : (scripts : List (List Command)) (s : ℕ) (commands : List Command) → slice_get scripts s ≡ Some commands → slice_get (script_views scripts) s ≡ Some (map command_view commands)
 view_at scripts s commands is = slice_get-map (map command_view) scripts s ∙ ap (option_map (map command_view)) is
-
-pub edits_at : (scripts : List (List Command)) (s : ℕ) (commands : List Command) → slice_get scripts s ≡ Some commands → slice_index (edit_counts (views_of scripts)) s ≡ count_by is_edit (map command_view commands)
-edits_at scripts s commands is = counts_at (views_of scripts) s ∙ ap (count_by is_edit) (get_or_from_slice_get (views_of scripts) s (map command_view commands) [] (view_at scripts s commands is))
-
-pub named : (scripts : List (List Command)) (code : ℕ) (commands : List Command) (number : ℕ) (command : CommandView) → slice_get scripts (code_session code) ≡ Some commands
-    → Some number ≡ slice_get (edit_numbers (map command_view commands)) (code_index code) → numbered (map command_view commands) number ≡ Some command
-    → command_at (views_of scripts) (place_of (views_of scripts) code) ≡ Some command
-named scripts code commands number command script at is =
-    let view = view_at scripts (code_session code) commands script in
-    let here : slice_index_or (views_of scripts) (code_session code) [] ≡ map command_view commands = get_or_from_slice_get (views_of scripts) (code_session code) (map command_view commands) [] view in
-    let n : slice_index_or (edit_numbers (map command_view commands)) (code_index code) 0 ≡ number = get_or_from_slice_get (edit_numbers (map command_view commands)) (code_index code) number 0 (sym at) in
-    let place : place_of (views_of scripts) code ≡ record { session = code_session code + 1; command = number } = ap (λ (k : ℕ). record { session = code_session code + 1; command = k }) (ap (λ (l : List CommandView). slice_index_or (edit_numbers l) (code_index code) 0) here ∙ n) in
-    ap (command_at (views_of scripts)) place ∙ there (views_of scripts) (code_session code) (map command_view commands) number view ∙ is
-  where
-    there : (views : List (List CommandView)) (s : ℕ) (commands : List CommandView) (number : ℕ) → slice_get views s ≡ Some commands → command_at views (record { session = s + 1; command = number }) ≡ numbered commands number
-    there views s commands number is = rw add-one (ap (λ o. command_in o number) is)
-
--- ---- edits of scripts within their bounds
-
-numbered_all : {A : Type 0} (P : A → Type 0) (xs : List A) (n : ℕ) (x : A) → numbered xs n ≡ Some x → All P xs → P x
-numbered_all P xs zero x is all = absurd (none-some x is)
-numbered_all P xs (suc n) x is all = subst P (get_or_from_slice_get xs n x x is) (all n x (slice_get_within xs n x is))
-
-commanded_all : (scripts : List (List CommandView)) (p : Place) (command : CommandView) → All AreInBounds scripts → (o : Option (List CommandView)) → numbered scripts p.session ≡ o → command_in o p.command ≡ Some command → IsInBounds command
-commanded_all scripts p command all None is in_ = absurd (none-some command in_)
-commanded_all scripts p command all (Some commands) is in_ = numbered_all IsInBounds commands p.command command in_ (numbered_all AreInBounds scripts p.session commands is all).each
-
-pub in_bounds : (scripts : List (List CommandView)) (p : Place) (command : CommandView) → AreScripts scripts → command_at scripts p ≡ Some command → IsInBounds command
-in_bounds scripts p command good is = commanded_all scripts p command good.each (numbered scripts p.session) refl is
 
 -- ---- one version more
 
@@ -79,24 +47,17 @@ module _ (scripts : List (List CommandView)) (base : Dictionary) (core : Core) (
 
 -- ---- what is read of the scripts and of the history
 
-pub script_at : (scripts seen : List (List Command)) (s code : ℕ) (commands : List Command) → seen ≡ scripts → s ≡ code_session code → code_session code < length (edit_counts (views_of scripts)) → commands ≡ get_or seen s commands
-    → slice_get scripts (code_session code) ≡ Some commands
-script_at scripts seen s code commands same session less is =
-    let long : length (edit_counts (views_of scripts)) ≡ length scripts = length-map (views_of scripts) (count_by is_edit) ∙ length-map scripts (map command_view) in
-    let seen_long : length seen ≡ length scripts = ap length same in
-    subst (λ (k : ℕ). slice_get scripts k ≡ Some commands) session (item_at scripts seen s commands same (omega (arith, less, long, seen_long, session)) is)
-
 pub code_at : (history items : List ℕ) (n : ℕ) → items ≡ history → n < length items → slice_get history n ≡ Some (get_or items n 0)
 code_at history items n same less = subst (λ (l : List ℕ). slice_get l n ≡ Some (get_or items n 0)) same (slice_get-get_or items n 0 less)
 
 -- ---- the code of the next command
 
-pub session_there : (scripts : List (List Command)) (core : Core) (s : ℕ) (a : Actor) (command : CommandView) → IsNext (views_of scripts) core s a command → s < length scripts
-session_there scripts core s a command next = omega (arith, (asked (views_of scripts) s a.place command next.asks_for).0, length-map scripts (map command_view))
+pub session_there : (scripts : List (List Command)) (core : Core) (s : ℕ) (a : Actor) (command : CommandView) → IsNext (script_views scripts) core s a command → s < length scripts
+session_there scripts core s a command next = omega (arith, (asked (script_views scripts) s a.place command next.asks_for).0, length-map scripts (map command_view))
 
 pub code_is : (scripts seen : List (List Command)) (s : ℕ) (a : Actor) (commands : List Command) (index code : ℕ) → seen ≡ scripts → s < length scripts → commands ≡ get_or seen s commands
-    → index ≡ count_by is_edit (take a.place (map command_view commands)) → code ≡ code_of s index → code ≡ next_code (views_of scripts) s a
+    → index ≡ count_by is_edit (take a.place (map command_view commands)) → code ≡ code_of s index → code ≡ next_code (script_views scripts) s a
 code_is scripts seen s a commands index code same less is counted coded =
     let script : slice_get scripts s ≡ Some commands = item_at scripts seen s commands same (subst (λ (l : List (List Command)). s < length l) (sym same) less) is in
-    let view : slice_index_or (views_of scripts) s [] ≡ map command_view commands = get_or_from_slice_get (views_of scripts) s (map command_view commands) [] (view_at scripts s commands script) in
+    let view : commands_of (script_views scripts) s ≡ map command_view commands = get_or_from_slice_get (script_views scripts) s (map command_view commands) [] (view_at scripts s commands script) in
     coded ∙ ap (code_of s) (counted ∙ sym (ap (λ (l : List CommandView). count_by is_edit (take a.place l)) view))

@@ -1,15 +1,14 @@
 -- The core of the sessions: its states, and what happens in one step.
-use Rattle.std.specs.Prelude.{◌≡◌, ℕ, ◌+◌, ◌<◌, ◌≤◌, true, List, [], ◌∷◌, ◌++◌, length, map, take, replicate, count_by, slice_get, slice_set, slice_index_or, Option, Some, None, IfSome}
+use Rattle.std.specs.Prelude.{◌≡◌, ℕ, ◌+◌, ◌<◌, ◌≤◌, true, List, [], ◌∷◌, ◌++◌, length, replicate, slice_get, slice_set, Option, Some, None, IfSome}
 use Rattle.lg_gram.specs.declared.edit.EditRefusal.{EditRefusal}
 use Rattle.lg_gram.specs.declared.listing.Bound.{Bound}
 use Rattle.lg_gram.specs.declared.listing.Token.{Token}
 use Rattle.lg_gram.specs.declared.reply.Place.{Place}
 use Rattle.lg_dict.specs.Dictionary.{Dictionary}
 use Rattle.lg_edit.specs.Edits.{EditView, accept}
-use Rattle.lg_log.specs.Codes.{code_of, is_code}
+use Rattle.lg_log.specs.Codes.{is_code}
 use Rattle.lg_token.specs.Bounds.{AreListed, IsBeyond}
-use Rattle.lg_script.specs.declared.command.Command.{Command}
-use Rattle.lg_script.specs.Commands.{CommandView, command_view, parses, lists, goes_on, makes, asks, is_edit}
+use Rattle.lg_script.specs.Commands.{CommandView, parses, lists, goes_on, makes, asks}
 use Rattle.lg_script.specs.EditNumbers.{edit_counts}
 use Rattle.lg_script.specs.Histories.{command_at, version_of}
 use Rattle.lg_core.specs.declared.event.Event.{Event}
@@ -22,13 +21,9 @@ use Rattle.lg_core.specs.declared.note.NoteKind.TheVariants.{Listed, Beyond, Pag
 use Rattle.lg_core.specs.declared.state.Actor.{Actor}
 use Rattle.lg_core.specs.declared.state.Core.{Core}
 use Rattle.lg_core.specs.declared.state.Hold.{Hold}
-use Rattle.lg_script.specs.Codes.{place_of, places_of}
+use Rattle.lg_script.specs.Codes.{commands_of, code_after, place_of, places_of}
 
 -- ---- states
-
--- the scripts as contracts see them
-abbrev pub views_of : List (List Command) → List (List CommandView)
-views_of scripts = map (map command_view) scripts
 
 -- the edits of the history, by their places
 abbrev pub journal_of : List (List CommandView) → Core → List Place
@@ -51,9 +46,9 @@ with_actor core session actor = record core { actors = slice_set core.actors ses
 abbrev pub next_place : ℕ → Actor → Place
 next_place session actor = record { session = session + 1; command = actor.place + 1 }
 
--- its code, if it is an edit: the edits of the session before it are counted
+-- its code, if it is an edit
 abbrev pub next_code : List (List CommandView) → ℕ → Actor → ℕ
-next_code scripts session actor = code_of session (count_by is_edit (take actor.place (slice_index_or scripts session [])))
+next_code scripts session actor = code_after scripts session actor.place
 
 -- its note
 abbrev pub note_of : ℕ → Actor → ℕ → NoteKind → Note
@@ -134,7 +129,7 @@ IsStep scripts base core event then NotEnabled = (then ≡ core) × ((other : Co
 
 -- an actor is not past its script, nor past the history, and has gone on with its listing by commands that have ended
 pub record IsActor (scripts : List (List CommandView)) (core : Core) (session : ℕ) (actor : Actor) : Type 0 where
-  pub place : actor.place ≤ length (slice_index_or scripts session [])
+  pub place : actor.place ≤ length (commands_of scripts session)
   pub seen : actor.seen ≤ length core.history
   pub mores : IfSome actor.held (λ hold. hold.mores ≤ actor.place)
 

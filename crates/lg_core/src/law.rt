@@ -2,7 +2,7 @@
 ghost use Rattle.lg_core.specs.Core.{StepsAreDetermined};
 ghost use Rattle.lg_core.specs.Lawful.{EveryRunIsLegal};
 
-use lg_log::code_laws;
+use lg_script::place_laws;
 use lg_token::tokens_are_one_list;
 
 /// Whatever steps are made, in whatever order: the history and the notes that come of them are legal. Each published edit was accepted by the
@@ -12,7 +12,7 @@ use lg_token::tokens_are_one_list;
 pub fn every_run_is_legal()
     ensures { EveryRunIsLegal }
 {
-    code_laws();
+    place_laws();
 }
 
 /// What comes of a step is determined.

@@ -2,9 +2,9 @@
 ghost use Rattle.std.specs.Prelude.{◌≡◌, Option, IfOk};
 ghost use Rattle.lg_gram.specs.declared.listing.Bound.{Bound as SeenBound};
 ghost use Rattle.lg_script.specs.Bounds.{IsSentence, IsInBounds};
-ghost use Rattle.lg_script.specs.Commands.{command_view};
+ghost use Rattle.lg_script.specs.Commands.{command_view, script_views};
 ghost use Rattle.lg_script.specs.Codes.{AreScripts};
-ghost use Rattle.lg_core.specs.Core.{views_of, IsCore};
+ghost use Rattle.lg_core.specs.Core.{IsCore};
 ghost use Rattle.lg_core.specs.Steps.{HasBound, kind_by, LooksSo, newest_of};
 
 use crate::edits::newest;
@@ -36,10 +36,10 @@ pub(crate) fn look_at_end(
     core: &Core,
     command: &Command,
 ) -> Result<Looked, NoMemory>
-    requires scripts { AreScripts (views_of scripts.now) }
-    requires core { IsCore (views_of scripts.now) base.now core.now }
+    requires scripts { AreScripts (script_views scripts.now) }
+    requires core { IsCore (script_views scripts.now) base.now core.now }
     requires command { IsInBounds (command_view command.now) }
-    ensures { IfOk result (LooksSo (newest_of (views_of scripts.now) base.now core.now) (command_view command.now)) }
+    ensures { IfOk result (LooksSo (newest_of (script_views scripts.now) base.now core.now) (command_view command.now)) }
 {
     let view = newest(alloc, base, scripts, core)?;
     look_at(alloc, &view, command)

@@ -1,7 +1,7 @@
 //! The next command of a session.
 ghost use Rattle.std.specs.Prelude.{MatchOption};
-ghost use Rattle.lg_script.specs.Commands.{command_view};
-ghost use Rattle.lg_core.specs.Core.{views_of, IsNext, IsNextAtEnd};
+ghost use Rattle.lg_script.specs.Commands.{command_view, script_views};
+ghost use Rattle.lg_core.specs.Core.{IsNext, IsNextAtEnd};
 ghost use Rattle.lg_core.specs.Steps.{HasNoNext, IsNotAtEnd};
 
 use crate::state::{Actor, Core};
@@ -13,7 +13,7 @@ pub(crate) fn next<'a>(
     core: &Core,
     session: u32,
 ) -> Option<(Actor, &'a Command)>
-    ensures { MatchOption result (HasNoNext (views_of scripts.now) core.now session) (λ r. IsNext (views_of scripts.now) core.now session r.0 (command_view r.1.now)) }
+    ensures { MatchOption result (HasNoNext (script_views scripts.now) core.now session) (λ r. IsNext (script_views scripts.now) core.now session r.0 (command_view r.1.now)) }
 {
     let Some(actor) = core.actors.items().get(session as usize) else {
         return None;
@@ -33,7 +33,7 @@ pub(crate) fn next_at_end<'a>(
     core: &Core,
     session: u32,
 ) -> Option<(Actor, &'a Command)>
-    ensures { MatchOption result (IsNotAtEnd (views_of scripts.now) core.now session) (λ r. IsNextAtEnd (views_of scripts.now) core.now session r.0 (command_view r.1.now)) }
+    ensures { MatchOption result (IsNotAtEnd (script_views scripts.now) core.now session) (λ r. IsNextAtEnd (script_views scripts.now) core.now session r.0 (command_view r.1.now)) }
 {
     match next(scripts, core, session) {
         Some((actor, command)) if actor.seen == core.version() => Some((actor, command)),

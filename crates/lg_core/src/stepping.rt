@@ -2,7 +2,8 @@
 ghost use Rattle.std.specs.Prelude.{◌≡◌, ◌+◌, ◌<◌, ◌^◌, ◌++◌, [], ◌∷◌, length, IfOk, OnOk, OnErr};
 ghost use Rattle.lg_dict.specs.Dictionary.{Dictionary};
 ghost use Rattle.lg_script.specs.Codes.{AreScripts};
-ghost use Rattle.lg_core.specs.Core.{views_of, IsCore, AreActors, IsStep};
+ghost use Rattle.lg_script.specs.Commands.{script_views};
+ghost use Rattle.lg_core.specs.Core.{IsCore, AreActors, IsStep};
 ghost use Rattle.lg_core.specs.Steps.{held_after};
 ghost use Rattle.lg_core.specs.declared.event.Event.TheVariants.{Look, Learn, Publish, More};
 
@@ -13,8 +14,8 @@ use crate::note::NoteKind;
 use crate::state::{Actor, Core, Hold};
 use lg_base::{Codes, NoMemory};
 use lg_dict::Dict;
-use lg_log::{code, code_laws};
-use lg_script::{Command, Scripts};
+use lg_log::code;
+use lg_script::{Command, Scripts, place_laws};
 use std::alloc::Global;
 use std::mem;
 
@@ -30,13 +31,13 @@ pub fn step(
     core: &mut Core,
     event: Event,
 ) -> Result<Stepped, NoMemory>
-    requires scripts { AreScripts (views_of scripts.now) }
-    requires core { IsCore (views_of scripts.now) base.now core.old }
-    ensures done { IfOk result (IsStep (views_of scripts.now) base.now core.old event core.new) }
-    ensures kept { OnOk result (IsCore (views_of scripts.now) base.now core.new) }
+    requires scripts { AreScripts (script_views scripts.now) }
+    requires core { IsCore (script_views scripts.now) base.now core.old }
+    ensures done { IfOk result (IsStep (script_views scripts.now) base.now core.old event core.new) }
+    ensures kept { OnOk result (IsCore (script_views scripts.now) base.now core.new) }
     ensures unchanged { OnErr result (core.new ≡ core.old) }
 {
-    code_laws();
+    place_laws();
     match event {
         Event::Look(session) => look(alloc, base, scripts, core, session),
         Event::Learn(session) => Ok(learn(scripts, core, session)),
@@ -53,14 +54,15 @@ fn look(
     core: &mut Core,
     session: u32,
 ) -> Result<Stepped, NoMemory>
-    requires scripts { AreScripts (views_of scripts.now) }
-    requires core { IsCore (views_of scripts.now) base.now core.old }
-    ensures done { IfOk result (IsStep (views_of scripts.now) base.now core.old (Look session) core.new) }
+    requires scripts { AreScripts (script_views scripts.now) }
+    requires core { IsCore (script_views scripts.now) base.now core.old }
+    ensures done { IfOk result (IsStep (script_views scripts.now) base.now core.old (Look session) core.new) }
     ensures unchanged { OnErr result (core.new ≡ core.old) }
 {
     let Some((actor, command)) = next_at_end(scripts, core, session) else {
         return Ok(Stepped::NotEnabled);
     };
+    place_laws();
     match look_at_end(alloc, base, scripts, core, command)? {
         Looked::Waits => Ok(Stepped::NotEnabled),
         Looked::Accepted => Ok(Stepped::Done(None)),
@@ -90,7 +92,7 @@ fn held_after(actor: Actor, kind: NoteKind) -> Option<Hold>
 
 // A look that finds one code more.
 fn learn(scripts: &Scripts, core: &mut Core, session: u32) -> Stepped
-    ensures { (base : Dictionary) → IsStep (views_of scripts.now) base core.old (Learn session) core.new result }
+    ensures { (base : Dictionary) → IsStep (script_views scripts.now) base core.old (Learn session) core.new result }
 {
     let Some((actor, _)) = next(scripts, core, session) else {
         return Stepped::NotEnabled;
@@ -111,14 +113,15 @@ fn publish(
     core: &mut Core,
     session: u32,
 ) -> Result<Stepped, NoMemory>
-    requires scripts { AreScripts (views_of scripts.now) }
-    requires core { IsCore (views_of scripts.now) base.now core.old }
-    ensures done { IfOk result (IsStep (views_of scripts.now) base.now core.old (Publish session) core.new) }
+    requires scripts { AreScripts (script_views scripts.now) }
+    requires core { IsCore (script_views scripts.now) base.now core.old }
+    ensures done { IfOk result (IsStep (script_views scripts.now) base.now core.old (Publish session) core.new) }
     ensures unchanged { OnErr result (core.new ≡ core.old) }
 {
     let Some((actor, command)) = next_at_end(scripts, core, session) else {
         return Ok(Stepped::NotEnabled);
     };
+    place_laws();
     let Looked::Accepted = look_at_end(alloc, base, scripts, core, command)? else {
         return Ok(Stepped::NotEnabled);
     };
@@ -144,10 +147,10 @@ fn append(alloc: Global, history: &mut Codes, code: u64) -> Result<(), NoMemory>
 
 // Goes on with the listing that is held.
 fn more(scripts: &Scripts, core: &mut Core, session: u32) -> Stepped
-    requires scripts { AreScripts (views_of scripts.now) }
-    requires same_length { length core.old.actors ≡ length (views_of scripts.now) }
-    requires actors { AreActors (views_of scripts.now) core.old }
-    ensures { (base : Dictionary) → IsStep (views_of scripts.now) base core.old (More session) core.new result }
+    requires scripts { AreScripts (script_views scripts.now) }
+    requires same_length { length core.old.actors ≡ length (script_views scripts.now) }
+    requires actors { AreActors (script_views scripts.now) core.old }
+    ensures { (base : Dictionary) → IsStep (script_views scripts.now) base core.old (More session) core.new result }
 {
     let Some((actor, command)) = next(scripts, core, session) else {
         return Stepped::NotEnabled;
