@@ -229,21 +229,20 @@ fn broken_entries(alloc: Global) -> Result<Vec<Entry>, Fail>
 }
 
 // The link alone breaks the strict rule: this many candidates are listed.
-fn expect_listed(rt: HostRuntime, nulls: Nulls, count: u32) -> Result<(), Fail> {
-    let alloc = rt.alloc();
+fn expect_listed<R: Abort>(rt: &R, alloc: Global, nulls: Nulls, count: u32) -> Result<(), Fail> {
     let know = knowledge(alloc, true)?;
     let listing = started(alloc, broken_entries(alloc)?, "x run", nulls)?;
     let (_, page) = turned(alloc, listing, &know, 10)?;
-    expect_count(&rt, &page, count as usize, u64::from(count) + 1, true);
+    expect_count(rt, &page, count as usize, u64::from(count) + 1, true);
     Ok(())
 }
 
 #[test]
 fn all_decide(rt: HostRuntime) -> Result<(), Fail> {
-    expect_listed(rt, Nulls::First, 1)
+    expect_listed(&rt, rt.alloc(), Nulls::First, 1)
 }
 
 #[test]
 fn those_that_pass_decide(rt: HostRuntime) -> Result<(), Fail> {
-    expect_listed(rt, Nulls::Passing, 2)
+    expect_listed(&rt, rt.alloc(), Nulls::Passing, 2)
 }
