@@ -4,6 +4,8 @@
 #[cfg(test)]
 mod base;
 #[cfg(test)]
+mod diagram;
+#[cfg(test)]
 mod dictread;
 #[cfg(test)]
 mod expr;

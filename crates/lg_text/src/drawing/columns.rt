@@ -1,5 +1,5 @@
 //! The columns of a diagram.
-ghost use Rattle.std.specs.Prelude.{◌≡◌, ◌+◌, ◌<◌, suc, length, IfOk, zip};
+ghost use Rattle.std.specs.Prelude.{◌≡◌, ◌+◌, ◌<◌, length, IfOk};
 ghost use Rattle.lg_gram.specs.Rules.{IsMatched, HasLink, rights_of, lefts_of};
 ghost use Rattle.lg_text.specs.Diagrams.{width, cell, cells, next_start, room_for, starts_of, line_width};
 

@@ -1,5 +1,5 @@
 //! The heights of links.
-ghost use Rattle.std.specs.Prelude.{◌≡◌, ◌+◌, ◌<◌, ◌≤◌, ℕ, true, map, length, slice_index, IfOk};
+ghost use Rattle.std.specs.Prelude.{◌≡◌, ◌+◌, ◌<◌, ◌≤◌, map, length, IfOk};
 ghost use Rattle.std.specs.List.{All, filter};
 ghost use Rattle.lg_gram.specs.Linkages.{IsForward, link_length};
 ghost use Rattle.lg_text.specs.Diagrams.{height, is_inside, greatest};

@@ -1,5 +1,5 @@
 //! The lines of links of a diagram.
-ghost use Rattle.std.specs.Prelude.{◌≡◌, ◌∷◌, ◌++◌, ◌<◌, [], true, map, length, replicate, IfOk, OnOk, if◌then◌else◌, ◌==◌};
+ghost use Rattle.std.specs.Prelude.{◌≡◌, ◌∷◌, ◌++◌, [], true, map, length, replicate, IfOk, OnOk, if◌then◌else◌};
 ghost use Rattle.std.specs.List.{All, filter, list_any, range_with_len};
 ghost use Rattle.lg_gram.specs.Rules.{IsMatched, HasLink, rights_of, lefts_of};
 ghost use Rattle.lg_text.specs.Diagrams.{drawn_of, ends_at, spans, shows_at, first_shown, is_at, is_above, character_at, trimmed, link_line_at, link_lines, highest};
