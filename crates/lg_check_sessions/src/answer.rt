@@ -109,12 +109,7 @@ fn expect_count<R: Abort>(rt: &R, page: &Page, count: usize, next: u64, end: boo
 }
 
 // The listing of a sentence at its start.
-fn started(
-    alloc: Global,
-    entries: Vec<Entry>,
-    text: &str,
-    nulls: Nulls,
-) -> Result<Listing, Fail>
+fn started(alloc: Global, entries: Vec<Entry>, text: &str, nulls: Nulls) -> Result<Listing, Fail>
     requires entries { AreEntries entries.items }
     requires short { length text.now < 2 ^ 32 }
     ensures first { IfOk result (λ listing. listing.course.position ≡ 0) }
