@@ -43,7 +43,7 @@ module _ (know : Knowledge) (front : List Linkage) (from want examine : ℕ) whe
   looked_more items item g old new more_wanted more_examined =
       let within = old.within in
       let shown : map (λ (i : PageItem). (i.number, i.linkage)) (items ++ item ∷ []) ≡ enumerate_from (from + 1) (drop from front) ++ (from + length items + 1, g) ∷ [] =
-          map-append (λ (i : PageItem). (i.number, i.linkage)) items (item ∷ []) ∙ (λ j. old.numbered j ++ (new.number_is j, new.linkage j) ∷ []) in
+      map-append (λ (i : PageItem). (i.number, i.linkage)) items (item ∷ []) ∙ (λ j. old.numbered j ++ (new.number_is j, new.linkage j) ∷ []) in
       record {
         within = omega (arith, length_push items item, length_push front g);
         numbered = shown ∙ sym (numbers_more front from (length items) g within);
