@@ -81,7 +81,9 @@ fn second_word(item: &PageItem) -> Option<&[u8]> {
 }
 
 // Wants a page of one candidate, with this number and this second word.
-fn expect_one<R: Abort>(rt: &R, page: &Page, number: u32, word: &[u8]) {
+fn expect_one<R: Abort>(rt: &R, page: &Page, number: u32, word: &[u8])
+    ensures { page.now.next ≡ number + 1 }
+{
     let number = u64::from(number);
     assert!(rt; page.next == number + 1 && !page.end);
     match page.items.items() {
@@ -104,7 +106,9 @@ fn expect_first_broken<R: Abort>(rt: &R, page: &Page, broken: Violation) {
 }
 
 // Wants a page of this many candidates.
-fn expect_count<R: Abort>(rt: &R, page: &Page, count: usize, next: u64, end: bool) {
+fn expect_count<R: Abort>(rt: &R, page: &Page, count: usize, next: u64, end: bool)
+    ensures { page.now.next ≡ next }
+{
     assert!(rt; page.items.items().len() == count && page.next == next && page.end == end);
 }
 
