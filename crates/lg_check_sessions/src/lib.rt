@@ -1,4 +1,4 @@
-//! Tests of listings, of the log, of sessions and of whole runs: outside values, and calls that succeed.
+//! Tests of listings, of the log, of the core's steps, of sessions and of whole runs: outside values, and calls that succeed.
 #![tactic(auto)]
 
 #[cfg(test)]
@@ -11,3 +11,5 @@ mod meeting;
 mod run;
 #[cfg(test)]
 mod session;
+#[cfg(test)]
+mod steps;
