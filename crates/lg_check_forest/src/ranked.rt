@@ -1,4 +1,7 @@
 //! The ranked listing beside the slow lister and beside all linkages of a forest.
+ghost use Rattle.std.specs.Prelude.{ℕ};
+ghost use Rattle.lg_forest.specs.Forests.{IsForest};
+
 use crate::problems::{are_same, made, problem};
 use lg_base::Steps;
 use lg_forest::{Forest, solve, solve_at, spell_all};
@@ -11,7 +14,9 @@ use std::test::Fail;
 // More linkages than a problem of the tests has.
 const MOST: usize = 1_000_000;
 
-fn listed(alloc: Global, problem: Problem, forest: Forest) -> Result<Vec<Linkage>, Fail> {
+fn listed(alloc: Global, problem: Problem, forest: Forest) -> Result<Vec<Linkage>, Fail>
+    requires { (from : ℕ) × IsForest problem from forest }
+{
     let mut ranked = Ranked::new(alloc, problem, forest)?;
     let mut list = Vec::new(alloc);
     for _ in 0..MOST {
