@@ -119,10 +119,10 @@ trimmed line = take (length line - suffix_len (λ b. b == 32) line) line
 abbrev pub link_line_at : List Drawn → ℕ → ℕ → List ℕ
 link_line_at links columns h = trimmed (map (character_at links h) (range_with_len 0 columns))
 
--- the lines of links from height h down, each with a line feed
-abbrev pub link_lines : List Drawn → ℕ → ℕ → List ℕ
-link_lines links columns zero = []
-link_lines links columns (suc h) = link_line_at links columns (suc h) ++ 10 ∷ link_lines links columns h
+-- the lines of links from height h down, each behind a mark and with a line feed
+abbrev pub link_lines : List ℕ → List Drawn → ℕ → ℕ → List ℕ
+link_lines mark links columns zero = []
+link_lines mark links columns (suc h) = mark ++ (link_line_at links columns (suc h) ++ 10 ∷ link_lines mark links columns h)
 
 -- the cells, each at its start, with spaces between them; at is the column behind what stands before them
 abbrev pub cells_line : ℕ → List (List ℕ) → List ℕ → List ℕ
@@ -137,10 +137,14 @@ highest links = greatest (λ d. d.height) 0 links
 abbrev pub line_width : List ℕ → ℕ
 line_width starts = greatest suc 0 starts
 
--- The diagram of a linkage: a line for each height, the greatest first, and the line of words. Each line ends in a line feed.
-abbrev pub diagram_text : List Token → Linkage → List ℕ
-diagram_text tokens g =
+-- The diagram of a linkage, each line behind a mark: a line for each height, the greatest first, and the line of words. Each line ends in
+-- a line feed.
+abbrev pub marked_diagram : List ℕ → List Token → Linkage → List ℕ
+marked_diagram mark tokens g =
     let texts = cells tokens g in
     let starts = starts_of texts g (length texts) in
     let links = map (drawn_of g starts) g.links in
-    link_lines links (line_width starts) (highest links) ++ (cells_line 0 texts starts ++ 10 ∷ [])
+    link_lines mark links (line_width starts) (highest links) ++ (mark ++ (cells_line 0 texts starts ++ 10 ∷ []))
+
+abbrev pub diagram_text : List Token → Linkage → List ℕ
+diagram_text tokens g = marked_diagram [] tokens g

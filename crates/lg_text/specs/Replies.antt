@@ -9,7 +9,9 @@ use Rattle.lg_gram.specs.declared.reply.CommandKind.TheVariants as kinds
 use Rattle.lg_gram.specs.declared.reply.Place.{Place}
 use Rattle.lg_gram.specs.declared.reply.Reply.{Reply}
 use Rattle.lg_gram.specs.declared.reply.Reply.TheVariants.{Listed, Beyond, Published, Refused, At, NoListing}
-use Rattle.lg_text.specs.Texts.{IsPrintable, line_of, page_text, bound_pieces}
+use Rattle.lg_text.specs.Pages.{listing_text}
+use Rattle.lg_text.specs.Texts.{IsPrintable, line_of, bound_pieces}
+use Rattle.lg_text.specs.declared.look.Look.{Look}
 
 -- the word of a command
 abbrev pub kind_word : CommandKind → List ℕ
@@ -39,14 +41,14 @@ abbrev pub version_pieces : Place → CommandKind → ℕ → List (List ℕ)
 version_pieces place kind version = place_text place ∷ kind_word kind ∷ codes "version" ∷ decimal version ∷ []
 
 -- what a command of that place and kind was answered
-abbrev pub reply_text : Place → CommandKind → Reply → List ℕ
-reply_text place kind (Listed version tokens page stats) = line_of (version_pieces place kind version) ++ page_text tokens page
-reply_text place kind (Beyond version bound) = line_of (version_pieces place kind version ++ bound_pieces bound)
-reply_text place kind (Published version) = line_of (version_pieces place kind version)
-reply_text place kind (Refused version cause name) =
+abbrev pub reply_text : Look → Place → CommandKind → Reply → List ℕ
+reply_text look place kind (Listed version tokens page stats) = line_of (version_pieces place kind version) ++ listing_text look tokens page stats
+reply_text look place kind (Beyond version bound) = line_of (version_pieces place kind version ++ bound_pieces bound)
+reply_text look place kind (Published version) = line_of (version_pieces place kind version)
+reply_text look place kind (Refused version cause name) =
     line_of (place_text place ∷ kind_word kind ∷ codes "refused" ∷ codes "at" ∷ (decimal version ++ codes ":") ∷ cause_pieces cause name)
-reply_text place kind (At version) = line_of (place_text place ∷ kind_word kind ∷ decimal version ∷ [])
-reply_text place kind NoListing = line_of (place_text place ∷ kind_word kind ∷ codes "nothing" ∷ codes "held" ∷ [])
+reply_text look place kind (At version) = line_of (place_text place ∷ kind_word kind ∷ decimal version ∷ [])
+reply_text look place kind NoListing = line_of (place_text place ∷ kind_word kind ∷ codes "nothing" ∷ codes "held" ∷ [])
 
 -- an answer that a command of that kind can have
 abbrev pub IsAnswerTo : CommandKind → Reply → Type 0

@@ -10,6 +10,7 @@ use Rattle.lg_gram.specs.declared.reply.Place.{Place}
 use Rattle.lg_gram.specs.declared.reply.Reply.{Reply}
 use Rattle.lg_gram.specs.declared.reply.Reply.TheVariants.{Listed, Beyond, Published, Refused, At, NoListing}
 use Rattle.lg_text.specs.Replies.{reply_text, journal_text}
+use Rattle.lg_text.specs.declared.look.Look.{Look}
 
 -- ---- texts without a line feed
 
@@ -70,12 +71,12 @@ pub record Shown : Type 0 where
 abbrev pub shown_of : Answered → Shown
 shown_of a = record { place = a.place; kind = a.kind; version = shown_version a.reply }
 
-abbrev pub answer_text : Answered → List ℕ
-answer_text a = reply_text a.place a.kind a.reply
+abbrev pub answer_text : Look → Answered → List ℕ
+answer_text look a = reply_text look a.place a.kind a.reply
 
 -- a document: the texts of answers, and then the journal
-abbrev pub document_text : List Answered → List Place → List ℕ
-document_text answers journal = flat_map answer_text answers ++ journal_text journal
+abbrev pub document_text : Look → List Answered → List Place → List ℕ
+document_text look answers journal = flat_map (answer_text look) answers ++ journal_text journal
 
 -- ---- lines
 
@@ -95,7 +96,7 @@ pub record HasLines (words : List (List ℕ)) (text : List ℕ) : Type 0 where
 
 -- how the lines of a page and of the journal begin
 abbrev pub page_words : List (List ℕ)
-page_words = codes "linkage " ∷ codes "word " ∷ codes "link " ∷ codes "fail " ∷ codes "page " ∷ []
+page_words = codes "stats " ∷ codes "linkage " ∷ codes "word " ∷ codes "link " ∷ codes ">" ∷ codes "fail " ∷ codes "page " ∷ []
 
 abbrev pub journal_words : List (List ℕ)
 journal_words = codes "journal " ∷ codes "edit " ∷ codes "done" ∷ []
@@ -122,15 +123,15 @@ JournalsAreShown = (j k : List Place) → AllByRecursion IsPlace j → AllByRecu
 
 -- The first line of an answer begins with a digit, and no other line of it does; nor does a line of the journal.
 abbrev pub LinesAreApart : Type 0
-LinesAreApart = ((a : Answered) → IsPlain a → (head : List ℕ) × HasHead head (answer_text a)) × ((j : List Place) → HasLines journal_words (journal_text j))
+LinesAreApart = ((look : Look) (a : Answered) → IsPlain a → (head : List ℕ) × HasHead head (answer_text look a)) × ((j : List Place) → HasLines journal_words (journal_text j))
 
 -- The first line of an answer determines its place, its kind and its version.
 abbrev pub HeadsAreShown : Type 0
 HeadsAreShown =
-    (a b : Answered) → IsPlain a → IsPlain b → (head : List ℕ) → HasHead head (answer_text a) → HasHead head (answer_text b) → shown_of a ≡ shown_of b
+    (look other : Look) (a b : Answered) → IsPlain a → IsPlain b → (head : List ℕ) → HasHead head (answer_text look a) → HasHead head (answer_text other b) → shown_of a ≡ shown_of b
 
 -- A document determines the journal and, of each answer in order, its place, its kind and its version.
 abbrev pub DocumentsShow : Type 0
 DocumentsShow =
-    (one other : List Answered) (j k : List Place) → AllByRecursion IsPlain one → AllByRecursion IsPlain other → AllByRecursion IsPlace j → AllByRecursion IsPlace k
-    → document_text one j ≡ document_text other k → (map shown_of one ≡ map shown_of other) × (j ≡ k)
+    (look look' : Look) (one other : List Answered) (j k : List Place) → AllByRecursion IsPlain one → AllByRecursion IsPlain other → AllByRecursion IsPlace j → AllByRecursion IsPlace k
+    → document_text look one j ≡ document_text look' other k → (map shown_of one ≡ map shown_of other) × (j ≡ k)

@@ -1,7 +1,6 @@
--- What is printed of a linkage and of a page.
-use Rattle.std.specs.Prelude.{◌≡◌, ℕ, List, [], ◌∷◌, ◌++◌, length, map, codes, Option, Some, None, is_none, if◌then◌else◌}
-use Rattle.std.specs.List.{flat_map, enumerate_from, zip, join_with_byte, count_by}
-use Rattle.std.specs.Option.{option_map_or}
+-- What is printed of a linkage and of a bound.
+use Rattle.std.specs.Prelude.{◌≡◌, ℕ, List, [], ◌∷◌, ◌++◌, length, map, codes, Option, Some, None}
+use Rattle.std.specs.List.{flat_map, enumerate_from, zip, join_with_byte}
 use Rattle.std.specs.Fmt.{decimal}
 use Rattle.lg_base.specs.Costs.{cost_text}
 use Rattle.lg_gram.specs.Connectors.{Connector, connector_text}
@@ -12,9 +11,6 @@ use Rattle.lg_gram.specs.Rules.{Good}
 use Rattle.lg_gram.specs.declared.disjunct.Disjunct.{Disjunct}
 use Rattle.lg_gram.specs.declared.linkage.Link.{Link}
 use Rattle.lg_gram.specs.declared.listing.Token.{Token}
-use Rattle.lg_gram.specs.declared.listing.PageItem.{PageItem}
-use Rattle.lg_gram.specs.declared.listing.Page.{Page}
-use Rattle.lg_gram.specs.declared.listing.Violation.{Violation}
 use Rattle.lg_gram.specs.declared.listing.Bound.{Bound}
 use Rattle.lg_gram.specs.declared.listing.Bound.TheVariants.{TooManyWords, TooWide}
 
@@ -60,25 +56,6 @@ pub record IsPrintable (tokens : List Token) (g : Linkage) : Type 0 where
   pub same_length : length tokens ≡ length g.chosen
   pub positions : List (List Disjunct)
   pub good : Good positions g
-
-abbrev pub fail_line : ℕ → Violation → List ℕ
-fail_line number v = line_of (codes "fail" ∷ decimal number ∷ codes "rule" ∷ decimal v.rule ∷ codes "link" ∷ decimal v.left ∷ decimal v.right ∷ [])
-
--- a candidate that passes has its linkage text, another one line
-abbrev pub item_text : List Token → PageItem → List ℕ
-item_text tokens item = option_map_or (fail_line item.number) item.broken (linkage_text tokens item.number item.linkage)
-
--- how many candidates of a page pass
-abbrev pub shown : List PageItem → ℕ
-shown items = count_by (λ item. is_none item.broken) items
-
-abbrev pub page_line : Page → List ℕ
-page_line page =
-    line_of (codes "page" ∷ codes "shown" ∷ decimal (shown page.items) ∷ codes "examined" ∷ decimal (length page.items) ∷ codes "next" ∷ decimal page.next ∷ (if page.end then codes "end" else codes "more") ∷ [])
-
--- a page: its candidates in order, and a last line
-abbrev pub page_text : List Token → Page → List ℕ
-page_text tokens page = flat_map (item_text tokens) page.items ++ page_line page
 
 -- what is printed for a sentence past a limit
 abbrev pub bound_pieces : Bound → List (List ℕ)

@@ -1,7 +1,7 @@
 //! Diagrams of linkages.
-ghost use Rattle.std.specs.Prelude.{◌≡◌, IfOk};
+ghost use Rattle.std.specs.Prelude.{◌≡◌, ◌++◌, IfOk, OnOk};
 ghost use Rattle.lg_text.specs.Texts.{IsPrintable};
-ghost use Rattle.lg_text.specs.Diagrams.{diagram_text};
+ghost use Rattle.lg_text.specs.Diagrams.{diagram_text, marked_diagram};
 
 mod columns;
 mod heights;
@@ -11,7 +11,7 @@ mod words;
 use crate::drawing::columns::{line_width, starts};
 use crate::drawing::lines::{drawn_links, write_link_lines};
 use crate::drawing::words::write_words;
-use lg_base::NoMemory;
+use lg_base::{NoMemory, write_bytes};
 use lg_gram::{Linkage, Tokens};
 use std::alloc::Global;
 
@@ -38,11 +38,26 @@ pub fn diagram(alloc: Global, tokens: &Tokens, g: &Linkage) -> Result<Vec<u8>, N
     requires { IsPrintable tokens.now g.now }
     ensures { IfOk result (λ bytes. bytes.items ≡ diagram_text tokens.now g.now) }
 {
+    let mut out = Vec::new(alloc);
+    write_diagram(alloc, &mut out, b"", tokens, g)?;
+    Ok(out)
+}
+
+// Appends the diagram, each line behind the mark.
+pub(crate) fn write_diagram(
+    alloc: Global,
+    out: &mut Vec<u8>,
+    mark: &[u8],
+    tokens: &Tokens,
+    g: &Linkage,
+) -> Result<(), NoMemory>
+    requires { IsPrintable tokens.now g.now }
+    ensures { OnOk result (out.new.items ≡ out.old.items ++ marked_diagram mark.now tokens.now g.now) }
+{
     let starts = starts(alloc, tokens.items(), g)?;
     let columns = line_width(&starts)?;
     let links = drawn_links(alloc, g, &starts)?;
-    let mut out = Vec::new(alloc);
-    write_link_lines(alloc, &mut out, &links, columns)?;
-    write_words(&mut out, tokens.items(), g.chosen(), &starts)?;
-    Ok(out)
+    write_link_lines(alloc, out, mark, &links, columns)?;
+    write_bytes(out, mark)?;
+    write_words(out, tokens.items(), g.chosen(), &starts)
 }

@@ -1,46 +1,111 @@
 //! The text of a page, and the lines that name a bound.
 ghost use Rattle.std.specs.Prelude.{◌≡◌, ◌∷◌, ◌++◌, OnOk, IfOk, codes, map};
 ghost use Rattle.std.specs.List.{All};
-ghost use Rattle.lg_text.specs.Texts.{IsPrintable, item_text, page_line, page_text, fail_line, shown, bound_pieces, bound_line};
+ghost use Rattle.lg_text.specs.Pages.{item_text, page_line, page_text, listing_text, shown_stats, shown_diagram, fail_line, shown};
+ghost use Rattle.lg_text.specs.Texts.{IsPrintable, linkage_text, bound_pieces, bound_line};
 ghost use Rattle.lg_text.specs.Pieces.{piece_text};
 
+use crate::drawing::write_diagram;
 use crate::linkage::write_linkage;
+use crate::look::Look;
 use crate::piece::{Piece, write_line};
 use lg_base::NoMemory;
-use lg_gram::{Bound, Page, PageItem, Tokens, Violation};
+use lg_gram::{Bound, Page, PageItem, Stats, Tokens, Violation};
 use std::alloc::Global;
 
 /// The text of a page: each candidate that was looked at, in order, and a last line. There is one space between the parts
 /// of a line, and a line feed at its end.
 ///
-/// - A candidate that breaks no rule of post-processing has its linkage text (`linkage_text`), and another one the line
-///   `fail N rule R link A B`: its number, the first rule that it breaks, and the positions of the least link at which it
-///   does.
+/// - A candidate that breaks no rule of post-processing has its linkage text (`linkage_text`) and, where the look has diagrams, its
+///   diagram (`diagram`), each line of it after `>`. Another one has the line `fail N rule R link A B`: its number, the first rule
+///   that it breaks, and the positions of the least link at which it does.
 /// - The last line is `page shown S examined E next N end`, or `more` in place of `end` where the listing goes on: how
 ///   many candidates break no rule, how many were looked at, and the number of the next one.
 ///
 /// The only error is running out of memory.
-pub fn page_text(alloc: Global, tokens: &Tokens, page: &Page) -> Result<Vec<u8>, NoMemory>
+pub fn page_text(
+    alloc: Global,
+    tokens: &Tokens,
+    page: &Page,
+    look: Look,
+) -> Result<Vec<u8>, NoMemory>
     requires { All (λ item. IsPrintable tokens.now item.linkage) page.now.items }
-    ensures { IfOk result (λ bytes. bytes.items ≡ page_text tokens.now page.now) }
+    ensures { IfOk result (λ bytes. bytes.items ≡ page_text look tokens.now page.now) }
 {
     let mut out = Vec::new(alloc);
-    write_page(alloc, &mut out, tokens, page)?;
+    write_page(alloc, &mut out, tokens, page, look)?;
     Ok(out)
 }
 
-// Appends the text of a page.
-pub(crate) fn write_page(
+/// The text of a page of a listing: where the look has the numbers of disjuncts and they are there, the line `stats disjuncts D kept K`,
+/// and then the page's text (`page_text`). The only error is running out of memory.
+pub fn listing_text(
+    alloc: Global,
+    tokens: &Tokens,
+    page: &Page,
+    stats: Option<Stats>,
+    look: Look,
+) -> Result<Vec<u8>, NoMemory>
+    requires { All (λ item. IsPrintable tokens.now item.linkage) page.now.items }
+    ensures { IfOk result (λ bytes. bytes.items ≡ listing_text look tokens.now page.now stats) }
+{
+    let mut out = Vec::new(alloc);
+    write_listing(alloc, &mut out, tokens, page, stats, look)?;
+    Ok(out)
+}
+
+// Appends the text of a page of a listing.
+pub(crate) fn write_listing(
     alloc: Global,
     out: &mut Vec<u8>,
     tokens: &Tokens,
     page: &Page,
+    stats: Option<Stats>,
+    look: Look,
 ) -> Result<(), NoMemory>
     requires { All (λ item. IsPrintable tokens.now item.linkage) page.now.items }
-    ensures { OnOk result (out.new.items ≡ out.old.items ++ page_text tokens.now page.now) }
+    ensures { OnOk result (out.new.items ≡ out.old.items ++ listing_text look tokens.now page.now stats) }
+{
+    write_stats(alloc, out, stats, look)?;
+    write_page(alloc, out, tokens, page, look)
+}
+
+// Appends the line of the numbers of disjuncts, where it is asked for and they are there.
+fn write_stats(
+    alloc: Global,
+    out: &mut Vec<u8>,
+    stats: Option<Stats>,
+    look: Look,
+) -> Result<(), NoMemory>
+    ensures { OnOk result (out.new.items ≡ out.old.items ++ shown_stats look.stats stats) }
+{
+    match stats {
+        Some(stats) if look.stats => {
+            let pieces = [
+                Piece::Word(b"disjuncts"),
+                Piece::Number(stats.disjuncts),
+                Piece::Word(b"kept"),
+                Piece::Number(stats.kept),
+            ];
+            write_line(alloc, out, b"stats", &pieces)
+        }
+        _ => Ok(()),
+    }
+}
+
+// Appends the text of a page.
+fn write_page(
+    alloc: Global,
+    out: &mut Vec<u8>,
+    tokens: &Tokens,
+    page: &Page,
+    look: Look,
+) -> Result<(), NoMemory>
+    requires { All (λ item. IsPrintable tokens.now item.linkage) page.now.items }
+    ensures { OnOk result (out.new.items ≡ out.old.items ++ page_text look tokens.now page.now) }
 {
     for item in page.items.items() {
-        write_item(alloc, out, tokens, item)?;
+        write_item(alloc, out, tokens, item, look)?;
     }
     write_page_line(alloc, out, page)
 }
@@ -50,14 +115,33 @@ fn write_item(
     out: &mut Vec<u8>,
     tokens: &Tokens,
     item: &PageItem,
+    look: Look,
 ) -> Result<(), NoMemory>
     requires { IsPrintable tokens.now item.now.linkage }
-    ensures { OnOk result (out.new.items ≡ out.old.items ++ item_text tokens.now item.now) }
+    ensures { OnOk result (out.new.items ≡ out.old.items ++ item_text look tokens.now item.now) }
 {
     match &item.broken {
-        None => write_linkage(alloc, out, tokens, item.number, &item.linkage),
+        None => write_passing(alloc, out, tokens, item, look),
         Some(violation) => write_fail(alloc, out, item.number, violation),
     }
+}
+
+// Appends the text of a linkage that passes, and its diagram where it is asked for.
+fn write_passing(
+    alloc: Global,
+    out: &mut Vec<u8>,
+    tokens: &Tokens,
+    item: &PageItem,
+    look: Look,
+) -> Result<(), NoMemory>
+    requires { IsPrintable tokens.now item.now.linkage }
+    ensures { OnOk result (out.new.items ≡ out.old.items ++ (linkage_text tokens.now item.now.number item.now.linkage ++ shown_diagram look.diagram tokens.now item.now.linkage)) }
+{
+    write_linkage(alloc, out, tokens, item.number, &item.linkage)?;
+    if look.diagram {
+        write_diagram(alloc, out, b">", tokens, &item.linkage)?;
+    }
+    Ok(())
 }
 
 fn write_fail(

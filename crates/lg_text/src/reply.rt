@@ -1,20 +1,22 @@
 //! The text of what a session answers to a command.
 ghost use Rattle.std.specs.Prelude.{◌≡◌, [], ◌∷◌, ◌++◌, OnOk, IfOk, All, codes, decimal};
-ghost use Rattle.lg_text.specs.Texts.{IsPrintable, page_text, bound_pieces};
+ghost use Rattle.lg_text.specs.Pages.{listing_text};
+ghost use Rattle.lg_text.specs.Texts.{IsPrintable, bound_pieces};
 ghost use Rattle.lg_text.specs.Pieces.{line_end};
 ghost use Rattle.lg_text.specs.Replies.{IsAnswerTo, IsPrintableReply, kind_word, cause_pieces, reply_text};
 
-use crate::page::{many, write_page};
+use crate::look::Look;
+use crate::page::{many, write_listing};
 use crate::piece::{Piece, write_line_end, write_pieces, write_place};
 use lg_base::NoMemory;
-use lg_gram::{Bound, CommandKind, EditRefusal, Page, Place, Reply, Tokens};
+use lg_gram::{Bound, CommandKind, EditRefusal, Page, Place, Reply, Stats, Tokens};
 use std::alloc::Global;
 
 /// The text of what the command at the place S.C (its session and its number) is answered. KIND is `parse`, `list`,
 /// `more`, `set`, `macro`, `del` or `version`, and V the version of the dictionary. There is one space between the parts
 /// of a line, and a line feed at its end.
 ///
-/// - A page of a listing: the line `S.C KIND version V`, and the page's text (`page_text`).
+/// - A page of a listing: the line `S.C KIND version V`, and the page's text with the numbers of disjuncts (`listing_text`).
 /// - A sentence past a bound: `S.C KIND version V too many words N`, or `too many choices N`.
 /// - An edit that made a version: `S.C KIND version V`.
 /// - An edit that is refused: `S.C KIND refused at V: CAUSE`. CAUSE is `unknown macro NAME`, `too deep N`,
@@ -28,13 +30,14 @@ pub fn reply_text(
     place: Place,
     kind: CommandKind,
     reply: &Reply,
+    look: Look,
 ) -> Result<Vec<u8>, NoMemory>
     requires kind { IsAnswerTo kind reply.now }
     requires printable { IsPrintableReply reply.now }
-    ensures { IfOk result (λ bytes. bytes.items ≡ reply_text place kind reply.now) }
+    ensures { IfOk result (λ bytes. bytes.items ≡ reply_text look place kind reply.now) }
 {
     let mut out = Vec::new(alloc);
-    write_reply(alloc, &mut out, place, kind, reply)?;
+    write_reply(alloc, &mut out, place, kind, reply, look)?;
     Ok(out)
 }
 
@@ -45,9 +48,10 @@ fn write_reply(
     place: Place,
     kind: CommandKind,
     reply: &Reply,
+    look: Look,
 ) -> Result<(), NoMemory>
     requires { IsPrintableReply reply.now }
-    ensures { OnOk result (out.new.items ≡ out.old.items ++ reply_text place kind reply.now) }
+    ensures { OnOk result (out.new.items ≡ out.old.items ++ reply_text look place kind reply.now) }
 {
     write_place(alloc, out, place)?;
     write_pieces(alloc, out, &[Piece::Word(kind_name(kind))])?;
@@ -56,8 +60,8 @@ fn write_reply(
             version,
             tokens,
             page,
-            ..
-        } => write_listed(alloc, out, *version, tokens, page),
+            stats,
+        } => write_listed(alloc, out, *version, tokens, page, *stats, look),
         Reply::Beyond { version, bound } => write_beyond(alloc, out, *version, *bound),
         Reply::Published { version } => write_version(alloc, out, *version),
         Reply::Refused {
@@ -103,12 +107,14 @@ fn write_listed(
     version: u64,
     tokens: &Tokens,
     page: &Page,
+    stats: Option<Stats>,
+    look: Look,
 ) -> Result<(), NoMemory>
     requires { All (λ item. IsPrintable tokens.now item.linkage) page.now.items }
-    ensures { OnOk result (out.new.items ≡ out.old.items ++ (line_end (codes "version" ∷ decimal version ∷ []) ++ page_text tokens.now page.now)) }
+    ensures { OnOk result (out.new.items ≡ out.old.items ++ (line_end (codes "version" ∷ decimal version ∷ []) ++ listing_text look tokens.now page.now stats)) }
 {
     write_version(alloc, out, version)?;
-    write_page(alloc, out, tokens, page)
+    write_listing(alloc, out, tokens, page, stats, look)
 }
 
 fn write_beyond(

@@ -75,18 +75,20 @@ pub(crate) fn drawn_links(
     Ok(drawn)
 }
 
-// Appends the lines of links, the highest first. A line has so many columns.
+// Appends the lines of links, the highest first, each behind the mark. A line has so many columns.
 pub(crate) fn write_link_lines(
     alloc: Global,
     out: &mut Vec<u8>,
+    mark: &[u8],
     links: &[Drawn],
     columns: usize,
 ) -> Result<(), NoMemory>
     requires { All (IsWithin columns) links.now }
-    ensures { OnOk result (out.new.items ≡ out.old.items ++ link_lines links.now columns (highest links.now)) }
+    ensures { OnOk result (out.new.items ≡ out.old.items ++ link_lines mark.now links.now columns (highest links.now)) }
 {
     let mut height = highest(links);
     while height > 0 {
+        write_bytes(out, mark)?;
         write_link_line(alloc, out, links, columns, height)?;
         height -= 1;
     }

@@ -1,0 +1,8 @@
+//! Power pruning: the disjuncts of a problem that can have all their links, if others that can have theirs are there.
+#![tactic(auto)]
+
+pub mod law;
+mod prune;
+
+pub use law::pruning_keeps_linkages;
+pub use prune::pprune;
