@@ -1,15 +1,18 @@
 -- Listings of a sentence, and their pages.
-use Rattle.std.specs.Prelude.{◌≡◌, ◌↔◌, ◌⊎◌, ℕ, ◌+◌, ◌<◌, true, List, length, map, take, drop, All, None, is_none, count_by}
-use Rattle.std.specs.List.{enumerate_from}
+use Rattle.std.specs.Prelude.{◌≡◌, ◌↔◌, ◌⊎◌, ℕ, ◌+◌, ◌<◌, Bool, true, MatchBool, List, length, map, take, drop, All, None, is_none, count_by}
+use Rattle.std.specs.List.{enumerate_from, sum_by}
 use Rattle.lg_gram.specs.Linkages.{Linkage}
 use Rattle.lg_gram.specs.declared.disjunct.Disjunct.{Disjunct}
 use Rattle.lg_gram.specs.declared.listing.Token.{Token}
 use Rattle.lg_gram.specs.declared.listing.PageItem.{PageItem}
 use Rattle.lg_gram.specs.declared.listing.Page.{Page}
+use Rattle.lg_gram.specs.declared.listing.Stats.{Stats}
+use Rattle.lg_gram.specs.Rules.{Good}
 use Rattle.lg_dict.specs.Dictionary.{Dictionary}
 use Rattle.lg_token.specs.Tokens.{AreTokens}
 use Rattle.lg_knowread.specs.declared.knowledge.Knowledge.{Knowledge}
 use Rattle.lg_pp.specs.Labels.{IsGood}
+use Rattle.lg_pprune.specs.Alive.{IsPruned}
 use Rattle.lg_pp.specs.Breaks.{Judges}
 use Rattle.lg_token.specs.Bounds.{bound_of}
 pub use Rattle.lg_token.specs.Bounds.{IsBeyond}
@@ -21,10 +24,10 @@ use Rattle.lg_answer.specs.declared.options.Options.{Options}
 use Rattle.lg_answer.specs.declared.refusal.AnswerRefusal.{AnswerRefusal}
 use Rattle.lg_answer.specs.declared.refusal.AnswerRefusal.TheVariants.{NoMemory, Beyond}
 
--- ten candidates are shown, and a thousand looked at, where nothing else is asked, and all good linkages decide how many words may
--- stay unlinked
+-- ten candidates are shown, and a thousand looked at, where nothing else is asked, all good linkages decide how many words may stay
+-- unlinked, and disjuncts are pruned
 abbrev pub default_options : Options
-default_options = record { want = 10; examine = 1000; nulls = First }
+default_options = record { want = 10; examine = 1000; nulls = First; prune = true }
 
 -- how many of the candidates that were looked at pass
 abbrev pub passed : List PageItem → ℕ
@@ -44,14 +47,24 @@ pub record IsPage (positions : List (List Disjunct)) (know : Knowledge) (nulls :
   pub ends : (page.end ≡ true) ↔ ((passed page.items < want) × (looked < examine) × AreAll positions know nulls front)
   pub next : page.next ≡ from + looked + 1
 
--- what contracts see of a listing
+-- a problem has the good linkages of another, and no others
+abbrev pub HasLinkagesOf : List (List Disjunct) → List (List Disjunct) → Type 0
+HasLinkagesOf positions kept = (g : Linkage) → Good positions g ↔ Good kept g
+
+-- What contracts see of a listing. The problem of its course is what pruning has left of the sentence's.
 pub record Listing : Type 0 where
   pub tokens : List Token
   pub course : Course
+  pub stats : Stats
 
 -- what holds of every listing: its problem has a position for each token
 abbrev pub IsOpen : Listing → Type 0
 IsOpen listing = length listing.course.problem ≡ length listing.tokens
+
+-- how many disjuncts a problem has, and how many are kept: those that are alive where it is pruned, and else all
+pub record AreStats (positions : List (List Disjunct)) (prune : Bool) (stats : Stats) : Type 0 where
+  pub disjuncts : stats.disjuncts ≡ sum_by length positions
+  pub kept : MatchBool prune ((pruned : List (List Disjunct)) × IsPruned positions pruned × (stats.kept ≡ sum_by length pruned)) (stats.kept ≡ stats.disjuncts)
 
 -- a good linkage of some problem, with a position for each of these tokens: it may be printed beside them
 pub record IsLinkageFor (tokens : List Token) (g : Linkage) : Type 0 where
@@ -64,18 +77,22 @@ pub record IsSentenceOf (dict : Dictionary) (text : List ℕ) (tokens : List Tok
   pub unbound : bound_of dict tokens ≡ None
   pub of_tokens : IsProblemOf dict tokens problem
 
--- a listing of a sentence
-abbrev pub IsListing : Dictionary → List ℕ → Listing → Type 0
-IsListing dict text listing = IsSentenceOf dict text listing.tokens listing.course.problem
+-- a listing of a sentence, pruned or not: its tokens, a problem with the linkages of the sentence's, and the numbers of disjuncts
+pub record IsListing (dict : Dictionary) (text : List ℕ) (prune : Bool) (listing : Listing) : Type 0 where
+  pub problem : List (List Disjunct)
+  pub sentence : IsSentenceOf dict text listing.tokens problem
+  pub keeps : HasLinkagesOf problem listing.course.problem
+  pub counted : AreStats problem prune listing.stats
 
 -- a listing of the same sentence
 pub record IsSameListing (old new : Listing) : Type 0 where
   pub tokens : new.tokens ≡ old.tokens
   pub course : IsSameCourse old.course new.course
+  pub stats : new.stats ≡ old.stats
 
--- the listing stands behind n more candidates, or behind all where they are fewer
-abbrev pub HasSkipped : Knowledge → Listing → ℕ → Listing → Type 0
-HasSkipped know old n new = IsBehind old.course.problem know old.course.nulls (old.course.position + n) new.course.position
+-- the listing stands behind n more candidates of the problem, or behind all where they are fewer
+abbrev pub HasSkipped : Knowledge → List (List Disjunct) → Listing → ℕ → Listing → Type 0
+HasSkipped know problem old n new = IsBehind problem know old.course.nulls (old.course.position + n) new.course.position
 
 -- why a sentence is not listed: memory may run out at any time, and a bound has its cause
 abbrev pub IsRefused : Dictionary → List ℕ → AnswerRefusal → Type 0

@@ -1,9 +1,10 @@
 //! Listings.
-ghost use Rattle.std.specs.Prelude.{◌≡◌, ◌+◌, ◌-◌, ◌<◌, ◌≤◌, ◌^◌, length, All, IfOk, IfErr};
+ghost use Rattle.std.specs.Prelude.{◌≡◌, ◌+◌, ◌-◌, ◌<◌, ◌≤◌, ◌^◌, List, length, All, IfOk, IfErr};
+ghost use Rattle.lg_gram.specs.declared.disjunct.Disjunct.{Disjunct};
 ghost use Rattle.std.specs.List.{sum_by};
 ghost use Rattle.lg_knowread.specs.declared.knowledge.Knowledge.{Knowledge as SeenKnowledge};
 ghost use Rattle.lg_answer.specs.Candidates.{StandsFor};
-ghost use Rattle.lg_answer.specs.Pages.{IsOpen, IsListing, IsSameListing, HasSkipped, IsRefused, IsPage, IsLinkageFor};
+ghost use Rattle.lg_answer.specs.Pages.{IsOpen, HasLinkagesOf, AreStats, IsListing, IsSameListing, HasSkipped, IsRefused, IsPage, IsLinkageFor};
 
 use crate::course::Course;
 use crate::options::{Nulls, Options};
@@ -14,6 +15,7 @@ use lg_base::NoMemory;
 use lg_dict::View;
 use lg_gram::{Page, Problem, Stats, Tokens};
 use lg_knowread::Knowledge;
+use lg_pprune::{pprune, pruning_keeps_linkages};
 use lg_token::{bound_of, tokens};
 use std::alloc::Global;
 use std::marker::Model;
@@ -21,11 +23,13 @@ use std::marker::Model;
 /// A listing of a sentence: its tokens, and how far the listing of its candidates has come. A candidate is made when a page
 /// looks at it or when it is passed over.
 ///
-/// Contracts see `{ tokens, course }`.
+/// Contracts see `{ tokens, course, stats }`. The problem of the course is what pruning has left of the sentence's; clauses on pages
+/// speak of any problem with the same good linkages, as the sentence's is.
 #[derive(Drop)]
 pub struct Listing {
     tokens: Tokens,
     course: Course,
+    stats: Stats,
 }
 
 impl Model for Listing {
@@ -33,9 +37,9 @@ impl Model for Listing {
 
     ghost Value = { Seen };
 
-    ghost view = { λ l. record { tokens = l.tokens; course = l.course } };
+    ghost view = { λ l. record { tokens = l.tokens; course = l.course; stats = l.stats } };
 
-    ghost invariant = { λ l. IsOpen (record { tokens = l.tokens; course = l.course }) };
+    ghost invariant = { λ l. IsOpen (record { tokens = l.tokens; course = l.course; stats = l.stats }) };
 }
 
 impl Listing {
@@ -51,7 +55,7 @@ impl Listing {
         options: &Options,
     ) -> Result<Listing, AnswerRefusal>
         requires { length text.now < 2 ^ 32 }
-        ensures listing { IfOk result (IsListing view.now text.now) }
+        ensures listing { IfOk result (IsListing view.now text.now options.now.prune) }
         ensures nulls { IfOk result (λ listing. listing.course.nulls ≡ options.now.nulls) }
         ensures first { IfOk result (λ listing. listing.course.position ≡ 0) }
         ensures stands { (know : SeenKnowledge) → IfOk result (λ listing. StandsFor know listing.course) }
@@ -62,8 +66,13 @@ impl Listing {
             return Err(AnswerRefusal::Beyond(bound));
         }
         let problem = problem_of(alloc, view, tokens.items())?;
+        let (problem, stats) = pruned(alloc, problem, options.prune)?;
         let course = Course::start(alloc, problem, options.nulls)?;
-        Ok(Listing { tokens, course })
+        Ok(Listing {
+            tokens,
+            course,
+            stats,
+        })
     }
 
     /// Passes over this many candidates, or over all that are left. The knowledge is one that the listing stands for. Its
@@ -73,13 +82,21 @@ impl Listing {
         requires few { length know.now.rules < 2 ^ 32 }
         requires stands { StandsFor know.now self.course }
         requires room { self.course.position + n ≤ 2 ^ 62 }
-        ensures skipped { IfOk result (HasSkipped know.now self n) }
+        ensures skipped { (problem : List (List Disjunct)) → HasLinkagesOf problem self.course.problem → IfOk result (HasSkipped know.now problem self n) }
         ensures stands { IfOk result (λ listing. StandsFor know.now listing.course) }
         ensures same { IfOk result (IsSameListing self) }
     {
-        let Listing { tokens, mut course } = self;
+        let Listing {
+            tokens,
+            mut course,
+            stats,
+        } = self;
         skip(alloc, know, &mut course, n)?;
-        Ok(Listing { tokens, course })
+        Ok(Listing {
+            tokens,
+            course,
+            stats,
+        })
     }
 
     /// The next page: the candidates from the position on, and the listing after it.
@@ -99,15 +116,24 @@ impl Listing {
         requires few { length know.now.rules < 2 ^ 32 }
         requires stands { StandsFor know.now self.course }
         requires room { self.course.position + examine ≤ 2 ^ 62 }
-        ensures page { IfOk result (λ both. IsPage self.course.problem know.now self.course.nulls self.course.position want examine both.1) }
+        ensures page { (problem : List (List Disjunct)) → HasLinkagesOf problem self.course.problem → IfOk result (λ both. IsPage problem know.now self.course.nulls self.course.position want examine both.1) }
         ensures moved { IfOk result (λ both. both.0.course.position + 1 ≡ both.1.next) }
         ensures stands { IfOk result (λ both. StandsFor know.now both.0.course) }
         ensures same { IfOk result (λ both. IsSameListing self both.0) }
         ensures printable { IfOk result (λ both. All (λ item. IsLinkageFor self.tokens item.linkage) both.1.items) }
     {
-        let Listing { tokens, mut course } = self;
+        let Listing {
+            tokens,
+            mut course,
+            stats,
+        } = self;
         let page = page_of(alloc, know, &mut course, want, examine)?;
-        Ok((Listing { tokens, course }, page))
+        let listing = Listing {
+            tokens,
+            course,
+            stats,
+        };
+        Ok((listing, page))
     }
 
     /// The tokens. No memory.
@@ -125,26 +151,42 @@ impl Listing {
         self.course.nulls()
     }
 
-    /// The problem: a position for each token. No memory.
-    pub fn problem(&self) -> &Problem
-        ensures value { result.now ≡ self.now.course.problem }
-        ensures open { IsOpen self.now }
-    {
-        self.course.problem()
-    }
-
-    /// How many disjuncts the problem has. As nothing is pruned, all of them are kept. No memory.
+    /// How many disjuncts the sentence's problem has, and how many are kept: those that are alive where it is pruned, and else all.
+    /// No memory.
     pub fn stats(&self) -> Stats
-        ensures disjuncts { result.disjuncts ≡ sum_by length self.now.course.problem }
-        ensures kept { result.kept ≡ result.disjuncts }
+        ensures { result ≡ self.now.stats }
     {
-        let mut disjuncts: u64 = 0;
-        for position in self.course.problem().positions() {
-            disjuncts += position.items().len() as u64;
-        }
-        Stats {
+        self.stats
+    }
+}
+
+// The problem that is searched, with the numbers of its disjuncts: what pruning leaves, where it is asked for.
+fn pruned(alloc: Global, problem: Problem, prune: bool) -> Result<(Problem, Stats), NoMemory>
+    ensures keeps { IfOk result (λ both. HasLinkagesOf problem both.0) }
+    ensures counted { IfOk result (λ both. AreStats problem prune both.1) }
+    ensures same { IfOk result (λ both. length both.0 ≡ length problem) }
+{
+    let disjuncts = disjunct_count(&problem);
+    if !prune {
+        let stats = Stats {
             disjuncts,
             kept: disjuncts,
-        }
+        };
+        return Ok((problem, stats));
     }
+    pruning_keeps_linkages();
+    let pruned = pprune(alloc, problem)?;
+    let kept = disjunct_count(&pruned);
+    Ok((pruned, Stats { disjuncts, kept }))
+}
+
+// How many disjuncts a problem has.
+fn disjunct_count(problem: &Problem) -> u64
+    ensures { result ≡ sum_by length problem.now }
+{
+    let mut count: u64 = 0;
+    for position in problem.positions() {
+        count += position.items().len() as u64;
+    }
+    count
 }

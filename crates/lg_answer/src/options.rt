@@ -18,6 +18,8 @@ pub struct Options {
     pub examine: u64,
     /// Which linkages decide how many words may stay unlinked.
     pub nulls: Nulls,
+    /// Only disjuncts that are alive are searched. That changes no page, but the second of the numbers of disjuncts.
+    pub prune: bool,
 }
 
 impl Default for Options {
@@ -31,6 +33,7 @@ impl Default for Options {
             want: 10,
             examine: 1000,
             nulls: Nulls::First,
+            prune: true,
         }
     }
 }

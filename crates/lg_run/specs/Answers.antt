@@ -10,10 +10,12 @@ use Rattle.lg_dictread.specs.declared.dict_error.DictError.{DictError}
 use Rattle.lg_knowread.specs.declared.fault.KnowError.{KnowError}
 use Rattle.lg_script.specs.declared.script_error.ScriptError.{ScriptError}
 use Rattle.lg_script.specs.Codes.{AreScripts}
-use Rattle.lg_run.specs.Words.{Task, One, Run, TaskIs, SENTENCE, AreInRange}
-use Rattle.lg_run.specs.Inputs.{Reading, accepted, refused, Given, OneGiven, RunGiven, InputsAre}
+use Rattle.lg_run.specs.Words.{Task, One, Run, Gen, TaskIs, SENTENCE, AreInRange}
+use Rattle.lg_run.specs.Inputs.{Reading, accepted, refused, Given, OneGiven, RunGiven, GenGiven, InputsAre}
 use Rattle.lg_run.specs.Reads.{Comes, IsOfLast}
+use Rattle.lg_gen.specs.Accepted.{IsMade}
 use Rattle.lg_run.specs.Documents.{DocumentIs, IsOutcome}
+use Rattle.lg_run.specs.MadeRuns.{IsMadeDocument}
 use Rattle.lg_run.specs.Lines.{usage_line, memory_line, output_line, unreadable_line, too_long_line, dict_line, know_line, script_line, edits_line}
 use Rattle.lg_run.specs.Stops.{dict_status, know_status, script_status}
 use Rattle.lg_run.specs.declared.outcome.Halt.{Halt}
@@ -49,8 +51,9 @@ Caused NoMemory files_before files_now out_before out_now = ⊤
 
 -- the document of a command
 abbrev pub IsDocument : Given → List ℕ → Type 0
-IsDocument (OneGiven options dict sentence) document = DocumentIs options dict sentence document
-IsDocument (RunGiven options dict know scripts) document = IsOutcome options dict know scripts document
+IsDocument (OneGiven setup dict sentence) document = DocumentIs setup dict sentence document
+IsDocument (RunGiven setup dict know scripts) document = IsOutcome setup dict know scripts document
+IsDocument (GenGiven seed words sentences) document = IsMadeDocument seed words sentences document
 
 -- all inputs were accepted, and their document was written
 pub record WritesDocument (inputs : Reading Given) (asked_old asked_new : List (List ℕ)) (old new : Option (List ℕ)) : Type 0 where
@@ -88,8 +91,9 @@ AnswersAccepted inputs all_read all_written status =
 
 -- the files that the words of a task name
 abbrev pub names_of : Task → List (List ℕ)
-names_of (One options dictionary sentence) = dictionary ∷ []
-names_of (Run options dictionary knowledge scripts) = dictionary ∷ knowledge ∷ scripts
+names_of (One setup dictionary sentence) = dictionary ∷ []
+names_of (Run setup dictionary knowledge scripts) = dictionary ∷ knowledge ∷ scripts
+names_of (Gen seed words sentences) = []
 
 -- what is said of a text that is refused: of a file with one of these names, or of the word file that was asked last
 pub data IsRefusal (names asked : List (List ℕ)) : List ℕ → Type 0 where
@@ -148,5 +152,6 @@ IsStopped WriteFault = ⊥
 
 -- the limits that words and texts keep to: a sentence's length, the number of rules, and those of the scripts' commands
 abbrev pub IsGivenInBounds : Given → Type 0
-IsGivenInBounds (OneGiven options dict sentence) = AreInRange options × (length sentence ≤ SENTENCE)
-IsGivenInBounds (RunGiven options dict know scripts) = AreInRange options × (length know.rules < 2 ^ 32) × AreScripts scripts
+IsGivenInBounds (OneGiven setup dict sentence) = AreInRange setup × (length sentence ≤ SENTENCE)
+IsGivenInBounds (RunGiven setup dict know scripts) = AreInRange setup × (length know.rules < 2 ^ 32) × AreScripts scripts
+IsGivenInBounds (GenGiven seed words sentences) = (seed < 2 ^ 32) × IsMade words × IsMade sentences

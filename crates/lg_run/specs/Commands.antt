@@ -1,7 +1,7 @@
 -- A command as a task.
-use Rattle.std.specs.Prelude.{ℕ, List, map, string_bytes}
-use Rattle.lg_answer.specs.declared.options.Options.{Options}
-use Rattle.lg_run.specs.Words.{Task, One, Run, TaskIs, OptionsAre, IsShort, AreInRange}
+use Rattle.std.specs.Prelude.{ℕ, List, [], map, string_bytes}
+use Rattle.lg_run.specs.Words.{Task, One, Run, Gen, TaskIs, OptionsAre, IsShort, AreInRange}
+use Rattle.lg_run.specs.declared.setup.Setup.{Setup}
 use Rattle.lg_run.specs.declared.command.Command.{Command}
 use Rattle.lg_run.specs.declared.command.Command.TheVariants as command
 
@@ -9,16 +9,18 @@ use Rattle.lg_run.specs.declared.command.Command.TheVariants as command
 abbrev pub option_words : Command → List (List ℕ)
 option_words (command.One options dictionary sentence) = map string_bytes options.now
 option_words (command.Run options dictionary knowledge scripts) = map string_bytes options.now
+option_words (command.Gen seed words sentences) = []
 
 -- what it asks for, where its options are these
-abbrev pub task : Options → Command → Task
-task options (command.One words dictionary sentence) = One options dictionary.now sentence.now
-task options (command.Run words dictionary knowledge scripts) = Run options dictionary.now knowledge.now (map string_bytes scripts.now)
+abbrev pub task : Setup → Command → Task
+task setup (command.One options dictionary sentence) = One setup dictionary.now sentence.now
+task setup (command.Run options dictionary knowledge scripts) = Run setup dictionary.now knowledge.now (map string_bytes scripts.now)
+task setup (command.Gen seed words sentences) = Gen seed words sentences
 
 -- the command that the words are
 pub record IsCommand (words : List (List ℕ)) (c : Command) : Type 0 where
-  pub options : Options
-  pub are_options : OptionsAre (option_words c) options
-  pub is_task : TaskIs words (task options c)
-  pub range : AreInRange options
-  pub short : IsShort (task options c)
+  pub setup : Setup
+  pub are_options : OptionsAre (option_words c) setup
+  pub is_task : TaskIs words (task setup c)
+  pub range : AreInRange setup
+  pub short : IsShort (task setup c)

@@ -1,6 +1,5 @@
 -- What is written for one sentence, and for a session.
-use Rattle.std.specs.Prelude.{◌≡◌, ℕ, ◌+◌, List, [], ◌∷◌, ◌++◌, length, All, Option, Some, None}
-use Rattle.std.specs.List.{sum_by}
+use Rattle.std.specs.Prelude.{◌≡◌, ℕ, ◌+◌, List, [], ◌∷◌, ◌++◌, All, Option, Some, None}
 use Rattle.lg_gram.specs.declared.disjunct.Disjunct.{Disjunct}
 use Rattle.lg_gram.specs.declared.listing.Bound.{Bound}
 use Rattle.lg_gram.specs.declared.listing.Page.{Page}
@@ -12,15 +11,18 @@ use Rattle.lg_dict.specs.Dictionary.{Dictionary}
 use Rattle.lg_knowread.specs.declared.knowledge.Knowledge.{Knowledge}
 use Rattle.lg_token.specs.Bounds.{IsBeyond}
 use Rattle.lg_answer.specs.Candidates.{IsBehind}
-use Rattle.lg_answer.specs.Pages.{IsSentenceOf, IsPage, IsLinkageFor}
+use Rattle.lg_answer.specs.Pages.{IsSentenceOf, IsPage, IsLinkageFor, AreStats}
 use Rattle.lg_answer.specs.declared.options.Options.{Options}
 use Rattle.lg_script.specs.Commands.{CommandView}
 use Rattle.lg_script.specs.Kinds.{kind_of}
 use Rattle.lg_session.specs.Engines.{Meaning, Progress}
 use Rattle.lg_session.specs.Legal.{IsLegal, AnswersAll}
+use Rattle.lg_text.specs.Pages.{listing_text}
 use Rattle.lg_text.specs.Replies.{reply_text, journal_text}
-use Rattle.lg_text.specs.Texts.{page_text, bound_line}
+use Rattle.lg_text.specs.Texts.{bound_line}
+use Rattle.lg_text.specs.declared.look.Look.{Look}
 use Rattle.lg_run.specs.Lines.{joined}
+use Rattle.lg_run.specs.declared.setup.Setup.{Setup}
 
 -- ---- one sentence
 
@@ -28,11 +30,13 @@ use Rattle.lg_run.specs.Lines.{joined}
 abbrev pub no_knowledge : Knowledge
 no_knowledge = record { starts = []; ignored = []; rules = [] }
 
--- the first page of the sentence's candidates, or the line that says why they are not listed
-pub data DocumentIs (options : Options) (dict : Dictionary) (sentence document : List ℕ) : Type 0 where
-  listed : (tokens : List Token) (problem : List (List Disjunct)) (page : Page) → IsSentenceOf dict sentence tokens problem → IsPage problem no_knowledge options.nulls 0 options.want options.examine page
-      → document ≡ page_text tokens page → DocumentIs options dict sentence document
-  beyond : (bound : Bound) → IsBeyond dict sentence bound → document ≡ bound_line bound → DocumentIs options dict sentence document
+-- the first page of the sentence's candidates, behind the numbers of its disjuncts where they are asked for, or the line that says why they
+-- are not listed
+pub data DocumentIs (setup : Setup) (dict : Dictionary) (sentence document : List ℕ) : Type 0 where
+  listed : (tokens : List Token) (problem : List (List Disjunct)) (page : Page) (stats : Stats) → IsSentenceOf dict sentence tokens problem
+      → IsPage problem no_knowledge setup.listing.nulls 0 setup.listing.want setup.listing.examine page → AreStats problem setup.listing.prune stats
+      → document ≡ listing_text setup.look tokens page (Some stats) → DocumentIs setup dict sentence document
+  beyond : (bound : Bound) → IsBeyond dict sentence bound → document ≡ bound_line bound → DocumentIs setup dict sentence document
 
 -- ---- what sessions are answered
 
@@ -51,41 +55,40 @@ pub record IsShown (know : Knowledge) (options : Options) (dict : Dictionary) (p
   pub shown : IsPage problem know options.nulls place (wanted options progress.want) options.examine page
   pub printable : All (λ item. IsLinkageFor progress.tokens item.linkage) page.items
 
--- how many disjuncts the sentence's problem has; as nothing is pruned, all of them are kept
-pub record AreCounted (dict : Dictionary) (text : List ℕ) (stats : Stats) : Type 0 where
+-- how many disjuncts the sentence's problem has, and how many are kept
+pub record AreCounted (options : Options) (dict : Dictionary) (text : List ℕ) (stats : Stats) : Type 0 where
   pub tokens : List Token
   pub problem : List (List Disjunct)
   pub sentence : IsSentenceOf dict text tokens problem
-  pub disjuncts : stats.disjuncts ≡ sum_by length problem
-  pub kept : stats.kept ≡ stats.disjuncts
+  pub counted : AreStats problem options.prune stats
 
 -- the meaning of sentences: listings of their candidates
 abbrev pub listings : Knowledge → Options → Meaning
-listings know options = record { shows = IsShown know options; counts = AreCounted }
+listings know options = record { shows = IsShown know options; counts = AreCounted options }
 
 -- ---- the document of sessions
 
 -- the texts of a session's answers, from the command of that number on
-abbrev pub reply_texts : ℕ → ℕ → List CommandView → List Reply → List (List ℕ)
-reply_texts session n (command ∷ commands) (r ∷ rs) = reply_text (record { session = session; command = n }) (kind_of command) r ∷ reply_texts session (n + 1) commands rs
-reply_texts session n commands [] = []
-reply_texts session n [] rs = []
+abbrev pub reply_texts : Look → ℕ → ℕ → List CommandView → List Reply → List (List ℕ)
+reply_texts look session n (command ∷ commands) (r ∷ rs) = reply_text look (record { session = session; command = n }) (kind_of command) r ∷ reply_texts look session (n + 1) commands rs
+reply_texts look session n commands [] = []
+reply_texts look session n [] rs = []
 
 -- the texts of all answers, by sessions and commands
-abbrev pub session_texts : ℕ → List (List CommandView) → List (List Reply) → List (List ℕ)
-session_texts session (commands ∷ scripts) (rs ∷ replies) = reply_texts session 1 commands rs ++ session_texts (session + 1) scripts replies
-session_texts session scripts [] = []
-session_texts session [] replies = []
+abbrev pub session_texts : Look → ℕ → List (List CommandView) → List (List Reply) → List (List ℕ)
+session_texts look session (commands ∷ scripts) (rs ∷ replies) = reply_texts look session 1 commands rs ++ session_texts look (session + 1) scripts replies
+session_texts look session scripts [] = []
+session_texts look session [] replies = []
 
 -- and then the journal
-abbrev pub outcome_text : List (List CommandView) → List (List Reply) → List Place → List ℕ
-outcome_text scripts replies journal = joined (session_texts 1 scripts replies) ++ journal_text journal
+abbrev pub outcome_text : Look → List (List CommandView) → List (List Reply) → List Place → List ℕ
+outcome_text look scripts replies journal = joined (session_texts look 1 scripts replies) ++ journal_text journal
 
 -- The document of a run: the text of a journal and of answers to all commands that are legal. Its lines show the journal and the
 -- version of each answer.
-pub record IsOutcome (options : Options) (dict : Dictionary) (know : Knowledge) (scripts : List (List CommandView)) (document : List ℕ) : Type 0 where
+pub record IsOutcome (setup : Setup) (dict : Dictionary) (know : Knowledge) (scripts : List (List CommandView)) (document : List ℕ) : Type 0 where
   pub journal : List Place
   pub replies : List (List Reply)
-  pub legal : IsLegal (record { meaning = listings know options; scripts = scripts; base = dict; journal = journal }) replies
+  pub legal : IsLegal (record { meaning = listings know setup.listing; scripts = scripts; base = dict; journal = journal }) replies
   pub whole : AnswersAll scripts replies
-  pub is : document ≡ outcome_text scripts replies journal
+  pub is : document ≡ outcome_text setup.look scripts replies journal

@@ -15,9 +15,9 @@ use Rattle.lg_knowread.specs.Reading.{KnowledgeIs}
 use Rattle.lg_script.specs.Commands.{CommandView}
 use Rattle.lg_script.specs.EditNumbers.{edit_counts}
 use Rattle.lg_script.specs.Scripts.{Outcome, ScriptIs}
-use Rattle.lg_answer.specs.declared.options.Options.{Options}
-use Rattle.lg_run.specs.Words.{Task, One, Run}
+use Rattle.lg_run.specs.Words.{Task, One, Run, Gen}
 use Rattle.lg_run.specs.Lines.{too_long_line, dict_line, know_line, script_line, edits_line}
+use Rattle.lg_run.specs.declared.setup.Setup.{Setup}
 
 -- What comes of texts that are read: all are accepted and stand for this; or the first that is refused has this line;
 -- or this is the first name that is not there.
@@ -114,21 +114,24 @@ pub data EditsRead (names : List (List ℕ)) (scripts : List (List CommandView))
   many : (i : ℕ) (name : List ℕ) → slice_get names i ≡ Some name → sum (take i (edit_counts scripts)) ≤ EDITS → EDITS < sum (take (suc i) (edit_counts scripts))
       → EditsRead names scripts [] (refused (edits_line name))
 
--- what a command has in hand once all its inputs are accepted, and how it lists
+-- what a command has in hand once all its inputs are accepted, and how it lists and prints
 pub data Given : Type 0 where
   -- a dictionary and a sentence
-  OneGiven : Options → Dictionary → List ℕ → Given
+  OneGiven : Setup → Dictionary → List ℕ → Given
   -- a dictionary, knowledge and the scripts of sessions
-  RunGiven : Options → Dictionary → Knowledge → List (List CommandView) → Given
+  RunGiven : Setup → Dictionary → Knowledge → List (List CommandView) → Given
+  -- a seed, and how many words and sentences are made
+  GenGiven : ℕ → ℕ → ℕ → Given
 
 -- the inputs of sessions: the dictionary, the knowledge and the scripts
-abbrev pub ScriptsGiven : Contents → Options → Dictionary → Knowledge → List (List ℕ) → Reading Given
-ScriptsGiven contents options dict know names = Followed (Followed (ScriptsInput contents names) (EditsRead names)) (λ scripts. given (RunGiven options dict know scripts))
+abbrev pub ScriptsGiven : Contents → Setup → Dictionary → Knowledge → List (List ℕ) → Reading Given
+ScriptsGiven contents setup dict know names = Followed (Followed (ScriptsInput contents names) (EditsRead names)) (λ scripts. given (RunGiven setup dict know scripts))
 
-abbrev pub KnowledgeGiven : Contents → Options → Dictionary → List ℕ → List (List ℕ) → Reading Given
-KnowledgeGiven contents options dict knowledge names = Followed (KnowledgeInput contents knowledge) (λ know. ScriptsGiven contents options dict know names)
+abbrev pub KnowledgeGiven : Contents → Setup → Dictionary → List ℕ → List (List ℕ) → Reading Given
+KnowledgeGiven contents setup dict knowledge names = Followed (KnowledgeInput contents knowledge) (λ know. ScriptsGiven contents setup dict know names)
 
 -- the inputs of a command
 abbrev pub InputsAre : Contents → Task → Reading Given
-InputsAre contents (One options dictionary sentence) = Followed (DictionaryInput contents dictionary) (λ dict. given (OneGiven options dict sentence))
-InputsAre contents (Run options dictionary knowledge scripts) = Followed (DictionaryInput contents dictionary) (λ dict. KnowledgeGiven contents options dict knowledge scripts)
+InputsAre contents (One setup dictionary sentence) = Followed (DictionaryInput contents dictionary) (λ dict. given (OneGiven setup dict sentence))
+InputsAre contents (Run setup dictionary knowledge scripts) = Followed (DictionaryInput contents dictionary) (λ dict. KnowledgeGiven contents setup dict knowledge scripts)
+InputsAre contents (Gen seed words sentences) = given (GenGiven seed words sentences)

@@ -9,6 +9,7 @@ pub mod Stops
 pub mod Reads
 pub mod Pieces
 pub mod Documents
+pub mod MadeRuns
 pub mod Shown
 pub mod Answers
 pub mod Listers

@@ -7,7 +7,7 @@ use Rattle.lg_base.specs.Files.{AsksWithin, EndsWith}
 use Rattle.lg_dictread.specs.declared.dict_error.DictError.{DictError}
 use Rattle.lg_dictread.specs.declared.dict_error.DictError.TheVariants as errors
 use Rattle.lg_script.specs.Commands.{script_views}
-use Rattle.lg_run.specs.Inputs.{Found, Reading, accepted, refused, Given, OneGiven, RunGiven}
+use Rattle.lg_run.specs.Inputs.{Found, Reading, accepted, refused, Given, OneGiven, RunGiven, GenGiven}
 use Rattle.lg_run.specs.Lines.{unreadable_line}
 use Rattle.lg_run.specs.Stops.{stop_status, stop_line}
 use Rattle.lg_run.specs.declared.inputs.Inputs.{Inputs}
@@ -77,5 +77,6 @@ pub record HasCause {T : Type 0} (asked : List (List ℕ)) (before now : ℕ) (r
 
 -- what contracts see of the inputs of a command
 abbrev pub given_in : Inputs → Given
-given_in (inputs.One options dict sentence) = OneGiven options dict sentence.now
-given_in (inputs.Run options dict know scripts) = RunGiven options dict know (script_views scripts)
+given_in (inputs.One setup dict sentence) = OneGiven setup dict sentence.now
+given_in (inputs.Run setup dict know scripts) = RunGiven setup dict know (script_views scripts)
+given_in (inputs.Gen seed words sentences) = GenGiven seed words sentences

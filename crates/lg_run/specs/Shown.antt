@@ -5,7 +5,8 @@ use Rattle.lg_gram.specs.declared.reply.Place.{Place}
 use Rattle.lg_gram.specs.declared.reply.Reply.{Reply}
 use Rattle.lg_dict.specs.Dictionary.{Dictionary}
 use Rattle.lg_knowread.specs.declared.knowledge.Knowledge.{Knowledge}
-use Rattle.lg_answer.specs.declared.options.Options.{Options}
+use Rattle.lg_text.specs.declared.look.Look.{Look}
+use Rattle.lg_run.specs.declared.setup.Setup.{Setup}
 use Rattle.lg_script.specs.Commands.{CommandView}
 use Rattle.lg_script.specs.Kinds.{kind_of}
 use Rattle.lg_text.specs.Shown.{Answered, IsPlain, IsPlainReply, IsPlace, shown_of}
@@ -31,8 +32,8 @@ pub record ArePlain (scripts : List (List CommandView)) (replies : List (List Re
 -- The document of a run determines the journal and, of each answer in order, its place, its kind and its version.
 abbrev pub OutcomesAreShown : Type 0
 OutcomesAreShown =
-    (scripts others : List (List CommandView)) (replies answers : List (List Reply)) (journal edits : List Place) → ArePlain scripts replies journal → ArePlain others answers edits
-    → outcome_text scripts replies journal ≡ outcome_text others answers edits
+    (look look' : Look) (scripts others : List (List CommandView)) (replies answers : List (List Reply)) (journal edits : List Place) → ArePlain scripts replies journal → ArePlain others answers edits
+    → outcome_text look scripts replies journal ≡ outcome_text look' others answers edits
     → (map shown_of (all_placed 1 scripts replies) ≡ map shown_of (all_placed 1 others answers)) × (journal ≡ edits)
 
 -- fewer than 2^32 scripts, with fewer than 2^32 commands each
@@ -47,7 +48,7 @@ HasPlainTexts replies = AllByRecursion (λ rs. AllByRecursion IsPlainReply rs) r
 -- A document that is that of two runs shows of both the same journal and, of each answer in order, the same place, kind and version.
 abbrev pub RunsAreShown : Type 0
 RunsAreShown =
-    (options options' : Options) (dict dict' : Dictionary) (know know' : Knowledge) (scripts scripts' : List (List CommandView)) (document : List ℕ)
-    (one : IsOutcome options dict know scripts document) (other : IsOutcome options' dict' know' scripts' document)
+    (setup setup' : Setup) (dict dict' : Dictionary) (know know' : Knowledge) (scripts scripts' : List (List CommandView)) (document : List ℕ)
+    (one : IsOutcome setup dict know scripts document) (other : IsOutcome setup' dict' know' scripts' document)
     → HasShortScripts scripts → HasShortScripts scripts' → HasPlainTexts one.replies → HasPlainTexts other.replies
     → (map shown_of (all_placed 1 scripts one.replies) ≡ map shown_of (all_placed 1 scripts' other.replies)) × (one.journal ≡ other.journal)

@@ -1,18 +1,24 @@
--- The form of the words of the command line: `one` or `run`, then options, then operands.
-use Rattle.std.specs.Prelude.{◌≡◌, ℕ, ◌≤◌, Bool, false, not, IsTrue, List, [], ◌∷◌, ◌++◌, codes, nat_eq, bytes_eq, length, All, Option, None, Some, if◌then◌else◌}
+-- The form of the words of the command line: `one` or `run`, then options, then operands; or `gen` and three numbers.
+use Rattle.std.specs.Prelude.{◌≡◌, ◌≢◌, ℕ, ◌<◌, ◌≤◌, ◌^◌, Bool, true, false, not, IsTrue, List, [], ◌∷◌, ◌++◌, codes, nat_eq, bytes_eq, length, All, Option, None, Some, if◌then◌else◌}
 use Rattle.lg_answer.specs.Pages.{default_options}
 use Rattle.lg_answer.specs.declared.options.Nulls.{Nulls}
-use Rattle.lg_answer.specs.declared.options.Nulls.TheVariants.{First, Passing}
 use Rattle.lg_answer.specs.declared.options.Options.{Options}
+use Rattle.lg_answer.specs.declared.options.Nulls.TheVariants.{First, Passing}
+use Rattle.std.specs.List.{AllByRecursion}
+use Rattle.lg_gen.specs.Accepted.{IsMade}
 use Rattle.lg_script.specs.Bounds.{IsCount}
-use Rattle.lg_script.specs.Commands.{IsNumber}
+use Rattle.lg_script.specs.Commands.{IsNumber, IsDigit, written_number}
+use Rattle.lg_text.specs.declared.look.Look.{Look}
+use Rattle.lg_run.specs.declared.setup.Setup.{Setup}
 
 -- what the words ask for
 pub data Task : Type 0 where
-  -- the linkages of one sentence: how they are listed, the name of the dictionary, and the sentence
-  One : Options → List ℕ → List ℕ → Task
-  -- the answers to scripts: how linkages are listed, and the names of the dictionary, of the knowledge and of the scripts
-  Run : Options → List ℕ → List ℕ → List (List ℕ) → Task
+  -- the linkages of one sentence: how they are listed and printed, the name of the dictionary, and the sentence
+  One : Setup → List ℕ → List ℕ → Task
+  -- the answers to scripts: how linkages are listed and printed, and the names of the dictionary, of the knowledge and of the scripts
+  Run : Setup → List ℕ → List ℕ → List (List ℕ) → Task
+  -- the sums of a made session: the seed, and how many words and sentences are made
+  Gen : ℕ → ℕ → ℕ → Task
 
 -- ---- options
 
@@ -21,11 +27,19 @@ pub data WritesNulls : List ℕ → Nulls → Type 0 where
   first : WritesNulls (codes "first") First
   passing : WritesNulls (codes "passing") Passing
 
+-- a word that says whether something is done
+pub data WritesSwitch : List ℕ → Bool → Type 0 where
+  on : WritesSwitch (codes "on") true
+  off : WritesSwitch (codes "off") false
+
 -- the options that are known, each with the form of its value
 pub data IsKnown : (name value : List ℕ) → Type 0 where
   want : (value : List ℕ) (n : ℕ) → IsNumber value n → IsKnown (codes "want") value
   examine : (value : List ℕ) (n : ℕ) → IsNumber value n → IsKnown (codes "examine") value
   nulls : (value : List ℕ) (n : Nulls) → WritesNulls value n → IsKnown (codes "nulls") value
+  prune : (value : List ℕ) (b : Bool) → WritesSwitch value b → IsKnown (codes "prune") value
+  stats : (value : List ℕ) (b : Bool) → WritesSwitch value b → IsKnown (codes "stats") value
+  diagram : (value : List ℕ) (b : Bool) → WritesSwitch value b → IsKnown (codes "diagram") value
 
 -- the value that options give to a name
 abbrev pub value_of : List ℕ → List (List ℕ × List ℕ) → Option (List ℕ)
@@ -51,17 +65,32 @@ abbrev pub GivesNulls : Option (List ℕ) → Nulls → Nulls → Type 0
 GivesNulls None usual n = n ≡ usual
 GivesNulls (Some value) usual n = WritesNulls value n
 
+-- the same of what an option switches
+abbrev pub GivesSwitch : Option (List ℕ) → Bool → Bool → Type 0
+GivesSwitch None usual b = b ≡ usual
+GivesSwitch (Some value) usual b = WritesSwitch value b
+
+-- nothing is printed beside linkages, where nothing else is asked
+abbrev pub default_look : Look
+default_look = record { diagram = false; stats = false }
+
+abbrev pub default_setup : Setup
+default_setup = record { listing = default_options; look = default_look }
+
 -- what options come to
-pub record Gives (settings : List (List ℕ × List ℕ)) (options : Options) : Type 0 where
-  pub want : GivesNumber (value_of (codes "want") settings) default_options.want options.want
-  pub examine : GivesNumber (value_of (codes "examine") settings) default_options.examine options.examine
-  pub nulls : GivesNulls (value_of (codes "nulls") settings) default_options.nulls options.nulls
+pub record Gives (settings : List (List ℕ × List ℕ)) (setup : Setup) : Type 0 where
+  pub want : GivesNumber (value_of (codes "want") settings) default_options.want setup.listing.want
+  pub examine : GivesNumber (value_of (codes "examine") settings) default_options.examine setup.listing.examine
+  pub nulls : GivesNulls (value_of (codes "nulls") settings) default_options.nulls setup.listing.nulls
+  pub prune : GivesSwitch (value_of (codes "prune") settings) default_options.prune setup.listing.prune
+  pub stats : GivesSwitch (value_of (codes "stats") settings) default_look.stats setup.look.stats
+  pub diagram : GivesSwitch (value_of (codes "diagram") settings) default_look.diagram setup.look.diagram
 
 -- the options of a command
-pub record OptionsAre (words : List (List ℕ)) (options : Options) : Type 0 where
+pub record OptionsAre (words : List (List ℕ)) (setup : Setup) : Type 0 where
   pub settings : List (List ℕ × List ℕ)
   pub read : AreOptions words settings
-  pub given : Gives settings options
+  pub given : Gives settings setup
 
 -- ---- operands
 
@@ -80,24 +109,49 @@ SENTENCE = 67108864
 abbrev pub SCRIPTS : ℕ
 SCRIPTS = 64
 
+-- ---- numbers of made input
+
+-- at most so many digits, and at least one, that write a number
+pub record Writes (most : ℕ) (digits : List ℕ) (n : ℕ) : Type 0 where
+  pub some : digits ≢ []
+  pub few : length digits ≤ most
+  pub all_digits : AllByRecursion IsDigit digits
+  pub value : n ≡ written_number 0 digits
+
+-- a seed: up to ten digits that write a number below 2^32
+pub record IsSeed (digits : List ℕ) (n : ℕ) : Type 0 where
+  pub writes : Writes 10 digits n
+  pub small : n < 2 ^ 32
+
+-- how many words or sentences are made: up to six digits that write a number from 1 to 100,000
+pub record IsMadeCount (digits : List ℕ) (n : ℕ) : Type 0 where
+  pub writes : Writes 6 digits n
+  pub made : IsMade n
+
 -- ---- commands
 
--- `one OPTIONS DICT SENTENCE` and `run OPTIONS DICT KNOWLEDGE SCRIPT..`, with 1 to 64 scripts
+-- `one OPTIONS DICT SENTENCE`, `run OPTIONS DICT KNOWLEDGE SCRIPT..` with 1 to 64 scripts, and `gen SEED WORDS SENTENCES`
 pub data TaskIs : List (List ℕ) → Task → Type 0 where
-  one : (front : List (List ℕ)) (options : Options) (dictionary sentence : List ℕ) → OptionsAre front options
+  one : (front : List (List ℕ)) (setup : Setup) (dictionary sentence : List ℕ) → OptionsAre front setup
       → IsTrue (is_operand dictionary) → IsTrue (is_operand sentence) → length sentence ≤ SENTENCE
-      → TaskIs (codes "one" ∷ (front ++ dictionary ∷ sentence ∷ [])) (One options dictionary sentence)
-  run : (front : List (List ℕ)) (options : Options) (dictionary knowledge : List ℕ) (scripts : List (List ℕ)) → OptionsAre front options
+      → TaskIs (codes "one" ∷ (front ++ dictionary ∷ sentence ∷ [])) (One setup dictionary sentence)
+  run : (front : List (List ℕ)) (setup : Setup) (dictionary knowledge : List ℕ) (scripts : List (List ℕ)) → OptionsAre front setup
       → All (λ word. IsTrue (is_operand word)) (dictionary ∷ knowledge ∷ scripts) → 1 ≤ length scripts → length scripts ≤ SCRIPTS
-      → TaskIs (codes "run" ∷ (front ++ dictionary ∷ knowledge ∷ scripts)) (Run options dictionary knowledge scripts)
+      → TaskIs (codes "run" ∷ (front ++ dictionary ∷ knowledge ∷ scripts)) (Run setup dictionary knowledge scripts)
+  gen : (a b c : List ℕ) (seed words sentences : ℕ) → IsSeed a seed → IsMadeCount b words → IsMadeCount c sentences
+      → TaskIs (codes "gen" ∷ a ∷ b ∷ c ∷ []) (Gen seed words sentences)
 
 -- ---- what holds of each task
 
--- its sentence is no longer than a sentence may be, and its scripts are no more than there may be
+-- its sentence is no longer than a sentence may be, its scripts are no more than there may be, and its numbers are those that may be made
 abbrev pub IsShort : Task → Type 0
-IsShort (One options dictionary sentence) = length sentence ≤ SENTENCE
-IsShort (Run options dictionary knowledge scripts) = (1 ≤ length scripts) × (length scripts ≤ SCRIPTS)
+IsShort (One setup dictionary sentence) = length sentence ≤ SENTENCE
+IsShort (Run setup dictionary knowledge scripts) = (1 ≤ length scripts) × (length scripts ≤ SCRIPTS)
+IsShort (Gen seed words sentences) = (seed < 2 ^ 32) × IsMade words × IsMade sentences
 
 -- its numbers are those that an option may set
-abbrev pub AreInRange : Options → Type 0
-AreInRange options = IsCount options.want × IsCount options.examine
+abbrev pub HasCounts : Options → Type 0
+HasCounts options = IsCount options.want × IsCount options.examine
+
+abbrev pub AreInRange : Setup → Type 0
+AreInRange setup = HasCounts setup.listing
