@@ -1,12 +1,12 @@
 -- The lines of a diagram without a line feed.
-use Rattle.std.proofs.Common.{◌≡◌, ℕ, zero, suc, ◌+◌, ◌-◌, ◌/◌, Bool, true, false, cond, eqb, List, [], ◌∷◌, ◌++◌, length, map, replicate, Option, Some, None, slice_index_or, if◌then◌else◌, refl, codes}
+use Rattle.std.proofs.Common.{◌≡◌, ℕ, zero, suc, ◌+◌, ◌-◌, ◌/◌, Bool, false, eqb, List, [], ◌∷◌, ◌++◌, length, map, replicate, Option, Some, None, slice_index_or, if◌then◌else◌, refl, codes}
 use Rattle.std.specs.List.{list_any, filter, zip, range_with_len, AllByRecursion}
 use Rattle.std.proofs.lemmas.Bool.{or_parts, or_from, cond_both}
 use Rattle.lg_gram.specs.Linkages.{Linkage}
 use Rattle.lg_gram.specs.declared.disjunct.Disjunct.{Disjunct}
 use Rattle.lg_gram.specs.declared.linkage.Link.{Link}
 use Rattle.lg_gram.specs.declared.listing.Token.{Token}
-use Rattle.lg_text.specs.Diagrams.{Drawn, cell, cells_line, drawn_of, ends_at, spans, bar, shows_at, first_shown, is_at, is_above, character_at, link_line_at, width}
+use Rattle.lg_text.specs.Diagrams.{Drawn, cell, cells_line, drawn_of, ends_at, spans, bar, first_shown, is_at, is_above, character_at, link_line_at, width}
 use Rattle.lg_text.specs.Shown.{IsOneLine}
 use Rattle.lg_text.proofs.Bytes.{lacks_both}
 use Rattle.lg_text.proofs.PlainTexts.{AreOneLines, AreChosen, label_plain, take_plain}

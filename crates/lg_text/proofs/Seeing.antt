@@ -1,5 +1,5 @@
 -- In the diagram of a good linkage each link is seen.
-use Rattle.std.proofs.Common.{◌≡◌, ℕ, ◌+◌, ◌<◌, ◌≤◌, ◌==◌, ◌&&◌, ◌||◌, nat_lt, Bool, true, false, List, [], ◌∷◌, length, map, get_or, if◌then◌else◌, refl, sym, ap, subst, ◌∙◌, inl, inr, arith, eqb-true, eq-eqb, ne_eqb}
+use Rattle.std.proofs.Common.{◌≡◌, ℕ, ◌<◌, ◌≤◌, ◌==◌, ◌&&◌, ◌||◌, nat_lt, Bool, true, false, List, [], ◌∷◌, length, map, get_or, if◌then◌else◌, refl, sym, ap, subst, ◌∙◌, inl, inr, arith, eqb-true, eq-eqb, ne_eqb}
 use Rattle.std.proofs.lemmas.Bool.{cases_lt, cases_order, cond-true, cond-false, cond_both, or_from}
 use Rattle.std.proofs.lemmas.Bool.Decides.{nat_tests}
 use Rattle.std.proofs.lemmas.List.{length-map, get_or-map}
@@ -9,11 +9,8 @@ use Rattle.std.specs.List.{All, Contains, filter, list_any}
 use Rattle.lg_gram.specs.Linkages.{Linkage, link_length}
 use Rattle.lg_gram.specs.Rules.{Rules, HasLink, rights_of, lefts_of}
 use Rattle.lg_gram.specs.declared.linkage.Link.{Link}
-use Rattle.lg_gram.specs.declared.listing.Token.{Token}
 use Rattle.lg_text.specs.Diagrams.{greatest, cells, start, starts_of, is_inside, height, Drawn, drawn_of, ends_at, spans, shows_at, first_shown, is_at, is_above, character_at}
 use Rattle.lg_text.specs.Seen.{IsEnd, IsSeen, DiagramsShowLinks}
-use Rattle.lg_text.specs.Painted.{no_link}
-use Rattle.lg_text.specs.Texts.{IsPrintable}
 use Rattle.lg_text.proofs.Columns.{all_forward, all_placed, length-cells}
 use Rattle.lg_text.proofs.Greatest.{greatest_bounds}
 use Rattle.lg_text.proofs.Heights.{filtered, height_is}

@@ -26,7 +26,7 @@ use Rattle.lg_gram.specs.declared.reply.Reply.{Reply}
 use Rattle.lg_gram.specs.declared.reply.Reply.TheVariants.{Listed, Beyond, Published, Refused, At, NoListing}
 use Rattle.lg_text.specs.Texts.{line_of, heading_line, word_line, link_line, label_text, choice_pieces, linkage_text, bound_pieces}
 use Rattle.lg_text.specs.Diagrams.{Drawn, cells, starts_of, drawn_of, link_line_at, link_lines, cells_line, highest, line_width, marked_diagram}
-use Rattle.lg_text.specs.Pages.{fail_line, shown_diagram, item_text, shown, page_line, page_text, stats_line, shown_stats, listing_text}
+use Rattle.lg_text.specs.Pages.{fail_line, shown_diagram, item_text, shown, page_line, page_text, shown_stats, listing_text}
 use Rattle.lg_text.specs.declared.look.Look.{Look}
 use Rattle.lg_text.specs.Replies.{kind_word, place_text, cause_pieces, reply_text, edit_line, journal_text}
 use Rattle.lg_text.specs.Shown.{IsOneLine, IsPlainPage, IsPlainReply, IsPlain, Answered, answer_text, closed, begins, HasLines, HasHead, page_words, journal_words, is_digit}
