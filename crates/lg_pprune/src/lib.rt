@@ -2,7 +2,11 @@
 #![tactic(auto)]
 
 pub mod law;
+mod member;
 mod prune;
+mod rounds;
+mod side;
+mod table;
 
 pub use law::pruning_keeps_linkages;
 pub use prune::pprune;
