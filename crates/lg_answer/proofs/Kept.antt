@@ -1,11 +1,10 @@
 -- What is said of the candidates of a problem holds of each problem with the same good linkages.
-use Rattle.std.proofs.Common.{◌≡◌, ◌⊎◌, ◌×◌, ℕ, List, inl, inr}
-use Rattle.std.specs.Prelude.{◌<◌}
+use Rattle.std.proofs.Common.{ℕ, List, inl, inr}
 use Rattle.lg_gram.specs.Linkages.{Linkage, linkage_cmp}
 use Rattle.lg_gram.specs.declared.disjunct.Disjunct.{Disjunct}
 use Rattle.lg_gram.specs.declared.listing.Page.{Page}
 use Rattle.lg_knowread.specs.declared.knowledge.Knowledge.{Knowledge}
-use Rattle.lg_rank.specs.Fronts.{IsFront, IsAll}
+use Rattle.lg_rank.specs.Fronts.{IsFront}
 use Rattle.lg_answer.specs.Candidates.{IsCandidate, AreFirst, AreAll, IsBehind}
 use Rattle.lg_answer.specs.Pages.{HasLinkagesOf, IsPage}
 use Rattle.lg_answer.specs.declared.options.Nulls.{Nulls}
@@ -60,6 +59,6 @@ module _ (positions kept : List (List Disjunct)) (same : HasLinkagesOf positions
         | inr none ↦ inr (all is.front none)
       ])
     ];
-    ends = (λ end. let e = is.ends.0 end in (e.0, (e.1.0, all is.front e.1.1)), λ e. is.ends.1 (e.0, (e.1.0, all_back is.front e.1.1)));
+    ends = (λ end. let e = is.ends.0 end in (e.0, e.1, all is.front e.2), λ e. is.ends.1 (e.0, e.1, all_back is.front e.2));
     next = is.next;
   }
