@@ -135,17 +135,25 @@ supports positions g good = record {
       let x = get_in a.right p w in
       let s = (good.rules.satisfied.on_right i p x.0 (on_side right_list g i p a x.0 e x.1)).some in
       let m = good.rules.matched.joins s.0 s.1 in
-      let o = linked_at left_list refl g.chosen s.0.right s.0.rplace m.1 m.3 in
-      (s.0.right, o.0, s.0.rplace, chosen_in 0 g.chosen s.0.right s.0.right o.0 (omega arith) o.1,
-      link_partners g good.rules (length positions) s.0 s.1 good.belongs.same_length i p s.0.right s.0.rplace a o.0 s.2 s.3 refl refl e o.1);
+      let o = linked_at left_list refl g.chosen s.0.right s.0.rplace m.1 m.3 in (
+        s.0.right,
+        o.0,
+        s.0.rplace,
+        chosen_in 0 g.chosen s.0.right s.0.right o.0 (omega arith) o.1,
+        link_partners g good.rules (length positions) s.0 s.1 good.belongs.same_length i p s.0.right s.0.rplace a o.0 s.2 s.3 refl refl e o.1,
+      );
   left = λ j b q c w.
       let e = chosen_is g j b c in
       let x = get_in b.left q w in
       let s = (good.rules.satisfied.on_left j q x.0 (on_side left_list g j q b x.0 e x.1)).some in
       let m = good.rules.matched.joins s.0 s.1 in
-      let o = linked_at right_list refl g.chosen s.0.left s.0.lplace m.0 m.2 in
-      (s.0.left, o.0, s.0.lplace, chosen_in 0 g.chosen s.0.left s.0.left o.0 (omega arith) o.1,
-      link_partners g good.rules (length positions) s.0 s.1 good.belongs.same_length s.0.left s.0.lplace j q o.0 b refl refl s.2 s.3 o.1 e);
+      let o = linked_at right_list refl g.chosen s.0.left s.0.lplace m.0 m.2 in (
+        s.0.left,
+        o.0,
+        s.0.lplace,
+        chosen_in 0 g.chosen s.0.left s.0.left o.0 (omega arith) o.1,
+        link_partners g good.rules (length positions) s.0 s.1 good.belongs.same_length s.0.left s.0.lplace j q o.0 b refl refl s.2 s.3 o.1 e,
+      );
 }
 
 chosen_alive : (positions : List (List Disjunct)) (g : Linkage) → Good positions g → (i : ℕ) (d : Disjunct) → chosen_at g i ≡ Some d → IsAlive positions i d

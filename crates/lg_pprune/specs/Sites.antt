@@ -38,7 +38,7 @@ Holds table s = (bucket : List Site) × (slice_get table (bucket_of s.connector.
 pub record IsUsed (right : Bool) (n : ℕ) (sides : List Side) (used : List Bool) (k : ℕ) (s : Site) : Type 0 where
   pub side : Side
   pub at : slice_get sides k ≡ Some side
-  pub used : slice_get used k ≡ Some true
+  pub on : slice_get used k ≡ Some true
   pub place : ℕ
   pub within : place < length side.list.now
   pub is : IsSiteOf right n side.position side.list.now place s

@@ -38,7 +38,13 @@ pub(crate) fn members_of<'a>(
 {
     let mut members = Vec::new(alloc);
     for (position, disjuncts) in positions.iter().enumerate() {
-        push_members(position as u32, disjuncts.items(), lefts, rights, &mut members)?;
+        push_members(
+            position as u32,
+            disjuncts.items(),
+            lefts,
+            rights,
+            &mut members,
+        )?;
     }
     Ok(members)
 }

@@ -1,5 +1,5 @@
 //! Rounds of pruning.
-ghost use Rattle.std.specs.Prelude.{◌≡◌, ◌<◌, ◌↔◌, length, IfOk, OnOk, IsTrue, Some, true, slice_get};
+ghost use Rattle.std.specs.Prelude.{◌≡◌, ◌<◌, false, length, slice_index_or, IfOk, OnOk};
 ghost use Rattle.std.specs.List.{All};
 ghost use Rattle.lg_pprune.specs.Members.{AreUsed, IsKnown, KeepsAlive, KeepsSupported, side_on};
 
@@ -67,7 +67,7 @@ fn used(
 }
 
 fn is_true(flags: &[bool], index: usize) -> bool
-    ensures { IsTrue result ↔ (slice_get flags.now index ≡ Some true) }
+    ensures { result ≡ slice_index_or flags.now index false }
 {
     flags.get(index).copied().unwrap_or(false)
 }

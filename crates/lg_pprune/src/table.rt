@@ -23,12 +23,29 @@ pub(crate) fn table_of(
     ensures sites { IfOk result (λ table. IsTableOf right words sides.now used.now (table_in table.items)) }
 {
     let mut table = empty(alloc)?;
+    fill(right, words, sides, used, &mut table)?;
+    Ok(table)
+}
+
+// Adds the sites of the lists that are in use to a table that has none.
+fn fill(
+    right: bool,
+    words: u32,
+    sides: &[Side<'_>],
+    used: &[bool],
+    table: &mut [Vec<Site>],
+) -> Result<(), NoMemory>
+    requires same_length { length used.now ≡ length sides.now }
+    requires long { length table.old ≡ BUCKETS }
+    requires none { All (λ bucket. bucket.items ≡ []) table.old }
+    ensures { OnOk result (IsTableOf right words sides.now used.now (table_in table.new)) }
+{
     for index in 0..sides.len() {
         if used[index] {
-            push_sites(right, words, &sides[index], &mut table)?;
+            push_sites(right, words, &sides[index], table)?;
         }
     }
-    Ok(table)
+    Ok(())
 }
 
 fn empty(alloc: Global) -> Result<Vec<Vec<Site>>, NoMemory>
@@ -87,9 +104,18 @@ pub(crate) fn served(
 {
     let mut good = Vec::new(alloc);
     for index in 0..sides.len() {
-        good.push(used[index] && is_served(right, words, &sides[index], table))?;
+        let is_good = is_good(used[index], right, words, &sides[index], table);
+        good.push(is_good)?;
     }
     Ok(good)
+}
+
+// Whether a list is served, where it is in use.
+fn is_good(used: bool, right: bool, words: u32, side: &Side<'_>, table: &[Vec<Site>]) -> bool
+    requires { length table.now ≡ BUCKETS }
+    ensures { IsTrue used → (IsTrue result ↔ IsServed right words (table_in table.now) side.now.position side.now.list.now) }
+{
+    used && is_served(right, words, side, table)
 }
 
 fn is_served(right: bool, words: u32, side: &Side<'_>, table: &[Vec<Site>]) -> bool
