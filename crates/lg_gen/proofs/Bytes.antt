@@ -1,10 +1,9 @@
 -- Which bytes made texts have, and what a word ends in.
-use Rattle.std.proofs.Common.{◌≡◌, ◌≢◌, ℕ, zero, suc, ◌+◌, ◌/◌, ◌%◌, ◌^◌, ◌<◌, ◌≤◌, Bool, true, false, leb, List, [], ◌∷◌, ◌++◌, codes, refl, ap, sym, ◌∙◌, subst, arith, le-leb, append_assoc, ◌&&◌, true≢false}
+use Rattle.std.proofs.Common.{◌≡◌, ℕ, zero, suc, ◌+◌, ◌/◌, ◌%◌, ◌^◌, ◌<◌, ◌≤◌, Bool, true, leb, List, [], ◌∷◌, ◌++◌, codes, refl, sym, ◌∙◌, subst, arith, le-leb, ◌&&◌}
 use Rattle.std.specs.Fmt.{decimal}
 use Rattle.std.specs.List.{list_all, flat_map, range_with_len, All}
 use Rattle.std.specs.Str.{IsUtf8}
-use Rattle.std.specs.Prelude.{nat_le}
-use Rattle.std.proofs.lemmas.Bool.{and_parts, and_from, both_ways}
+use Rattle.std.proofs.lemmas.Bool.{and_parts, and_from}
 use Rattle.std.proofs.lemmas.Fmt.{decimal_by_steps}
 use Rattle.std.proofs.lemmas.List.Folds.{list_all-append}
 use Rattle.std.proofs.lemmas.List.Elements.{All-nil, All-cons}
@@ -66,7 +65,7 @@ pub decimal_digits : (n : ℕ) → n < 2 ^ 64 → AreDigits (decimal n)
 decimal_digits = decimal_by_steps (λ n ds. AreDigits ds)
     (λ n h. record { all = and_from (is_digit (48 + n)) true (is_digit_at n h) refl; front = []; last = 48 + n; is = refl; last_is = is_digit_at n h })
     (λ n ds h front. let digit = is_digit_at (n % 10) (mod_below n 10 (omega arith)) in
-      record { all = all_both is_digit ds ((48 + n % 10) ∷ []) front.all (and_from (is_digit (48 + n % 10)) true digit refl); front = ds; last = 48 + n % 10; is = refl; last_is = digit })
+    record { all = all_both is_digit ds ((48 + n % 10) ∷ []) front.all (and_from (is_digit (48 + n % 10)) true digit refl); front = ds; last = 48 + n % 10; is = refl; last_is = digit })
 
 pub word_is_printed : (n : ℕ) → n < 2 ^ 64 → list_all is_printed (word n) ≡ true
 word_is_printed n h = all_wider is_digit is_printed digit_is_printed (decimal n) (decimal_digits n h).all

@@ -1,13 +1,13 @@
 -- The tokens that an entry begins with.
-use Rattle.std.proofs.Common.{◌≡◌, ℕ, zero, suc, ◌+◌, ◌-◌, ◌<◌, Bool, true, List, [], ◌∷◌, ◌++◌, refl, ap, sym, ◌∙◌, subst, arith, append_assoc, append-nil}
+use Rattle.std.proofs.Common.{◌≡◌, ℕ, zero, suc, ◌+◌, ◌-◌, ◌<◌, true, List, [], ◌∷◌, ◌++◌, refl, ap, sym, ◌∙◌, subst, arith, append_assoc, append-nil}
 use Rattle.std.specs.List.{list_all}
 use Rattle.std.proofs.lemmas.Bool.{and_parts}
 use Rattle.lg_lex.specs.declared.marks.Class.{Class}
 use Rattle.lg_lex.specs.declared.marks.Class.TheVariants.{Other}
 use Rattle.lg_lex.specs.declared.marks.Marks.TheVariants.{Dictionary}
 use Rattle.lg_lex.specs.Classes.{class_of}
-use Rattle.lg_lex.specs.Lexing.{lex, lex_step, between, in_plain, plained}
-use Rattle.lg_lex.specs.Tokens.{Token, sign, plain}
+use Rattle.lg_lex.specs.Lexing.{lex, lex_step, between, in_plain}
+use Rattle.lg_lex.specs.Tokens.{sign, plain}
 use Rattle.lg_gen.proofs.Bytes.{is_digit}
 
 class_at : (k : ℕ) → k < 10 → class_of Dictionary (48 + k) ≡ Other

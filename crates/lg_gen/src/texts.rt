@@ -60,7 +60,6 @@ fn write_entry(alloc: Global, out: &mut Vec<u8>, number: u32) -> Result<(), NoMe
 }
 
 fn expression_of(remainder: u32) -> &'static [u8]
-    requires { remainder < 4 }
     ensures { result.now ≡ expression remainder }
 {
     match remainder {

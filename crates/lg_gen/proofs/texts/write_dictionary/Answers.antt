@@ -1,7 +1,5 @@
-use Rattle.std.proofs.Common.{◌≡◌, ◌++◌, ◌<◌, rules}
+use Rattle.std.proofs.Common.{◌<◌, rules}
 use Rattle.lg_gen.proofs.Steps.{piece_more, entry_left}
-use Rattle.lg_gen.proofs.Lexed.{digits_and_colon}
-use Rattle.lg_gen.proofs.Lengths.{entries_are_short}
 use Rattle.lg_gen.proofs.texts.write_dictionary.Goals as goal
 
 pub loop-number-preserved : goal.loop-number-preserved

@@ -1,4 +1,4 @@
-use Rattle.std.proofs.Common.{◌≡◌, ◌++◌, ◌-◌, ◌+◌, ◌≤◌, ◌<◌, ℕ, rules, ap, sym, ◌∙◌}
+use Rattle.std.proofs.Common.{◌++◌, ◌-◌, ◌+◌, ◌≤◌, ◌<◌, ℕ, rules, ap, sym, ◌∙◌}
 use Rattle.lg_gen.specs.Made.{drawn_words, after}
 use Rattle.lg_gen.proofs.Steps.{piece_more, nothing_more, draw_left, no_draw_left, after_left, none_after}
 use Rattle.lg_gen.proofs.texts.write_drawn.Goals as goal

@@ -1,4 +1,4 @@
-use Rattle.std.proofs.Common.{◌≡◌, ◌++◌, ◌<◌, ◌-◌, ◌+◌, ℕ, ap, ◌∙◌, rules}
+use Rattle.std.proofs.Common.{◌++◌, ◌<◌, ◌-◌, ◌+◌, ℕ, ap, ◌∙◌, rules}
 use Rattle.lg_gen.specs.Made.{sentence_lines}
 use Rattle.lg_gen.proofs.Steps.{piece_more, sentence_left}
 use Rattle.lg_gen.proofs.texts.write_script.Goals as goal
