@@ -1,5 +1,5 @@
 -- A made dictionary: its entries, one after another.
-use Rattle.std.proofs.Common.{◌≡◌, ◌≢◌, ℕ, zero, suc, ◌+◌, ◌%◌, ◌^◌, ◌<◌, ◌≤◌, Bool, true, false, cond, List, [], ◌∷◌, ◌++◌, codes, refl, ap, sym, ◌∙◌, subst, arith, append_assoc, Option, None, Some}
+use Rattle.std.proofs.Common.{◌≡◌, ◌≢◌, ℕ, zero, suc, ◌+◌, ◌%◌, ◌^◌, ◌<◌, ◌≤◌, Bool, true, false, cond, leb, List, [], ◌∷◌, ◌++◌, codes, refl, ap, sym, ◌∙◌, subst, arith, append_assoc, Option, None, Some}
 use Rattle.std.specs.Fmt.{decimal}
 use Rattle.std.specs.List.{flat_map, range_with_len}
 use Rattle.std.specs.Cmp.Lexicographic.{same_text as text_same}
@@ -11,9 +11,11 @@ use Rattle.std.proofs.Math.Bool.{and-false}
 use Rattle.lg_gram.specs.declared.entry.Item.{Item}
 use Rattle.lg_gram.specs.declared.entry.ItemKind.TheVariants.{Word}
 use Rattle.lg_gram.specs.Filled.{Formulas, filled}
-use Rattle.lg_gram.specs.Limits.{LEVEL}
-use Rattle.lg_gram.specs.Measured.{IsSmall}
+use Rattle.lg_gram.specs.Limits.{LEVEL, FORMULA_NODES, FORMULA_CHOICES, SIDE}
+use Rattle.lg_gram.specs.Measured.{IsSmall, longest_side}
+use Rattle.lg_gram.specs.Measures.{node_count, choice_count}
 use Rattle.lg_gram.specs.RawTrees.{RawTree}
+use Rattle.lg_gram.specs.Trees.{Tree}
 use Rattle.lg_lex.specs.declared.marks.Marks.{Marks}
 use Rattle.lg_lex.specs.declared.marks.Marks.TheVariants.{Dictionary}
 use Rattle.lg_lex.specs.Lexing.{lex, between}
@@ -68,11 +70,14 @@ pub record IsRead (known : List ℕ → Known) (at : ℕ) (bytes rest : List ℕ
   pub is : run Token part (rules_by known) start (lex Dictionary between at bytes) ≡ read expr level (lex Dictionary between end rest)
   pub small : (formulas : Formulas) → IsSmall (filled formulas expr)
 
+is_small : (t : Tree) → leb (node_count t) FORMULA_NODES ≡ true → leb (choice_count t) FORMULA_CHOICES ≡ true → leb (longest_side t) SIDE ≡ true → IsSmall t
+is_small t nodes choices side = record { nodes = leb-true _ _ nodes; choices = leb-true _ _ choices; side = leb-true _ _ side }
+
 expression_is_read : (k : ℕ) → k < 4 → (known : List ℕ → Known) (at : ℕ) (rest : List ℕ) → IsRead known at (32 ∷ ((expression k ++ codes ";\n") ++ rest)) rest
-expression_is_read zero h known at rest = record { expr = _; level = _; end = _; is = refl; small = λ formulas. record { nodes = leb-true _ _ refl; choices = leb-true _ _ refl; side = leb-true _ _ refl } }
-expression_is_read (suc zero) h known at rest = record { expr = _; level = _; end = _; is = refl; small = λ formulas. record { nodes = leb-true _ _ refl; choices = leb-true _ _ refl; side = leb-true _ _ refl } }
-expression_is_read (suc (suc zero)) h known at rest = record { expr = _; level = _; end = _; is = refl; small = λ formulas. record { nodes = leb-true _ _ refl; choices = leb-true _ _ refl; side = leb-true _ _ refl } }
-expression_is_read (suc (suc (suc zero))) h known at rest = record { expr = _; level = _; end = _; is = refl; small = λ formulas. record { nodes = leb-true _ _ refl; choices = leb-true _ _ refl; side = leb-true _ _ refl } }
+expression_is_read zero h known at rest = record { expr = _; level = _; end = _; is = refl; small = λ formulas. is_small _ refl refl refl }
+expression_is_read (suc zero) h known at rest = record { expr = _; level = _; end = _; is = refl; small = λ formulas. is_small _ refl refl refl }
+expression_is_read (suc (suc zero)) h known at rest = record { expr = _; level = _; end = _; is = refl; small = λ formulas. is_small _ refl refl refl }
+expression_is_read (suc (suc (suc zero))) h known at rest = record { expr = _; level = _; end = _; is = refl; small = λ formulas. is_small _ refl refl refl }
 expression_is_read (suc (suc (suc (suc k)))) h known at rest = absurd (omega arith)
 
 -- ---- the tokens of an entry

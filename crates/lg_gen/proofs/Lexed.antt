@@ -1,7 +1,8 @@
 -- The tokens that an entry begins with.
-use Rattle.std.proofs.Common.{◌≡◌, ℕ, zero, suc, ◌+◌, ◌-◌, ◌<◌, true, List, [], ◌∷◌, ◌++◌, refl, ap, sym, ◌∙◌, subst, arith, append_assoc, append-nil}
+use Rattle.std.proofs.Common.{◌≡◌, ℕ, ◌+◌, true, List, [], ◌∷◌, ◌++◌, ap, sym, ◌∙◌, arith, append_assoc, append-nil}
 use Rattle.std.specs.List.{list_all}
 use Rattle.std.proofs.lemmas.Bool.{and_parts}
+use Rattle.std.proofs.lemmas.Bool.Decides.{nat_tests}
 use Rattle.lg_lex.specs.declared.marks.Class.{Class}
 use Rattle.lg_lex.specs.declared.marks.Class.TheVariants.{Other}
 use Rattle.lg_lex.specs.declared.marks.Marks.TheVariants.{Dictionary}
@@ -10,24 +11,8 @@ use Rattle.lg_lex.specs.Lexing.{lex, lex_step, between, in_plain}
 use Rattle.lg_lex.specs.Tokens.{sign, plain}
 use Rattle.lg_gen.proofs.Bytes.{is_digit}
 
-class_at : (k : ℕ) → k < 10 → class_of Dictionary (48 + k) ≡ Other
-class_at zero h = refl
-class_at (suc zero) h = refl
-class_at (suc (suc zero)) h = refl
-class_at (suc (suc (suc zero))) h = refl
-class_at (suc (suc (suc (suc zero)))) h = refl
-class_at (suc (suc (suc (suc (suc zero))))) h = refl
-class_at (suc (suc (suc (suc (suc (suc zero)))))) h = refl
-class_at (suc (suc (suc (suc (suc (suc (suc zero))))))) h = refl
-class_at (suc (suc (suc (suc (suc (suc (suc (suc zero)))))))) h = refl
-class_at (suc (suc (suc (suc (suc (suc (suc (suc (suc zero))))))))) h = refl
-class_at (suc (suc (suc (suc (suc (suc (suc (suc (suc (suc k)))))))))) h = absurd (omega arith)
-
 digit_class : (b : ℕ) → is_digit b ≡ true → class_of Dictionary b ≡ Other
-digit_class b e =
-    let within : b - 48 < 10 = grind (arith) in
-    let place : 48 + (b - 48) ≡ b = grind (arith) in
-    subst (λ (c : ℕ). class_of Dictionary c ≡ Other) place (class_at (b - 48) within)
+digit_class b e = grind (arith, nat_tests)
 
 -- digits after some of a plain token, up to a colon
 pub digits_and_colon : (start at : ℕ) (w ds rest : List ℕ) → list_all is_digit ds ≡ true
