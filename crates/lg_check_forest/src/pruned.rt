@@ -27,7 +27,7 @@ fn are_partners(positions: usize, right: Site<'_>, left: Site<'_>) -> bool {
         && left.rest <= right.position.saturating_add(1)
 }
 
-fn site(position: usize, place: usize, connectors: &[Connector]) -> Option<Site<'_>> {
+fn site_at(position: usize, place: usize, connectors: &[Connector]) -> Option<Site<'_>> {
     let connector = connectors.get(place)?;
     Some(Site {
         position,
@@ -44,7 +44,7 @@ fn has_left_partner(problem: &Problem, right: Site<'_>) -> bool {
         for disjunct in positions[j].items() {
             let connectors = disjunct.left.items();
             for q in 0..connectors.len() {
-                if let Some(left) = site(j, q, connectors) {
+                if let Some(left) = site_at(j, q, connectors) {
                     if are_partners(positions.len(), right, left) {
                         return true;
                     }
@@ -61,7 +61,7 @@ fn has_right_partner(problem: &Problem, left: Site<'_>) -> bool {
         for disjunct in positions[i].items() {
             let connectors = disjunct.right.items();
             for p in 0..connectors.len() {
-                if let Some(right) = site(i, p, connectors) {
+                if let Some(right) = site_at(i, p, connectors) {
                     if are_partners(positions.len(), right, left) {
                         return true;
                     }
@@ -76,7 +76,7 @@ fn has_right_partner(problem: &Problem, left: Site<'_>) -> bool {
 fn is_supported(problem: &Problem, position: usize, disjunct: &Disjunct) -> bool {
     let right = disjunct.right.items();
     for p in 0..right.len() {
-        if let Some(site) = site(position, p, right) {
+        if let Some(site) = site_at(position, p, right) {
             if !has_left_partner(problem, site) {
                 return false;
             }
@@ -84,7 +84,7 @@ fn is_supported(problem: &Problem, position: usize, disjunct: &Disjunct) -> bool
     }
     let left = disjunct.left.items();
     for q in 0..left.len() {
-        if let Some(site) = site(position, q, left) {
+        if let Some(site) = site_at(position, q, left) {
             if !has_right_partner(problem, site) {
                 return false;
             }
@@ -194,7 +194,7 @@ fn as_its_definition_from_400(rt: HostRuntime) -> Result<(), Fail> {
 #[test]
 fn over_an_unlinked_word(rt: HostRuntime) -> Result<(), Fail> {
     let alloc = rt.alloc();
-    let pruned = pprune(alloc, problem(alloc, &["A|B", "C", "a|c"])?)?;
+    let pruned = pprune(alloc, problem(alloc, &["A|B", "C", "a|d"])?)?;
     match pruned.positions() {
         [first, second, third] => {
             assert!(rt; first.items().len() == 1 && second.items().is_empty() && third.items().len() == 1);
