@@ -1,6 +1,7 @@
 //! Power pruning: the disjuncts of a problem that can have all their links, if others that can have theirs are there.
 #![tactic(auto)]
 
+mod hints;
 pub mod law;
 mod member;
 mod prune;
