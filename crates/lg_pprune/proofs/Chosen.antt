@@ -1,13 +1,13 @@
 -- The disjuncts that a good linkage chooses support themselves.
-use Rattle.std.proofs.Common.{◌≡◌, ℕ, zero, suc, ◌+◌, ◌-◌, ◌<◌, ◌≤◌, List, [], ◌∷◌, length, get_or, refl, sym, ap, ◌∙◌, subst, ◌↔◌, Option, Some, None, inl, inr, Contains, arith}
+use Rattle.std.proofs.Common.{◌≡◌, ℕ, zero, suc, ◌+◌, ◌-◌, ◌<◌, ◌≤◌, List, [], ◌∷◌, length, get_or, refl, sym, ap, ◌∙◌, subst, Option, Some, None, inl, inr, Contains, arith}
 use Rattle.std.specs.List.{slice_get}
 use Rattle.std.proofs.lemmas.Option.{same_Some, slice_get_within}
 use Rattle.lg_gram.specs.Connectors.{Connector}
 use Rattle.lg_gram.specs.Linkages.{Linkage}
-use Rattle.lg_gram.specs.Rules.{chosen_at, left_list, right_list, rights_of, lefts_of, HasLink, Rules, Good, Belongs}
+use Rattle.lg_gram.specs.Rules.{chosen_at, left_list, right_list, rights_of, lefts_of, HasLink, Rules, Good}
 use Rattle.lg_gram.specs.declared.disjunct.Disjunct.{Disjunct}
 use Rattle.lg_gram.specs.declared.linkage.Link.{Link}
-use Rattle.lg_pprune.specs.Alive.{ArePartners, SupportsItself, IsAlive, IsPruned, PruningKeepsLinkages}
+use Rattle.lg_pprune.specs.Alive.{ArePartners, SupportsItself, IsAlive, PruningKeepsLinkages}
 use Rattle.lg_pprune.proofs.Elements.{contains_none, contains_cases, contains_later, get_in, pair_same}
 
 -- the linked positions from i on, with their disjuncts

@@ -1,5 +1,5 @@
 -- What is left when no round takes a member away is the pruned problem.
-use Rattle.std.proofs.Common.{◌≡◌, ◌==◌, ◌≢◌, ℕ, zero, suc, ◌+◌, ◌-◌, ◌<◌, ◌≤◌, List, [], ◌∷◌, ◌++◌, length, get_or, take, map, refl, sym, ap, ◌∙◌, subst, ◌↔◌, inl, inr, Bool, true, false, cond, ◌&&◌, Contains, append_assoc, append-nil, add-zero, arith}
+use Rattle.std.proofs.Common.{◌≡◌, ◌==◌, ℕ, zero, suc, ◌+◌, ◌-◌, ◌<◌, ◌≤◌, List, [], ◌∷◌, ◌++◌, length, get_or, take, map, refl, sym, ap, ◌∙◌, subst, inl, inr, Bool, true, false, ◌&&◌, Contains, append_assoc, append-nil, arith}
 use Rattle.std.specs.List.{All, filter, sum_by, range_with_len, AllByRecursion}
 use Rattle.std.specs.List.Sorted.{IsStrictlySortedBy}
 use Rattle.std.specs.declared.cmp.Ordering.{Ordering}
@@ -12,11 +12,11 @@ use Rattle.std.proofs.lemmas.List.Sums.{sum_by-cons}
 use Rattle.lg_gram.specs.Disjuncts.{disjunct_cmp}
 use Rattle.lg_gram.specs.Problems.{FitsProblem, IsPosition, IsProblem}
 use Rattle.lg_gram.specs.declared.disjunct.Disjunct.{Disjunct}
-use Rattle.lg_pprune.specs.Alive.{SupportsItself, IsAlive, IsPruned}
+use Rattle.lg_pprune.specs.Alive.{SupportsItself, IsPruned}
 use Rattle.lg_pprune.specs.Members.{seen_of, all_from, row_at, AreMembers, KeepsAlive, IsSupported}
 use Rattle.lg_pprune.specs.declared.side.Side.{Side}
 use Rattle.lg_pprune.specs.declared.member.Member.{Member}
-use Rattle.lg_pprune.proofs.Elements.{contains_none, contains_here, filter_in, filter_out, map_in, map_out}
+use Rattle.lg_pprune.proofs.Elements.{contains_none, filter_in, filter_out, map_in, map_out}
 use Rattle.lg_pprune.proofs.Settling.{filter_le, filter_twice}
 
 abbrev at_position : ℕ → Disjunct → ℕ × Disjunct

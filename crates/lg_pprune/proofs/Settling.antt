@@ -1,12 +1,11 @@
 -- What rounds keep.
-use Rattle.std.proofs.Common.{◌≡◌, ℕ, suc, ◌+◌, ◌<◌, ◌≤◌, List, [], ◌∷◌, length, map, refl, sym, ap, ◌∙◌, subst, ◌↔◌, Bool, true, false, cond, ◌&&◌, inl, inr, Contains, arith}
-use Rattle.std.specs.List.{All, filter}
-use Rattle.std.proofs.lemmas.Bool.{cases_Bool, and_from, and_parts}
+use Rattle.std.proofs.Common.{◌≡◌, ℕ, ◌+◌, ◌≤◌, List, [], ◌∷◌, length, map, refl, sym, ap, ◌∙◌, subst, Bool, true, false, cond, ◌&&◌, inl, inr, Contains, arith}
+use Rattle.std.specs.List.{filter}
+use Rattle.std.proofs.lemmas.Bool.{cases_Bool}
 use Rattle.lg_gram.specs.declared.disjunct.Disjunct.{Disjunct}
-use Rattle.lg_pprune.specs.Alive.{ArePartners}
-use Rattle.lg_pprune.specs.Members.{seen_of, IsSupported, IsSupportedOn, KeepsSupported, KeepsAlive}
+use Rattle.lg_pprune.specs.Members.{seen_of, IsSupported, KeepsSupported, KeepsAlive}
 use Rattle.lg_pprune.specs.declared.member.Member.{Member}
-use Rattle.lg_pprune.proofs.Elements.{contains_here, contains_later, filter_in, filter_out, map_in, map_out}
+use Rattle.lg_pprune.proofs.Elements.{filter_in, filter_out, map_in, map_out}
 
 -- a larger set supports more
 pub supported_more : (n : ℕ) (S T : List (ℕ × Disjunct)) → ((i : ℕ) (d : Disjunct) → Contains S (i, d) → Contains T (i, d)) → (i : ℕ) (a : Disjunct) → IsSupported n S i a → IsSupported n T i a

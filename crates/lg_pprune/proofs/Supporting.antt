@@ -1,5 +1,5 @@
 -- What a round finds: which members have partners among all.
-use Rattle.std.proofs.Common.{◌≡◌, ℕ, zero, suc, ◌+◌, ◌-◌, ◌<◌, ◌≤◌, List, [], ◌∷◌, ◌++◌, length, get_or, set, take, map, replicate, refl, sym, ap, ◌∙◌, subst, ◌↔◌, Some, ◌⊎◌, inl, inr, Bool, true, false, not, cond, ◌&&◌, Contains, arith}
+use Rattle.std.proofs.Common.{◌≡◌, ℕ, zero, suc, ◌+◌, ◌-◌, ◌<◌, ◌≤◌, List, [], ◌∷◌, ◌++◌, length, get_or, set, take, map, replicate, refl, sym, ap, ◌∙◌, subst, ◌↔◌, Some, inl, inr, Bool, true, false, not, cond, ◌&&◌, Contains, arith}
 use Rattle.std.specs.List.{slice_get, All, filter}
 use Rattle.std.proofs.lemmas.Bool.{cases_eq, and_from, and_parts}
 use Rattle.std.proofs.lemmas.Option.{same_Some, slice_get_within}
@@ -8,12 +8,12 @@ use Rattle.std.proofs.lemmas.List.Elements.{All-contains, Contains-append_left, 
 use Rattle.lg_gram.specs.Connectors.{Connector, Match}
 use Rattle.lg_gram.specs.declared.disjunct.Disjunct.{Disjunct}
 use Rattle.lg_pprune.specs.Alive.{ArePartners}
-use Rattle.lg_pprune.specs.Sites.{IsSiteOf, Meets, MeetsOn, Holds, IsUsed, IsTableOf, IsServed, AreServed}
-use Rattle.lg_pprune.specs.Members.{list_on, side_on, seen_of, IsSideAt, IsKnown, AreUsed, PartnersOn, IsSupported, IsSupportedOn, KeepsSupported}
+use Rattle.lg_pprune.specs.Sites.{IsSiteOf, Meets, MeetsOn, Holds, IsTableOf, IsServed, AreServed}
+use Rattle.lg_pprune.specs.Members.{list_on, side_on, seen_of, IsSideAt, IsKnown, AreUsed, PartnersOn, IsSupportedOn, KeepsSupported}
 use Rattle.lg_pprune.specs.declared.side.Side.{Side}
 use Rattle.lg_pprune.specs.declared.side.Site.{Site}
 use Rattle.lg_pprune.specs.declared.member.Member.{Member}
-use Rattle.lg_pprune.proofs.Elements.{contains_none, get_in, get_set_same, get_set_other, filter_in, filter_out, map_in, map_out}
+use Rattle.lg_pprune.proofs.Elements.{contains_none, get_in, get_set_same, get_set_other, map_in, map_out}
 
 none_true : (n k : ℕ) → slice_get (replicate n false) k ≡ Some true → ⊥
 none_true zero k e = absurd cc

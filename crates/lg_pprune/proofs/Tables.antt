@@ -1,5 +1,5 @@
 -- What tables of sites hold.
-use Rattle.std.proofs.Common.{◌≡◌, ℕ, zero, suc, ◌+◌, ◌-◌, ◌<◌, ◌≤◌, List, [], ◌∷◌, ◌++◌, length, length-append, get_or, set, map, refl, sym, ap, ◌∙◌, subst, ◌↔◌, Some, ◌⊎◌, inl, inr, Bool, true, false, cond, Contains, arith}
+use Rattle.std.proofs.Common.{◌≡◌, ℕ, ◌+◌, ◌<◌, ◌≤◌, List, [], ◌∷◌, ◌++◌, length, length-append, get_or, set, refl, sym, ap, ◌∙◌, subst, ◌↔◌, Some, ◌⊎◌, inl, inr, Bool, true, false, Contains, arith}
 use Rattle.std.specs.Global.{Vec}
 use Rattle.std.specs.List.{slice_get, All, Any}
 use Rattle.std.proofs.lemmas.Bool.{cases_eq, cases_lt}
@@ -7,7 +7,7 @@ use Rattle.std.proofs.lemmas.Option.{same_Some, slice_get-get_or, slice_get_with
 use Rattle.std.proofs.lemmas.List.{length-set, length-map, map-set}
 use Rattle.std.proofs.lemmas.List.Elements.{All-contains, Contains-append_left, Contains-push, Contains-push_cases}
 use Rattle.lg_gram.specs.Connectors.{Connector}
-use Rattle.lg_pprune.specs.Sites.{IsSiteOf, Meets, MeetsOn, bucket_of, Holds, IsUsed, IsTableOf, HasPartner, IsServed, AreServed, AddsSites, table_in}
+use Rattle.lg_pprune.specs.Sites.{IsSiteOf, MeetsOn, bucket_of, Holds, IsUsed, IsTableOf, HasPartner, IsServed, AreServed, AddsSites, table_in}
 use Rattle.lg_pprune.specs.declared.side.Side.{Side}
 use Rattle.lg_pprune.specs.declared.side.Site.{Site}
 use Rattle.lg_pprune.proofs.Elements.{contains_none, get_contains, get_set_same, get_set_other, get_front, get_last, get_map, get_map_out}

@@ -100,12 +100,7 @@ fn number_of<'a>(
 }
 
 // The number of a list of a position, where the hints find one.
-fn known(
-    sides: &[Side<'_>],
-    hints: &Hints<'_>,
-    position: u32,
-    list: &[Connector],
-) -> Option<usize>
+fn known(sides: &[Side<'_>], hints: &Hints<'_>, position: u32, list: &[Connector]) -> Option<usize>
     ensures { IfSome result (λ k. IsSideAt sides.now k position list.now) }
 {
     let last = hints.last();

@@ -1,5 +1,4 @@
-use Rattle.std.proofs.Common.{◌≡◌, [], get_or, ◌∙◌, sym, subst}
-use Rattle.std.proofs.lemmas.List.{get_or_default}
+use Rattle.std.proofs.Common.{subst}
 use Rattle.lg_pprune.specs.Members.{AddsMembers}
 use Rattle.lg_pprune.proofs.Adding.{members_more}
 use Rattle.lg_pprune.proofs.member.members_of.Goals as goal

@@ -1,4 +1,4 @@
-use Rattle.std.proofs.Common.{◌∙◌, refl, subst}
+use Rattle.std.proofs.Common.{refl, subst}
 use Rattle.lg_pprune.specs.Members.{IsSideAt}
 use Rattle.lg_pprune.proofs.Adding.{adds_more}
 use Rattle.lg_pprune.proofs.member.push_members.Goals as goal

@@ -2,7 +2,7 @@ use Rattle.std.proofs.Common.{true, false, length, subst, rules}
 use Rattle.std.proofs.lemmas.Fn.{filter_same}
 use Rattle.lg_pprune.specs.Sites.{IsTableOf, AreServed, table_in}
 use Rattle.lg_pprune.specs.Members.{AreUsed}
-use Rattle.lg_pprune.proofs.Supporting.{round_keeps, is_good, side_below}
+use Rattle.lg_pprune.proofs.Supporting.{round_keeps, is_good}
 use Rattle.lg_pprune.proofs.rounds.round.Goals as goal
 
 pub returns : goal.returns

@@ -1,4 +1,3 @@
-use Rattle.std.proofs.Common.{vec_len}
 use Rattle.lg_pprune.proofs.Settling.{SettledSoFar}
 use Rattle.lg_pprune.proofs.rounds.settle.Given as goal
 

@@ -1,6 +1,3 @@
-use Rattle.std.proofs.Common.{arith}
-use Rattle.std.proofs.lemmas.List.Elements.{All-get_or}
-use Rattle.lg_pprune.specs.Members.{side_on}
 use Rattle.lg_pprune.proofs.Supporting.{used_more, below_at}
 use Rattle.lg_pprune.proofs.rounds.used.Goals as goal
 
