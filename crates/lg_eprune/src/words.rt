@@ -15,8 +15,11 @@ pub struct WordExpr {
 impl Model for WordExpr {
     ghost use Rattle.lg_gram.specs.Trees.{tree_of};
     ghost use Rattle.lg_eprune.specs.Live.{WordTree};
+    ghost use Rattle.lg_eprune.specs.TreeCode.{coded_word};
 
     ghost Value = { WordTree };
+
+    ghost coded = { coded_word };
 
     ghost view = { λ e. record { word = e.word; tree = tree_of e.formula } };
 }
@@ -30,8 +33,11 @@ pub struct WordExprs {
 impl Model for WordExprs {
     ghost use Rattle.std.specs.Prelude.{List};
     ghost use Rattle.lg_eprune.specs.Live.{WordTree};
+    ghost use Rattle.lg_eprune.specs.TreeCode.{coded_words};
 
     ghost Value = { List WordTree };
+
+    ghost coded = { coded_words };
 
     ghost view = { λ t. t.items.items };
 }
@@ -69,8 +75,11 @@ pub struct PositionExprs {
 impl Model for PositionExprs {
     ghost use Rattle.std.specs.Prelude.{List};
     ghost use Rattle.lg_eprune.specs.Live.{WordTree};
+    ghost use Rattle.lg_eprune.specs.TreeCode.{coded_positions};
 
     ghost Value = { List (List WordTree) };
+
+    ghost coded = { coded_positions };
 
     ghost view = { λ t. t.items.items };
 }
