@@ -97,40 +97,43 @@ module _ {A B S : Type 0} where
       (cases_Bool (pointwise nat_eq text key.items))
 
   -- one more connector at a key
-  pub listed_push : (old new : IndexMap (Vec ℕ A) (Vec Connector B) S) (key : Vec ℕ A) (list start : Vec Connector B) (found : Option (Vec Connector B)) (c : Connector)
-      → Updates key_eq old new key (Some list) → found ≡ get_in key_eq old key → UnwrapsOrElse found (λ x. (x.items ≡ []) × (vec_len x ≡ 0)) start → list.items ≡ start.items ++ c ∷ [] → key.items ≡ c.caps
-      → Lists old (c ∷ []) new
-  listed_push old new key list start found c h is from more named caps d =
+  pub pushed_at : (old new : IndexMap (Vec ℕ A) (Vec Connector B) S) (key : Vec ℕ A) (list start : Vec Connector B) (found : Option (Vec Connector B)) (c : Connector)
+      → Updates key_eq old new key (Some list) → found ≡ get_in key_eq old key → UnwrapsOrElse found (λ x. (x.items ≡ []) × (vec_len x ≡ 0)) start → list.items ≡ start.items ++ c ∷ []
+      → (text : List ℕ) → listed_at new text ≡ (if pointwise nat_eq text key.items then listed_at old text ++ c ∷ [] else listed_at old text)
+  pushed_at old new key list start found c h is from more text =
       let items : list.items ≡ listed_at old key.items ++ c ∷ [] = more ∙ ap (λ l. l ++ c ∷ []) (unwrapped found start from ∙ ap (λ o. option_map_or (λ list. list.items) o []) is) in
-      let after = ap (λ o. option_map_or (λ (list : Vec Connector B). list.items) o []) (at_updates old new key (Some list) h caps) in
-      ⊎_elim (λ same. hit caps d same items after) (λ other. miss caps d other after) (cases_Bool (pointwise nat_eq caps key.items))
-    where
-      hit : (caps : List ℕ) (d : Connector) → pointwise nat_eq caps key.items ≡ true → list.items ≡ listed_at old key.items ++ c ∷ []
-          → listed_at new caps ≡ option_map_or (λ list. list.items) (cond (pointwise nat_eq caps key.items) (Some list) (get_by (λ k. pointwise nat_eq caps k.items) old)) []
-          → Contains (listed_at new caps) d ↔ (Contains (listed_at old caps) d ⊎ (Contains (c ∷ []) d × (d.caps ≡ caps)))
-      hit caps d same items after =
-          let key_is : caps ≡ key.items = (bytes_decides caps key.items).0 same in
-          let now : listed_at new caps ≡ listed_at old caps ++ c ∷ [] =
-          after ∙ ap (λ b. option_map_or (λ (list : Vec Connector B). list.items) (cond b (Some list) (get_by (λ k. pointwise nat_eq caps k.items) old)) []) same ∙ items ∙ ap (λ t. listed_at old t ++ c ∷ []) (sym key_is) in (
-            λ m. ⊎_elim (λ before. inl before)
-            (λ added. inr (added, ap (λ x. x.caps) (sym (⊎_elim (λ e. e) (λ later. absurd (contains_none d later)) (contains_cases c [] d added))) ∙ sym named ∙ sym key_is))
-            (Contains-append_cases (listed_at old caps) (c ∷ []) d (subst (λ xs. Contains xs d) now m)),
-            λ m. subst (λ xs. Contains xs d) (sym now)
-            (⊎_elim (λ before. Contains-append_left (listed_at old caps) (c ∷ []) d before) (λ added. Contains-append_right (listed_at old caps) (c ∷ []) d added.0) m))
+      ap (λ o. option_map_or (λ (l : Vec Connector B). l.items) o []) (at_updates old new key (Some list) h text)
+      ∙ ⊎_elim
+      (λ same. ap (λ b. option_map_or (λ (l : Vec Connector B). l.items) (cond b (Some list) (get_by (λ k. pointwise nat_eq text k.items) old)) []) same ∙ items
+      ∙ ap (λ t. listed_at old t ++ c ∷ []) (sym ((bytes_decides text key.items).0 same))
+      ∙ sym (cond-true (pointwise nat_eq text key.items) (listed_at old text ++ c ∷ []) (listed_at old text) same))
+      (λ other. ap (λ b. option_map_or (λ (l : Vec Connector B). l.items) (cond b (Some list) (get_by (λ k. pointwise nat_eq text k.items) old)) []) other
+      ∙ sym (cond-false (pointwise nat_eq text key.items) (listed_at old text ++ c ∷ []) (listed_at old text) other))
+      (cases_Bool (pointwise nat_eq text key.items))
 
-      miss : (caps : List ℕ) (d : Connector) → pointwise nat_eq caps key.items ≡ false
-          → listed_at new caps ≡ option_map_or (λ list. list.items) (cond (pointwise nat_eq caps key.items) (Some list) (get_by (λ k. pointwise nat_eq caps k.items) old)) []
-          → Contains (listed_at new caps) d ↔ (Contains (listed_at old caps) d ⊎ (Contains (c ∷ []) d × (d.caps ≡ caps)))
-      miss caps d other after =
-          let now : listed_at new caps ≡ listed_at old caps =
-          after ∙ ap (λ b. option_map_or (λ (list : Vec Connector B). list.items) (cond b (Some list) (get_by (λ k. pointwise nat_eq caps k.items) old)) []) other in (
-            λ m. inl (subst (λ xs. Contains xs d) now m),
-            λ m. ⊎_elim (λ before. subst (λ xs. Contains xs d) (sym now) before)
-            (λ added. (
-            let e : c ≡ d = ⊎_elim (λ e. e) (λ later. absurd (contains_none d later)) (contains_cases c [] d added.0) in
-            let key_is : caps ≡ key.items = sym added.1 ∙ ap (λ x. x.caps) (sym e) ∙ sym named in
-            absurd (true≢false (sym ((bytes_decides caps key.items).1 key_is) ∙ other))))
-            m)
+  pub lists_pushed : (old new : IndexMap (Vec ℕ A) (Vec Connector B) S) (key : List ℕ) (c : Connector)
+      → ((text : List ℕ) → listed_at new text ≡ (if pointwise nat_eq text key then listed_at old text ++ c ∷ [] else listed_at old text)) → key ≡ c.caps → Lists old (c ∷ []) new
+  lists_pushed old new key c is named caps d =
+      ⊎_elim
+      (λ same. (
+      let key_is : caps ≡ key = (bytes_decides caps key).0 same in
+      let now : listed_at new caps ≡ listed_at old caps ++ c ∷ [] = is caps ∙ cond-true (pointwise nat_eq caps key) (listed_at old caps ++ c ∷ []) (listed_at old caps) same in (
+        λ m. ⊎_elim (λ before. inl before) (λ added. inr (added, ap (λ x. x.caps) (sym (only_one d added)) ∙ sym named ∙ sym key_is))
+        (Contains-append_cases (listed_at old caps) (c ∷ []) d (subst (λ xs. Contains xs d) now m)),
+        λ m. subst (λ xs. Contains xs d) (sym now)
+        (⊎_elim (λ before. Contains-append_left (listed_at old caps) (c ∷ []) d before) (λ added. Contains-append_right (listed_at old caps) (c ∷ []) d added.0) m))))
+      (λ other. (
+      let now : listed_at new caps ≡ listed_at old caps = is caps ∙ cond-false (pointwise nat_eq caps key) (listed_at old caps ++ c ∷ []) (listed_at old caps) other in (
+        λ m. inl (subst (λ xs. Contains xs d) now m),
+        λ m. ⊎_elim (λ before. subst (λ xs. Contains xs d) (sym now) before)
+        (λ added. (
+        let key_is : caps ≡ key = sym added.1 ∙ ap (λ x. x.caps) (sym (only_one d added.0)) ∙ sym named in
+        absurd (true≢false (sym ((bytes_decides caps key).1 key_is) ∙ other))))
+        m)))
+      (cases_Bool (pointwise nat_eq caps key))
+    where
+      only_one : (d : Connector) → Contains (c ∷ []) d → c ≡ d
+      only_one d m = ⊎_elim (λ e. e) (λ later. absurd (contains_none d later)) (contains_cases c [] d m)
 
 -- at first nothing was seen
 pub nothing_seen : {A B S : Type 0} (table : IndexMap (Vec ℕ A) (Vec Connector B) S) → table.entries ≡ [] → IsSeen table []

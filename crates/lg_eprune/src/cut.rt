@@ -1,7 +1,7 @@
 //! Formulas without the leaves that nothing can be linked to.
 ghost use Rattle.std.specs.Prelude.{◌≡◌, IfOk};
 ghost use Rattle.std.specs.Option.{option_map};
-ghost use Rattle.lg_gram.specs.Trees.{leaf, tree_of, trees_in, expr_items};
+ghost use Rattle.lg_gram.specs.Trees.{leaf, one_of, tree_of, trees_in, expr_items};
 ghost use Rattle.lg_eprune.specs.Cuts.{is_met, is_whole, are_whole, any_of, cut, cut_all, cut_any, cut_word, cut_words, do_lose, has_member};
 
 use crate::seen::{Seen, is_met};
@@ -130,8 +130,14 @@ fn any_of(members: Exprs) -> Option<Expr>
     if members.items().is_empty() {
         None
     } else {
-        Some(Expr::Or(members))
+        Some(one_of(members))
     }
+}
+
+fn one_of(members: Exprs) -> Expr
+    ensures { tree_of result ≡ one_of (trees_in (expr_items members)) }
+{
+    Expr::Or(members)
 }
 
 // The members, if something is left of each.

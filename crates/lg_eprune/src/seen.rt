@@ -1,5 +1,6 @@
 //! The connectors that a sweep has seen.
-ghost use Rattle.std.specs.Prelude.{◌≡◌, ◌↔◌, [], ◌∷◌, ◌++◌, IsTrue, OnOk, if◌then◌else◌};
+ghost use Rattle.std.specs.Prelude.{◌≡◌, ◌↔◌, [], ◌∷◌, ◌++◌, IsTrue, OnOk, List, ℕ, nat_eq, if◌then◌else◌};
+ghost use Rattle.std.specs.Cmp.Lexicographic.{pointwise};
 ghost use Rattle.std.specs.List.{Contains, list_any};
 ghost use Rattle.std.specs.Bool.{beq};
 ghost use Rattle.lg_gram.specs.Trees.{tree_of, trees_in, expr_items};
@@ -119,7 +120,22 @@ fn see(alloc: Global, seen: &mut Seen, connector: Connector) -> Result<(), NoMem
         return Ok(());
     }
     let key = connector.caps().to_vec(alloc)?;
-    seen.entry(key)?.or_default().push(connector)?;
+    list(seen, key, connector)?;
+    Ok(())
+}
+
+// Adds a connector at these capital letters.
+fn list(seen: &mut Seen, key: Vec<u8>, connector: Connector) -> Result<(), NoMemory>
+    ensures { OnOk result ((caps : List ℕ) → listed_at seen.new caps ≡ (if pointwise nat_eq caps key.items then listed_at seen.old caps ++ connector ∷ [] else listed_at seen.old caps)) }
+{
+    push(seen.entry(key)?.or_default(), connector)?;
+    Ok(())
+}
+
+fn push(list: &mut Vec<Connector>, connector: Connector) -> Result<(), NoMemory>
+    ensures { OnOk result (list.new.items ≡ list.old.items ++ connector ∷ []) }
+{
+    list.push(connector)?;
     Ok(())
 }
 

@@ -29,10 +29,11 @@ loop-words-preserved c =
     let lost : loses ≡ do_lose (is_met right at.seen) c.in-Some.words = (let same = c.in_ok-left.loses-is in let less = c.in_ok-left.ensures.less in cc) in
     let from : c.in_ok-left.field-0.words ≡ kept = (let same = c.in_ok-left.left-is in cc) in
     let lists : Lists at.seen (word_leaves right kept) c.see_words.new.seen = subst (λ ws. Lists at.seen (word_leaves right ws) c.see_words.new.seen) (c.items.ensures ∙ from) c.in_ok-see_words.ensures in
+    let same_flag : c.in_ok-left.field-0.is_less ≡ loses = (let same = c.in_ok-left.loses-is in cc) in
     let flag : c.if-is_less.is_less ≡ (at.is_less || loses) =
     elim c.if-is_less.branch [
-      | then-is_less w ↦ w.is_less-is ∙ ap (λ b. b || loses) (sym w.if-is_less)
-      | else-is_less w ↦ w.is_less-is ∙ ap (λ b. b || loses) (sym w.if-is_less)
+      | then-is_less w ↦ w.is_less-is ∙ w.if-is_less.true ∙ ap (λ b. b || loses) (sym w.if-is_less.true)
+      | else-is_less w ↦ w.is_less-is ∙ same_flag ∙ ap (λ b. b || loses) (sym w.if-is_less.false)
     ] in
     let before = subst (λ xs. Told right at.seen at.kept.items at.is_less xs c.args.positions.items) steps at.invariant.told in
     let after = told_more right at.seen c.see_words.new.seen at.kept.items (into_iter_items c.next.new.self) c.args.positions.items c.in-Some.words kept at.is_less loses is lost lists before in
