@@ -40,5 +40,5 @@ loop-words-preserved c =
     record {
       counted = omega (arith, at.invariant.counted);
       told = subst (λ b. Told right c.see_words.new.seen c.push.new.self.items b (into_iter_items c.next.new.self) c.args.positions.items) (sym flag)
-          (subst (λ xs. Told right c.see_words.new.seen xs (at.is_less || loses) (into_iter_items c.next.new.self) c.args.positions.items) (sym c.in_ok-push.ensures.items) after);
+          (subst (λ xs. Told right c.see_words.new.seen xs (at.is_less || loses) (into_iter_items c.next.new.self) c.args.positions.items) (sym (c.in_ok-push.ensures.items ∙ ap (λ k. at.kept.items ++ k ∷ []) from)) after);
     }
