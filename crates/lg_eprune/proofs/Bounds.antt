@@ -1,14 +1,13 @@
 -- A formula that was cut is no larger: it stays within the limits, and a sweep that takes something makes it smaller.
-use Rattle.std.proofs.Common.{◌≡◌, ℤ, ℕ, zero, suc, ◌+◌, ◌*◌, ◌<◌, ◌≤◌, max, ◌⊎◌, inl, inr, refl, sym, ap, ◌∙◌, Bool, true, false, ◌&&◌, cond, not, Option, Some, None, IfSome, List, [], ◌∷◌, if◌then◌else◌, true≢false, arith}
+use Rattle.std.proofs.Common.{◌≡◌, ℤ, ℕ, ◌*◌, ◌<◌, ◌≤◌, inl, inr, refl, sym, ap, Bool, true, false, ◌&&◌, Option, Some, None, IfSome, if◌then◌else◌, true≢false, arith}
 use Rattle.std.proofs.Math.Nat.{mul-le-mul_left}
-use Rattle.std.specs.Bool.{beq}
 use Rattle.std.specs.Option.{option_map}
 use Rattle.std.proofs.lemmas.Bool.{cases_Bool, and_parts, and_from, and_cases}
 use Rattle.lg_gram.specs.Connectors.{Connector}
 use Rattle.lg_gram.specs.Trees.{Tree, Trees, empty, leaf, all_of, one_of, priced, no_trees, tree}
 use Rattle.lg_gram.specs.Measures.{node_count, nodes_in, choice_count, product_in, choices_in, side_count, side_in, longest_in, depth_of, depth_in}
 use Rattle.lg_gram.specs.Formulas.{IsFormula, is_small_price, prices_are_small, prices_in_are_small}
-use Rattle.lg_eprune.specs.Cuts.{any_of, both, in_front, cut, cut_all, cut_any, has_member, is_whole, are_whole}
+use Rattle.lg_eprune.specs.Cuts.{any_of, both, in_front, cut, cut_all, cut_any, is_whole, are_whole}
 
 record Within (old new : Tree) : Type 0 where
   nodes : node_count new ≤ node_count old

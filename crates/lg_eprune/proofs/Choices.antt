@@ -1,14 +1,13 @@
 -- The choices of a formula that was cut: those of the whole formula all of whose connectors pass.
-use Rattle.std.proofs.Common.{◌≡◌, ℤ, ◌+ℤ◌, pos, ◌⊎◌, inl, inr, refl, sym, ap, ◌∙◌, subst, Bool, true, false, ◌&&◌, cond, Option, Some, None, List, [], ◌∷◌, ◌++◌, map, Contains, if◌then◌else◌, true≢false}
+use Rattle.std.proofs.Common.{◌≡◌, ℤ, pos, inl, inr, refl, sym, ap, ◌∙◌, Bool, true, false, ◌&&◌, cond, Option, Some, None, List, [], ◌∷◌, ◌++◌, map, Contains, if◌then◌else◌}
 use Rattle.std.specs.List.{filter, flat_map, list_all}
-use Rattle.std.specs.Bool.{beq}
 use Rattle.std.specs.Option.{option_map}
 use Rattle.std.proofs.lemmas.Bool.{cases_Bool, and_parts, and_from}
-use Rattle.std.proofs.lemmas.List.Elements.{filter-append, Contains-append_left, Contains-append_right, Contains-append_cases}
+use Rattle.std.proofs.lemmas.List.Elements.{filter-append}
 use Rattle.std.proofs.lemmas.List.Folds.{list_all-append}
 use Rattle.lg_gram.specs.Connectors.{Connector}
 use Rattle.lg_gram.specs.Trees.{Tree, Trees, empty, leaf, all_of, one_of, priced, no_trees, tree}
-use Rattle.lg_gram.specs.Measures.{Choice, no_connectors, single, joined, dearer, choices_of, picks_of, choices_of_any}
+use Rattle.lg_gram.specs.Measures.{Choice, single, joined, dearer, choices_of, picks_of, choices_of_any}
 use Rattle.lg_eprune.specs.Live.{HasConnector}
 use Rattle.lg_eprune.specs.Cuts.{any_of, both, in_front, cut, cut_all, cut_any}
 use Rattle.lg_eprune.proofs.Elements.{contains_cases, contains_none, contains_here, contains_later}

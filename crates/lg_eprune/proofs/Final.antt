@@ -1,5 +1,5 @@
 -- What is left after the last round is what is live.
-use Rattle.std.proofs.Common.{◌≡◌, ℕ, zero, suc, ◌+◌, ◌-◌, ◌<◌, ◌≤◌, ◌⊎◌, inl, inr, refl, sym, ap, ◌∙◌, subst, Bool, true, false, ◌||◌, not, Option, Some, None, List, [], ◌∷◌, ◌++◌, length, reverse, get_or, slice_get, slice_index_or, Contains, true≢false, arith}
+use Rattle.std.proofs.Common.{◌≡◌, ℕ, zero, suc, ◌+◌, ◌-◌, ◌<◌, inl, inr, refl, sym, ap, ◌∙◌, subst, Bool, true, false, not, List, [], ◌∷◌, ◌++◌, length, reverse, get_or, slice_index_or, Contains, true≢false, arith}
 use Rattle.std.specs.Bool.{beq}
 use Rattle.std.specs.List.{list_any}
 use Rattle.std.proofs.lemmas.Bool.{cases_Bool, cases_lt, or_left, or_right}
@@ -9,12 +9,12 @@ use Rattle.std.proofs.lemmas.List.Folds.{list_any_at}
 use Rattle.std.proofs.lemmas.Option.{slice_get_within, slice_get-get_or, get_or_from_slice_get}
 use Rattle.lg_gram.specs.Connectors.{Connector, Match}
 use Rattle.lg_gram.specs.Measures.{Choice, choices_of}
-use Rattle.lg_eprune.specs.Live.{WordTree, HasConnector, IsChoiceAt, SupportsItself, IsLive, IsLiveChoice, AreNarrowed, Narrows}
-use Rattle.lg_eprune.specs.Cuts.{cut_words, do_lose, do_join, leaves, stays, swept, sweep_loses, word_leaves}
+use Rattle.lg_eprune.specs.Live.{WordTree, HasConnector, IsChoiceAt, SupportsItself, IsLive, IsLiveChoice, AreNarrowed}
+use Rattle.lg_eprune.specs.Cuts.{cut_words, do_lose, do_join, stays, swept, sweep_loses, word_leaves}
 use Rattle.lg_eprune.proofs.Elements.{contains_none}
-use Rattle.lg_eprune.proofs.Choices.{passes, passes_if}
+use Rattle.lg_eprune.proofs.Choices.{passes_if}
 use Rattle.lg_eprune.proofs.Kept.{Kept, kept_itself, kept_cut, kept_finds, kept_from, narrowed}
-use Rattle.lg_eprune.proofs.Leaves.{beq_same, beq_itself, has_leaf, some_choice, leaf_stands}
+use Rattle.lg_eprune.proofs.Leaves.{has_leaf, some_choice, leaf_stands}
 use Rattle.lg_eprune.proofs.Matches.{joins_left, joins_right, join_first, join_second, side_right, side_left}
 use Rattle.lg_eprune.proofs.Numbered.{numbered, number_in, numbered_out}
 use Rattle.lg_eprune.proofs.Sweeps.{size, sweep_keeps, sweep_no_more, sweep_less, size-reverse, length-swept, swept_whole, served, word_leaf, leaf_of_word, word_leaf_side, word_whole}
@@ -62,10 +62,10 @@ module _ (positions : List (List WordTree)) where
         elim (cases_Bool (beq c.right right)) [
           | inl same ↦ or_left (beq c.right right) (list_any (λ d. do_join d c) seen) same
           | inr other ↦ (
-            let (j, d, before, also, side, joins) = partners n c live (not_right c.right right other) in
-            let (k, within, at) = has j d before also side in
-            or_right (beq c.right right) (list_any (λ d. do_join d c) seen)
-            (list_any_at (λ d. do_join d c) seen k d within (ap (λ x. do_join x c) at ∙ joins)))
+              let (j, d, before, also, side, joins) = partners n c live (not_right c.right right other) in
+              let (k, within, at) = has j d before also side in
+              or_right (beq c.right right) (list_any (λ d. do_join d c) seen)
+              (list_any_at (λ d. do_join d c) seen k d within (ap (λ x. do_join x c) at ∙ joins)))
         ]
 
     pub swept_kept : (n : ℕ) (seen : List Connector) → HasSeen n seen → (xs : List (List WordTree)) → AreKept f n xs → AreKept f n (swept right seen xs)
@@ -82,9 +82,9 @@ module _ (positions : List (List WordTree)) where
             elim (cases_lt k n) [
               | inl earlier ↦ Contains-append_left seen (word_leaves right kept) d (has k d earlier live side)
               | inr later ↦ (
-                let same : k ≡ n = omega arith in
-                let leaf = live_leaf (f n) kept here d (subst (λ x. IsLive positions (f x) d) same live) in
-                Contains-append_right seen (word_leaves right kept) d (subst (λ r. Contains (word_leaves r kept) d) side leaf))
+                  let same : k ≡ n = omega arith in
+                  let leaf = live_leaf (f n) kept here d (subst (λ x. IsLive positions (f x) d) same live) in
+                  Contains-append_right seen (word_leaves right kept) d (subst (λ r. Contains (word_leaves r kept) d) side leaf))
             ]
 
   kept_at : (f : ℕ → ℕ) (n : ℕ) (xs : List (List WordTree)) → AreKept f n xs → (k : ℕ) → k < length xs → IsKept (f (n + k)) (get_or xs k [])
@@ -96,9 +96,11 @@ module _ (positions : List (List WordTree)) where
   kept_each : (f : ℕ → ℕ) (n : ℕ) (xs : List (List WordTree)) → ((k : ℕ) → k < length xs → IsKept (f (n + k)) (get_or xs k [])) → AreKept f n xs
   kept_each f n [] h = tt
   kept_each f n (ws ∷ rest) h =
-      let first : n + 0 ≡ n = omega arith in
-      (subst (λ x. IsKept (f x) ws) first (h 0 (omega arith)), kept_each f (suc n) rest (λ k l. (
-        let same : n + suc k ≡ suc n + k = omega arith in subst (λ x. IsKept (f x) (get_or rest k [])) same (h (suc k) (omega arith)))))
+      let first : n + 0 ≡ n = omega arith in (
+        subst (λ x. IsKept (f x) ws) first (h 0 (omega arith)),
+        kept_each f (suc n) rest (λ k l. (
+            let same : n + suc k ≡ suc n + k = omega arith in subst (λ x. IsKept (f x) (get_or rest k [])) same (h (suc k) (omega arith)))),
+      )
 
   first_at : (f : ℕ → ℕ) (xs : List (List WordTree)) → AreKept f 0 xs → (k : ℕ) → k < length xs → IsKept (f k) (get_or xs k [])
   first_at f xs h k l = let same : 0 + k ≡ k = omega arith in subst (λ x. IsKept (f x) (get_or xs k [])) same (kept_at f 0 xs h k l)
@@ -237,11 +239,11 @@ module _ (positions : List (List WordTree)) where
       elim place [
         | inl none ↦ absurd (contains_none d none)
         | inr (j, before, is) ↦ (
-          let small : j < length now = omega arith in
-          let later : k < length now - 1 - j = omega arith in
-          let here : Contains (word_leaves false (get_or now (length now - 1 - j) [])) d =
-          subst (λ ws. Contains (word_leaves false ws) d) (get_or-reverse now j [] small) (subst (λ xs. Contains (word_leaves false (get_or xs j [])) d) same is) in
-          (length now - 1 - j, d, later, here, joins_right d c joins side))
+            let small : j < length now = omega arith in
+            let later : k < length now - 1 - j = omega arith in
+            let here : Contains (word_leaves false (get_or now (length now - 1 - j) [])) d =
+            subst (λ ws. Contains (word_leaves false ws) d) (get_or-reverse now j [] small) (subst (λ xs. Contains (word_leaves false (get_or xs j [])) d) same is) in
+            (length now - 1 - j, d, later, here, joins_right d c joins side))
       ]
 
   module _ (now : List (List WordTree)) (left : AreLeft now) (closed : IsClosed now) where
@@ -275,29 +277,29 @@ module _ (positions : List (List WordTree)) where
     supports : SupportsItself positions (numbered connectors_at 0 now)
     supports = record {
       right = λ i c h side. (
-        let (j, d, after, is, match) = closed.right i c (subst (λ r. Contains (word_leaves r (get_or now i [])) c) side (out_of i c h)) in
-        (j, d, into false j d is, after, match));
+          let (j, d, after, is, match) = closed.right i c (subst (λ r. Contains (word_leaves r (get_or now i [])) c) side (out_of i c h)) in
+          (j, d, into false j d is, after, match));
       left = λ j d h side. (
-        let (i, c, before, is, match) = closed.left j d (subst (λ r. Contains (word_leaves r (get_or now j [])) d) side (out_of j d h)) in
-        (i, c, into true i c is, before, match));
+          let (i, c, before, is, match) = closed.left j d (subst (λ r. Contains (word_leaves r (get_or now j [])) d) side (out_of j d h)) in
+          (i, c, into true i c is, before, match));
       used = λ i c h. (
-        let m = out_of i c h in
-        let within = place_within c.right now i c m in
-        let (w, is, leaf) = word_leaf c.right (get_or now i []) c m in
-        let (test, whole) = closed.whole i in
-        let (choice, chosen, has) = leaf_stands test w.tree (word_whole test (get_or now i []) whole w is) c.right c leaf in
-        (choice, choice_at i w choice within is chosen, has, choice_in i w choice is chosen));
+          let m = out_of i c h in
+          let within = place_within c.right now i c m in
+          let (w, is, leaf) = word_leaf c.right (get_or now i []) c m in
+          let (test, whole) = closed.whole i in
+          let (choice, chosen, has) = leaf_stands test w.tree (word_whole test (get_or now i []) whole w is) c.right c leaf in
+          (choice, choice_at i w choice within is chosen, has, choice_in i w choice is chosen));
     }
 
     pub are_narrowed : AreNarrowed positions now
     are_narrowed = record {
       same_length = left.long;
       each = λ i l. (
-        let long = left.long in
-        let (test, whole) = closed.whole i in
-        narrowed positions i (olds_at i) (get_or now i []) (first_at onward now left.each i (omega arith))
-        (λ w choice is chosen d has. (numbered connectors_at 0 now, supports, choice_in i w choice is chosen d has))
-        (λ w is. some_choice test w.tree (word_whole test (get_or now i []) whole w is)));
+          let long = left.long in
+          let (test, whole) = closed.whole i in
+          narrowed positions i (olds_at i) (get_or now i []) (first_at onward now left.each i (omega arith))
+          (λ w choice is chosen d has. (numbered connectors_at 0 now, supports, choice_in i w choice is chosen d has))
+          (λ w is. some_choice test w.tree (word_whole test (get_or now i []) whole w is)));
     }
 
   -- a round whose sweep back takes nothing is the last

@@ -1,5 +1,5 @@
 -- Members that are cut one after another.
-use Rattle.std.proofs.Common.{◌≡◌, ◌∙◌, refl, sym, ap, Option, Some, None, List, [], ◌∷◌, ◌++◌, map}
+use Rattle.std.proofs.Common.{◌≡◌, refl, ap, Option, Some, None, List, [], ◌∷◌, ◌++◌}
 use Rattle.std.specs.Option.{option_map}
 use Rattle.lg_gram.specs.Trees.{Tree, Trees, no_trees, tree, trees_of}
 use Rattle.lg_eprune.specs.Cuts.{both}

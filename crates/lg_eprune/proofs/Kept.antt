@@ -1,12 +1,12 @@
 -- Words of which some choices went, and no live one.
-use Rattle.std.proofs.Common.{◌≡◌, ℕ, ◌⊎◌, inl, inr, refl, sym, ap, ◌∙◌, subst, Bool, true, false, Option, Some, None, List, [], ◌∷◌, Contains}
+use Rattle.std.proofs.Common.{◌≡◌, ℕ, inl, inr, refl, sym, subst, Bool, true, Option, Some, None, List, [], ◌∷◌, Contains}
 use Rattle.std.specs.List.{filter}
 use Rattle.std.specs.Option.{option_map}
 use Rattle.lg_gram.specs.Connectors.{Connector}
 use Rattle.lg_gram.specs.Trees.{Tree}
 use Rattle.lg_gram.specs.Measures.{Choice, choices_of}
-use Rattle.lg_eprune.specs.Live.{WordTree, IsLiveChoice, KeepsLive, Narrows, nothing, kept, dropped}
-use Rattle.lg_eprune.specs.Cuts.{cut, cut_word, cut_words, with_word}
+use Rattle.lg_eprune.specs.Live.{WordTree, IsLiveChoice, Narrows, nothing, kept, dropped}
+use Rattle.lg_eprune.specs.Cuts.{cut, cut_words, with_word}
 use Rattle.lg_eprune.proofs.Elements.{contains_cases, contains_none, contains_here, contains_later, filter_in, filter_out}
 use Rattle.lg_eprune.proofs.Choices.{passes, left_choices, cut_choices}
 

@@ -1,15 +1,14 @@
 -- The leaves of a formula and the connectors of its choices.
-use Rattle.std.proofs.Common.{◌≡◌, ℤ, pos, ◌⊎◌, inl, inr, refl, sym, ap, ◌∙◌, subst, Bool, true, false, ◌&&◌, cond, not, Option, Some, None, List, [], ◌∷◌, ◌++◌, map, Contains, if◌then◌else◌, true≢false}
-use Rattle.std.specs.List.{filter, flat_map, list_all}
+use Rattle.std.proofs.Common.{◌≡◌, ℤ, pos, ◌⊎◌, inl, inr, refl, sym, ap, ◌∙◌, subst, Bool, true, false, List, [], ◌∷◌, map, Contains, if◌then◌else◌, true≢false}
 use Rattle.std.specs.Bool.{beq}
-use Rattle.std.proofs.lemmas.Bool.{cases_Bool, and_parts, and_from}
+use Rattle.std.proofs.lemmas.Bool.{cases_Bool, and_parts}
 use Rattle.std.proofs.lemmas.List.Elements.{Contains-append_left, Contains-append_right, Contains-append_cases}
 use Rattle.lg_gram.specs.Connectors.{Connector}
 use Rattle.lg_gram.specs.Trees.{Tree, Trees, empty, leaf, all_of, one_of, priced, no_trees, tree}
 use Rattle.lg_gram.specs.Measures.{Choice, no_connectors, single, joined, dearer, choices_of, picks_of, choices_of_any}
 use Rattle.lg_eprune.specs.Live.{HasConnector}
 use Rattle.lg_eprune.specs.Cuts.{is_whole, are_whole, leaves, leaves_in}
-use Rattle.lg_eprune.proofs.Elements.{contains_cases, contains_none, contains_here, contains_later, map_in, map_out, flat_in, flat_out}
+use Rattle.lg_eprune.proofs.Elements.{contains_cases, contains_none, contains_here, map_in, map_out, flat_in, flat_out}
 
 pub beq_same : (a b : Bool) → beq a b ≡ true → a ≡ b
 beq_same true true h = refl
@@ -178,13 +177,13 @@ mutual
       let (whole, others) = and_parts (is_whole test t) (are_whole test ts) h in
       elim (Contains-append_cases (leaves right t) (leaves_in right ts) c m) [
         | inl here ↦ (
-          let (a, first, has) = leaf_stands test t whole right c here in
-          let (b, rest) = some_pick test ts others in
-          (joined a b, flat_in (λ a. map (joined a) (picks_of ts)) (choices_of t) a (joined a b) first (map_in (joined a) (picks_of ts) b rest), has_first a b c has))
+            let (a, first, has) = leaf_stands test t whole right c here in
+            let (b, rest) = some_pick test ts others in
+            (joined a b, flat_in (λ a. map (joined a) (picks_of ts)) (choices_of t) a (joined a b) first (map_in (joined a) (picks_of ts) b rest), has_first a b c has))
         | inr later ↦ (
-          let (a, first) = some_choice test t whole in
-          let (b, rest, has) = leaf_picked test ts others right c later in
-          (joined a b, flat_in (λ a. map (joined a) (picks_of ts)) (choices_of t) a (joined a b) first (map_in (joined a) (picks_of ts) b rest), has_second a b c has))
+            let (a, first) = some_choice test t whole in
+            let (b, rest, has) = leaf_picked test ts others right c later in
+            (joined a b, flat_in (λ a. map (joined a) (picks_of ts)) (choices_of t) a (joined a b) first (map_in (joined a) (picks_of ts) b rest), has_second a b c has))
       ]
 
   leaf_stands_any : (test : Connector → Bool) (ts : Trees) → are_whole test ts ≡ true → (right : Bool) (c : Connector) → Contains (leaves_in right ts) c → Stands (choices_of_any ts) c
@@ -193,11 +192,11 @@ mutual
       let (whole, others) = and_parts (is_whole test t) (are_whole test ts) h in
       elim (Contains-append_cases (leaves right t) (leaves_in right ts) c m) [
         | inl here ↦ (
-          let (choice, is, has) = leaf_stands test t whole right c here in
-          (choice, Contains-append_left (choices_of t) (choices_of_any ts) choice is, has))
+            let (choice, is, has) = leaf_stands test t whole right c here in
+            (choice, Contains-append_left (choices_of t) (choices_of_any ts) choice is, has))
         | inr later ↦ (
-          let (choice, is, has) = leaf_stands_any test ts others right c later in
-          (choice, Contains-append_right (choices_of t) (choices_of_any ts) choice is, has))
+            let (choice, is, has) = leaf_stands_any test ts others right c later in
+            (choice, Contains-append_right (choices_of t) (choices_of_any ts) choice is, has))
       ]
 
 -- each leaf of a whole formula passes

@@ -1,14 +1,12 @@
 -- The connectors of a good linkage support themselves.
-use Rattle.std.proofs.Common.{◌≡◌, ℕ, ◌+◌, ◌<◌, inl, inr, refl, sym, ap, ◌∙◌, subst, true, false, Option, Some, None, List, [], ◌∷◌, ◌++◌, length, get_or, slice_get, slice_index_or, Contains, arith}
+use Rattle.std.proofs.Common.{◌≡◌, ℕ, ◌<◌, inl, inr, refl, sym, ap, ◌∙◌, subst, true, false, Option, Some, None, List, ◌++◌, slice_get, Contains, arith}
 use Rattle.std.proofs.lemmas.List.Elements.{Contains-append_left, Contains-append_right, Contains-append_cases}
 use Rattle.std.proofs.lemmas.Option.{slice_get_within, slice_get-get_or, get_or_from_slice_get}
 use Rattle.lg_gram.specs.Connectors.{Connector, Match}
 use Rattle.lg_gram.specs.Disjuncts.{choice_of}
 use Rattle.lg_gram.specs.Linkages.{Linkage}
-use Rattle.lg_gram.specs.Measures.{Choice}
-use Rattle.lg_gram.specs.Rules.{Good, chosen_at, left_list, right_list, HasLink, lefts_of, rights_of}
+use Rattle.lg_gram.specs.Rules.{Good, chosen_at, left_list, right_list, lefts_of, rights_of}
 use Rattle.lg_gram.specs.declared.disjunct.Disjunct.{Disjunct}
-use Rattle.lg_gram.specs.declared.linkage.Link.{Link}
 use Rattle.lg_eprune.specs.Live.{WordTree, HasConnector, IsChoiceAt, SupportsItself, IsLiveChoice, AreOf}
 use Rattle.lg_eprune.proofs.Elements.{contains_none}
 use Rattle.lg_eprune.proofs.Leaves.{right_of_choice, left_of_choice}
@@ -87,8 +85,8 @@ module _ (words : List (List WordTree)) (positions : List (List Disjunct)) (are 
     right = right_partner;
     left = left_partner;
     used = λ i c h. (
-      let (d, is, has) = uses_out i c h in
-      (choice_of d, at i d is, has, λ e m. uses_in i e (d, is, m)));
+        let (d, is, has) = uses_out i c h in
+        (choice_of d, at i d is, has, λ e m. uses_in i e (d, is, m)));
   }
 
   pub linked_live : (i : ℕ) (d : Disjunct) → chosen_at g i ≡ Some d → IsLiveChoice words i (choice_of d)

@@ -1,5 +1,5 @@
 -- The table of what was seen.
-use Rattle.std.proofs.Common.{◌≡◌, ℕ, ◌⊎◌, ◌↔◌, inl, inr, refl, sym, ap, ◌∙◌, subst, Bool, true, false, ◌||◌, if◌then◌else◌, Option, Some, None, List, [], ◌∷◌, ◌++◌, Contains, true≢false, cond, nat_eq, vec_len}
+use Rattle.std.proofs.Common.{◌≡◌, ℕ, ◌↔◌, inl, inr, refl, sym, ap, ◌∙◌, subst, Bool, true, false, ◌||◌, if◌then◌else◌, Option, Some, None, List, [], ◌∷◌, ◌++◌, Contains, true≢false, cond, nat_eq, vec_len}
 use mathlib.Core.Logic.{⊎_elim}
 use Rattle.std.specs.Bool.{beq}
 use Rattle.std.specs.List.{list_any}
@@ -13,7 +13,7 @@ use Rattle.std.proofs.lemmas.List.Folds.{Any-from_list_any, list_any_at}
 use Rattle.indexmap.specs.IndexMap.{IndexMap, Updates, get_by, get as get_in}
 use Rattle.lg_gram.specs.Connectors.{Connector}
 use Rattle.lg_eprune.specs.Cuts.{do_join, stays, listed_at, is_met, Lists}
-use Rattle.lg_eprune.proofs.Elements.{contains_cases, contains_none, contains_here}
+use Rattle.lg_eprune.proofs.Elements.{contains_cases, contains_none}
 use Rattle.lg_eprune.proofs.Matches.{join_caps}
 
 bool_same : (a b : Bool) → (a ≡ true → b ≡ true) → (b ≡ true → a ≡ true) → a ≡ b
@@ -55,10 +55,11 @@ module _ {A B S : Type 0} where
   pub more_seen : (old new : IndexMap (Vec ℕ A) (Vec Connector B) S) (seen more : List Connector) → IsSeen old seen → Lists old more new → IsSeen new (seen ++ more)
   more_seen old new seen more is lists caps d = (
     λ h. ⊎_elim
-    (λ before. (let (m, same) = (is caps d).0 before in (Contains-append_left seen more d m, same)))
-    (λ added. (Contains-append_right seen more d added.0, added.1))
-    ((lists caps d).0 h),
-    λ p. (lists caps d).1 (⊎_elim (λ m. inl ((is caps d).1 (m, p.1))) (λ m. inr (m, p.1)) (Contains-append_cases seen more d p.0)))
+        (λ before. (let (m, same) = (is caps d).0 before in (Contains-append_left seen more d m, same)))
+        (λ added. (Contains-append_right seen more d added.0, added.1))
+        ((lists caps d).0 h),
+    λ p. (lists caps d).1 (⊎_elim (λ m. inl ((is caps d).1 (m, p.1))) (λ m. inr (m, p.1)) (Contains-append_cases seen more d p.0)),
+  )
 
   -- steps of a list of connectors
   pub lists_none : (table : IndexMap (Vec ℕ A) (Vec Connector B) S) → Lists table [] table
@@ -67,13 +68,14 @@ module _ {A B S : Type 0} where
   pub lists_more : (old middle new : IndexMap (Vec ℕ A) (Vec Connector B) S) (first second : List Connector) → Lists old first middle → Lists middle second new → Lists old (first ++ second) new
   lists_more old middle new first second one two caps d = (
     λ h. ⊎_elim
-    (λ before. ⊎_elim (λ m. inl m) (λ m. inr (Contains-append_left first second d m.0, m.1)) ((one caps d).0 before))
-    (λ m. inr (Contains-append_right first second d m.0, m.1))
-    ((two caps d).0 h),
+        (λ before. ⊎_elim (λ m. inl m) (λ m. inr (Contains-append_left first second d m.0, m.1)) ((one caps d).0 before))
+        (λ m. inr (Contains-append_right first second d m.0, m.1))
+        ((two caps d).0 h),
     λ h. (two caps d).1 (⊎_elim
-    (λ m. inl ((one caps d).1 (inl m)))
-    (λ m. ⊎_elim (λ f. inl ((one caps d).1 (inr (f, m.1)))) (λ s. inr (s, m.1)) (Contains-append_cases first second d m.0))
-    h))
+        (λ m. inl ((one caps d).1 (inl m)))
+        (λ m. ⊎_elim (λ f. inl ((one caps d).1 (inr (f, m.1)))) (λ s. inr (s, m.1)) (Contains-append_cases first second d m.0))
+        h),
+  )
 
   -- a connector that is listed already
   pub listed_already : (table : IndexMap (Vec ℕ A) (Vec Connector B) S) (c : Connector) → Contains (listed_at table c.caps) c → Lists table (c ∷ []) table
@@ -119,17 +121,19 @@ module _ {A B S : Type 0} where
       let key_is : caps ≡ key = (bytes_decides caps key).0 same in
       let now : listed_at new caps ≡ listed_at old caps ++ c ∷ [] = is caps ∙ cond-true (pointwise nat_eq caps key) (listed_at old caps ++ c ∷ []) (listed_at old caps) same in (
         λ m. ⊎_elim (λ before. inl before) (λ added. inr (added, ap (λ x. x.caps) (sym (only_one d added)) ∙ sym named ∙ sym key_is))
-        (Contains-append_cases (listed_at old caps) (c ∷ []) d (subst (λ xs. Contains xs d) now m)),
+            (Contains-append_cases (listed_at old caps) (c ∷ []) d (subst (λ xs. Contains xs d) now m)),
         λ m. subst (λ xs. Contains xs d) (sym now)
-        (⊎_elim (λ before. Contains-append_left (listed_at old caps) (c ∷ []) d before) (λ added. Contains-append_right (listed_at old caps) (c ∷ []) d added.0) m))))
+            (⊎_elim (λ before. Contains-append_left (listed_at old caps) (c ∷ []) d before) (λ added. Contains-append_right (listed_at old caps) (c ∷ []) d added.0) m),
+      )))
       (λ other. (
       let now : listed_at new caps ≡ listed_at old caps = is caps ∙ cond-false (pointwise nat_eq caps key) (listed_at old caps ++ c ∷ []) (listed_at old caps) other in (
         λ m. inl (subst (λ xs. Contains xs d) now m),
         λ m. ⊎_elim (λ before. subst (λ xs. Contains xs d) (sym now) before)
-        (λ added. (
-        let key_is : caps ≡ key = sym added.1 ∙ ap (λ x. x.caps) (sym (only_one d added.0)) ∙ sym named in
-        absurd (true≢false (sym ((bytes_decides caps key).1 key_is) ∙ other))))
-        m)))
+            (λ added. (
+            let key_is : caps ≡ key = sym added.1 ∙ ap (λ x. x.caps) (sym (only_one d added.0)) ∙ sym named in
+            absurd (true≢false (sym ((bytes_decides caps key).1 key_is) ∙ other))))
+            m,
+      )))
       (cases_Bool (pointwise nat_eq caps key))
     where
       only_one : (d : Connector) → Contains (c ∷ []) d → c ≡ d

@@ -1,11 +1,11 @@
 -- A loop over the members of an expression.
-use Rattle.std.proofs.Common.{◌≡◌, ◌∙◌, ℕ, suc, ◌+◌, ◌<◌, ◌≤◌, refl, sym, ap, Bool, true, false, not, ◌==◌, true≢false, Option, Some, None, List, [], ◌∷◌, ◌++◌, length, get_or, drop, map, arith}
+use Rattle.std.proofs.Common.{◌≡◌, ◌∙◌, ℕ, suc, ◌+◌, ◌<◌, ◌≤◌, refl, sym, ap, Bool, false, not, ◌==◌, true≢false, Option, Some, None, List, [], ◌∷◌, ◌++◌, length, get_or, drop, map, arith}
 use Rattle.std.specs.Option.{option_map}
 use Rattle.std.proofs.lemmas.Bool.{ne_eqb}
 use Rattle.std.proofs.lemmas.List.{drop_more, drop_all, map-append}
 use Rattle.lg_gram.specs.Connectors.{Connector}
 use Rattle.lg_gram.specs.declared.expr.Expr.{Expr}
-use Rattle.lg_gram.specs.Trees.{Tree, Trees, one_of, no_trees, tree, tree_of, trees_of, trees_in}
+use Rattle.lg_gram.specs.Trees.{Tree, Trees, one_of, tree, tree_of, trees_in}
 use Rattle.lg_eprune.specs.Cuts.{any_of, both, in_front, cut, cut_all, cut_any, has_member}
 use Rattle.lg_eprune.proofs.Joined.{before, before_push, before_none, all_push}
 

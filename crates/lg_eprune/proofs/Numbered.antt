@@ -1,5 +1,5 @@
 -- Connectors with the numbers of their positions.
-use Rattle.std.proofs.Common.{◌≡◌, ℕ, zero, suc, ◌+◌, ◌<◌, inl, inr, refl, sym, ap, ◌∙◌, subst, List, [], ◌∷◌, ◌++◌, length, map, get_or, Contains, arith}
+use Rattle.std.proofs.Common.{◌≡◌, ℕ, zero, suc, ◌+◌, inl, inr, ap, subst, List, [], ◌∷◌, ◌++◌, map, get_or, Contains, arith}
 use Rattle.std.proofs.lemmas.List.Elements.{Contains-append_left, Contains-append_right, Contains-append_cases}
 use Rattle.lg_gram.specs.Connectors.{Connector}
 use Rattle.lg_eprune.proofs.Elements.{contains_none, map_in, map_out}
@@ -27,12 +27,12 @@ numbered_out f d n [] m h = absurd (contains_none m h)
 numbered_out f d n (x ∷ xs) m h =
     elim (Contains-append_cases (map (at_number n) (f x)) (numbered f (suc n) xs) m h) [
       | inl here ↦ (
-        let (c, is, same) = map_out (at_number n) (f x) m here in
-        let number : n ≡ m.0 = ap (λ p. p.0) same in
-        (zero, omega arith, subst (λ e. Contains (f x) e) (ap (λ p. p.1) same) is))
+          let (c, is, same) = map_out (at_number n) (f x) m here in
+          let number : n ≡ m.0 = ap (λ p. p.0) same in
+          (zero, omega arith, subst (λ e. Contains (f x) e) (ap (λ p. p.1) same) is))
       | inr later ↦ (
-        let (k, is, has) = numbered_out f d (suc n) xs m later in
-        (suc k, omega arith, has))
+          let (k, is, has) = numbered_out f d (suc n) xs m later in
+          (suc k, omega arith, has))
     ]
 
 -- from 0 on

@@ -1,13 +1,12 @@
 -- A loop over the positions.
-use Rattle.std.proofs.Common.{◌≡◌, ◌∙◌, ℕ, refl, sym, ap, subst, Bool, true, false, not, ◌||◌, Option, Some, None, List, [], ◌∷◌, ◌++◌, append_assoc, true≢false}
-use Rattle.std.proofs.lemmas.List.{append-nil}
+use Rattle.std.proofs.Common.{◌≡◌, ◌∙◌, ℕ, refl, sym, ap, Bool, true, false, not, ◌||◌, Option, Some, None, List, [], ◌∷◌, ◌++◌, append_assoc}
 use Rattle.std.specs.Option.{option_map}
 use Rattle.std.specs.declared.vec.Vec.{Vec}
 use Rattle.indexmap.specs.IndexMap.{IndexMap}
 use Rattle.lg_gram.specs.Connectors.{Connector}
 use Rattle.lg_gram.specs.Trees.{Tree}
 use Rattle.lg_eprune.specs.Live.{WordTree}
-use Rattle.lg_eprune.specs.Cuts.{cut, cut_word, cut_words, with_word, do_lose, is_whole, is_met, stays, swept, sweep_loses, word_leaves, Lists}
+use Rattle.lg_eprune.specs.Cuts.{cut_word, cut_words, with_word, do_lose, is_whole, is_met, stays, swept, sweep_loses, word_leaves, Lists}
 use Rattle.lg_eprune.proofs.Bounds.{cut_keeps}
 use Rattle.lg_eprune.proofs.Listed.{IsSeen, tests_same, more_seen}
 
@@ -51,5 +50,5 @@ module _ {A B S : Type 0} (right : Bool) (old new : IndexMap (Vec ℕ A) (Vec Co
         more_seen old new known (word_leaves right kept) seen lists,
         append_assoc done (kept ∷ []) (swept right (known ++ word_leaves right kept) rest) ∙ ap (λ k. done ++ k ∷ swept right (known ++ word_leaves right k) rest) same ∙ told,
         or_assoc less loses (sweep_loses right (known ++ word_leaves right kept) rest)
-        ∙ (λ i. less || (flag i || sweep_loses right (known ++ word_leaves right (same i)) rest)) ∙ loss,
+            ∙ (λ i. less || (flag i || sweep_loses right (known ++ word_leaves right (same i)) rest)) ∙ loss,
       )

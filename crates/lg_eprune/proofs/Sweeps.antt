@@ -1,19 +1,18 @@
 -- Sweeps over the positions.
-use Rattle.std.proofs.Common.{◌≡◌, ℕ, zero, suc, ◌+◌, ◌-◌, ◌<◌, ◌≤◌, ◌⊎◌, inl, inr, refl, sym, ap, ◌∙◌, subst, Bool, true, false, ◌&&◌, ◌||◌, not, cond, Option, Some, None, IfSome, List, [], ◌∷◌, ◌++◌, length, reverse, map, get_or, slice_get, slice_index_or, Contains, Any, if◌then◌else◌, true≢false, arith}
+use Rattle.std.proofs.Common.{◌≡◌, ℕ, zero, suc, ◌+◌, ◌<◌, ◌≤◌, ◌⊎◌, inl, inr, refl, sym, ap, ◌∙◌, Bool, true, false, not, Option, Some, None, IfSome, List, [], ◌∷◌, ◌++◌, length, reverse, get_or, Contains, true≢false, arith}
 use mathlib.Core.List.{reverse_aux}
 use Rattle.std.specs.Bool.{beq}
-use Rattle.std.specs.List.{flat_map, list_any}
+use Rattle.std.specs.List.{list_any}
 use Rattle.std.specs.Option.{option_map}
-use Rattle.std.proofs.lemmas.Bool.{cases_Bool, cases_lt, and_parts, or_cases, or_parts, or_left, or_right, or_from, not-true, not-false}
-use Rattle.std.proofs.lemmas.List.{length-reverse, get_or-reverse}
-use Rattle.std.proofs.lemmas.List.Elements.{Contains-append_left, Contains-append_right, Contains-append_cases}
-use Rattle.std.proofs.lemmas.List.Folds.{Any-from_list_any, list_any_at}
+use Rattle.std.proofs.lemmas.Bool.{or_cases, or_parts, or_from, not-true}
+use Rattle.std.proofs.lemmas.List.Elements.{Contains-append_cases}
+use Rattle.std.proofs.lemmas.List.Folds.{Any-from_list_any}
 use Rattle.lg_gram.specs.Connectors.{Connector}
 use Rattle.lg_gram.specs.Trees.{Tree}
-use Rattle.lg_gram.specs.Measures.{Choice, node_count}
+use Rattle.lg_gram.specs.Measures.{node_count}
 use Rattle.lg_eprune.specs.Live.{WordTree}
-use Rattle.lg_eprune.specs.Cuts.{cut, cut_word, cut_words, with_word, do_lose, do_join, is_whole, leaves, stays, swept, sweep_loses, word_leaves}
-use Rattle.lg_eprune.proofs.Elements.{contains_cases, contains_none, contains_here, contains_later, flat_in, flat_out}
+use Rattle.lg_eprune.specs.Cuts.{cut, cut_words, with_word, do_lose, do_join, is_whole, leaves, stays, swept, sweep_loses, word_leaves}
+use Rattle.lg_eprune.proofs.Elements.{contains_cases, contains_none, flat_in, flat_out}
 use Rattle.lg_eprune.proofs.Bounds.{IsLess, positive, cut_no_more, cut_less, cut_keeps, cut_whole}
 use Rattle.lg_eprune.proofs.Leaves.{beq_same, leaf_passes, leaf_side}
 
@@ -122,13 +121,13 @@ sweep_less right seen (ws ∷ rest) h =
     let kept = cut_words (stays right seen) ws in
     elim (or_cases (do_lose (stays right seen) ws) (sweep_loses right (seen ++ word_leaves right kept) rest) h) [
       | inl here ↦ (
-        let less = words_less (stays right seen) ws here in
-        let later = sweep_no_more right (seen ++ word_leaves right kept) rest in
-        omega arith)
+          let less = words_less (stays right seen) ws here in
+          let later = sweep_no_more right (seen ++ word_leaves right kept) rest in
+          omega arith)
       | inr later ↦ (
-        let less = words_no_more (stays right seen) ws in
-        let more = sweep_less right (seen ++ word_leaves right kept) rest later in
-        omega arith)
+          let less = words_no_more (stays right seen) ws in
+          let more = sweep_less right (seen ++ word_leaves right kept) rest later in
+          omega arith)
     ]
 
 pub length-swept : (right : Bool) (seen : List Connector) (xs : List (List WordTree)) → length (swept right seen xs) ≡ length xs
@@ -157,8 +156,8 @@ joined_by right seen c side h =
     elim (or_cases (beq c.right right) (list_any (λ d. do_join d c) seen) h) [
       | inl same ↦ absurd (no_self right (sym side ∙ beq_same c.right right same))
       | inr met ↦ (
-        let (k, d, within, at, joins) = Any-from_list_any (λ d. do_join d c) seen met in
-        (d, joins, (k, within, at)))
+          let (k, d, within, at, joins) = Any-from_list_any (λ d. do_join d c) seen met in
+          (d, joins, (k, within, at)))
     ]
   where
     no_self : (b : Bool) → not b ≡ b → ⊥
@@ -176,11 +175,14 @@ served right seen (ws ∷ rest) zero c m =
     (d, joins, inl is)
 served right seen (ws ∷ rest) (suc k) c m =
     let kept = cut_words (stays right seen) ws in
-    let (d, joins, place) = served right (seen ++ word_leaves right kept) rest k c m in
-    (d, joins, elim place [
-      | inl known ↦ elim (Contains-append_cases seen (word_leaves right kept) d known) [
-        | inl before ↦ inl before
-        | inr here ↦ inr (zero, omega arith, here)
-      ]
-      | inr (j, before, is) ↦ inr (suc j, omega arith, is)
-    ])
+    let (d, joins, place) = served right (seen ++ word_leaves right kept) rest k c m in (
+      d,
+      joins,
+      elim place [
+        | inl known ↦ elim (Contains-append_cases seen (word_leaves right kept) d known) [
+          | inl before ↦ inl before
+          | inr here ↦ inr (zero, omega arith, here)
+        ]
+        | inr (j, before, is) ↦ inr (suc j, omega arith, is)
+      ],
+    )

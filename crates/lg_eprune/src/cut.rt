@@ -142,7 +142,12 @@ fn one_of(members: Exprs) -> Expr
 
 // The members, if something is left of each.
 #[cycle(cut)]
-fn cut_all(alloc: Global, members: &Exprs, right: bool, seen: &Seen) -> Result<Option<Exprs>, NoMemory>
+fn cut_all(
+    alloc: Global,
+    members: &Exprs,
+    right: bool,
+    seen: &Seen,
+) -> Result<Option<Exprs>, NoMemory>
     ensures { IfOk result (λ left. option_map (λ es. trees_in (expr_items es)) left ≡ cut_all (is_met right seen.now) (trees_in (expr_items members.now))) }
 {
     let mut kept = Vec::with_capacity(alloc, members.items().len())?;

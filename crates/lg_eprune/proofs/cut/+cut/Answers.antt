@@ -1,9 +1,9 @@
-use Rattle.std.proofs.Common.{◌≡◌, Some, ◌+◌, map, drop, length, ◌≤◌, ap, sym, ◌∙◌, subst, arith}
+use Rattle.std.proofs.Common.{Some, ◌+◌, map, drop, ap, sym, ◌∙◌}
 use Rattle.std.specs.Option.{option_map}
-use Rattle.lg_gram.specs.Trees.{tree_of, trees_in, expr_items}
+use Rattle.lg_gram.specs.Trees.{tree_of, trees_in}
 use Rattle.lg_eprune.specs.Cuts.{is_met, cut_all, cut_any}
 use Rattle.lg_eprune.proofs.Joined.{before}
-use Rattle.lg_eprune.proofs.Members.{all_more, all_none, all_done, any_more, any_same, any_done}
+use Rattle.lg_eprune.proofs.Members.{all_more, all_done, any_more, any_done}
 use Rattle.lg_eprune.proofs.cut.+cut.Goals as goal
 
 pub cut_all-loop-member-preserved : goal.cut_all-loop-member-preserved

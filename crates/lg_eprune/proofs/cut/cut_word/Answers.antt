@@ -2,7 +2,7 @@ use Rattle.std.proofs.Common.{ap, sym, ◌∙◌, subst}
 use Rattle.std.specs.Option.{option_map}
 use Rattle.lg_gram.specs.Trees.{tree_of}
 use Rattle.lg_gram.specs.Formulas.{IsFormula}
-use Rattle.lg_eprune.specs.Cuts.{is_met, cut}
+use Rattle.lg_eprune.specs.Cuts.{is_met}
 use Rattle.lg_eprune.proofs.Bounds.{cut_formula}
 use Rattle.lg_eprune.proofs.cut.cut_word.Goals as goal
 

@@ -1,5 +1,4 @@
 use Rattle.lg_eprune.proofs.Linked.{linked_live}
-use Rattle.lg_eprune.proofs.Choices.{cut_choices}
 use Rattle.lg_eprune.proofs.law.linkages_are_live.Goals as goal
 
 pub returns : goal.returns

@@ -1,6 +1,5 @@
-use Rattle.std.proofs.Common.{rules, ◌≡◌, ◌++◌, ◌∷◌, ◌||◌, Bool, List, [], length, refl, ap, sym, ◌∙◌, subst, arith}
-use Rattle.std.specs.Vec.Iter.{into_iter_items, into_iter_len}
-use Rattle.lg_eprune.specs.Live.{WordTree}
+use Rattle.std.proofs.Common.{rules, ◌≡◌, ◌++◌, ◌∷◌, ◌||◌, [], length, ap, sym, ◌∙◌, subst, arith}
+use Rattle.std.specs.Vec.Iter.{into_iter_items}
 use Rattle.lg_eprune.specs.Cuts.{is_met, cut_words, do_lose, swept, sweep_loses, word_leaves, Lists}
 use Rattle.lg_eprune.proofs.Listed.{nothing_seen}
 use Rattle.lg_eprune.proofs.Places.{told_more, Told}

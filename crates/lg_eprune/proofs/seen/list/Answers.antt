@@ -1,4 +1,4 @@
-use Rattle.std.proofs.Common.{◌≡◌, arith}
+use Rattle.std.proofs.Common.{arith}
 use Rattle.indexmap.specs.Entry.{map_with_value, entry_value}
 use Rattle.lg_eprune.proofs.Listed.{pushed_at}
 use Rattle.lg_eprune.proofs.seen.list.Goals as goal
