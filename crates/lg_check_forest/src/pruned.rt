@@ -197,7 +197,9 @@ fn over_an_unlinked_word(rt: HostRuntime) -> Result<(), Fail> {
     let pruned = pprune(alloc, problem(alloc, &["A|B", "C", "a|d"])?)?;
     match pruned.positions() {
         [first, second, third] => {
-            assert!(rt; first.items().len() == 1 && second.items().is_empty() && third.items().len() == 1);
+            assert!(rt;
+                first.items().len() == 1 && second.items().is_empty() && third.items().len() == 1
+            );
         }
         _ => assert!(rt; false),
     }

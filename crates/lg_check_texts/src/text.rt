@@ -317,7 +317,10 @@ fn numbers_stand_before_a_page(rt: HostRuntime) -> Result<(), Fail> {
         b"stats disjuncts 7 kept 5\npage shown 0 examined 0 next 1 end\n".as_slice()
     );
     let text = listing_text(alloc, &tokens, &page, Some(stats), BARE)?;
-    assert_eq!(rt; text.as_slice(), b"page shown 0 examined 0 next 1 end\n".as_slice());
+    assert_eq!(rt;
+        text.as_slice(),
+        b"page shown 0 examined 0 next 1 end\n".as_slice()
+    );
     Ok(())
 }
 

@@ -36,11 +36,19 @@ link 3 4 D 0 0
 >the cat chased a   snake
 page shown 1 examined 1 next 2 end
 ";
-    looks(&rt, rt.alloc(), "one|--stats|on|--diagram|on", FIRST, "the cat chased a snake", page)
+    looks(
+        &rt,
+        rt.alloc(),
+        "one|--stats|on|--diagram|on",
+        FIRST,
+        "the cat chased a snake",
+        page,
+    )
 }
 
 // The dictionary of a whole sentence with walls.
-const WALLS: &str = "LEFT-WALL: Wd+ & {Xp+}; the: D+; big: A+; cat.n: {@A-} & D- & Wd- & S+; ran.v: S-; \".\": Xp-;";
+const WALLS: &str =
+    "LEFT-WALL: Wd+ & {Xp+}; the: D+; big: A+; cat.n: {@A-} & D- & Wd- & S+; ran.v: S-; \".\": Xp-;";
 
 #[test]
 fn diagram_of_four_heights(rt: HostRuntime) -> Result<(), Fail> {
@@ -64,7 +72,14 @@ link 3 4 S 0 0
 >LEFT-WALL The big cat ran .
 page shown 1 examined 1 next 2 end
 ";
-    looks(&rt, rt.alloc(), "one|--diagram|on", WALLS, "The big cat ran.", page)
+    looks(
+        &rt,
+        rt.alloc(),
+        "one|--diagram|on",
+        WALLS,
+        "The big cat ran.",
+        page,
+    )
 }
 
 #[test]
@@ -81,7 +96,14 @@ link 1 3 S 0 0
 >the cat [Mary] ran
 page shown 1 examined 1 next 2 end
 ";
-    looks(&rt, rt.alloc(), "one|--diagram=on", FIRST, "the cat Mary ran", page)
+    looks(
+        &rt,
+        rt.alloc(),
+        "one|--diagram=on",
+        FIRST,
+        "the cat Mary ran",
+        page,
+    )
 }
 
 #[test]
@@ -97,7 +119,14 @@ link 0 1 D 0 0
 link 1 3 S 0 0
 page shown 1 examined 1 next 2 end
 ";
-    looks(&rt, rt.alloc(), "one|--stats|on", FIRST, "the cat Mary ran", page)
+    looks(
+        &rt,
+        rt.alloc(),
+        "one|--stats|on",
+        FIRST,
+        "the cat Mary ran",
+        page,
+    )
 }
 
 #[test]
@@ -113,7 +142,14 @@ link 0 1 D 0 0
 link 1 3 S 0 0
 page shown 1 examined 1 next 2 end
 ";
-    looks(&rt, rt.alloc(), "one|--stats|on|--prune|off", FIRST, "the cat Mary ran", page)
+    looks(
+        &rt,
+        rt.alloc(),
+        "one|--stats|on|--prune|off",
+        FIRST,
+        "the cat Mary ran",
+        page,
+    )
 }
 
 #[test]
@@ -139,7 +175,14 @@ link 1 2 S 0 0
 >é   b   c
 page shown 1 examined 1 next 2 end
 ";
-    looks(&rt, rt.alloc(), "one|--diagram|on", "é: D+; b: D- & S+; c: S-;", "é b c", page)
+    looks(
+        &rt,
+        rt.alloc(),
+        "one|--diagram|on",
+        "é: D+; b: D- & S+; c: S-;",
+        "é b c",
+        page,
+    )
 }
 
 // Wants this document of a made session.
@@ -150,7 +193,15 @@ fn makes<R: Abort + Threads + Sync>(
     document: &str,
 ) -> Result<(), Fail> {
     let words = words_of(alloc, words)?;
-    expect(rt, alloc, MemFiles::new(alloc), &words, Status::Done, document, "")
+    expect(
+        rt,
+        alloc,
+        MemFiles::new(alloc),
+        &words,
+        Status::Done,
+        document,
+        "",
+    )
 }
 
 #[test]
@@ -181,7 +232,15 @@ fn numbers_that_make_nothing(rt: HostRuntime) -> Result<(), Fail> {
     ] {
         let words = words_of(rt.alloc(), words)?;
         let line = "lgparse: the words are not a command of this program\n";
-        expect(&rt, rt.alloc(), MemFiles::new(rt.alloc()), &words, Status::Usage, "", line)?;
+        expect(
+            &rt,
+            rt.alloc(),
+            MemFiles::new(rt.alloc()),
+            &words,
+            Status::Usage,
+            "",
+            line,
+        )?;
     }
     Ok(())
 }
