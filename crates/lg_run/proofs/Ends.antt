@@ -11,10 +11,10 @@ use Rattle.lg_knowread.specs.declared.fault.KnowError.{KnowError}
 use Rattle.lg_knowread.specs.declared.fault.KnowError.TheVariants as know_errors
 use Rattle.lg_script.specs.declared.script_error.ScriptError.{ScriptError}
 use Rattle.lg_script.specs.declared.script_error.ScriptError.TheVariants as script_errors
-use Rattle.lg_answer.specs.declared.options.Options.{Options}
 use Rattle.lg_run.specs.Words.{Task, TaskIs, OptionsAre, AreInRange}
 use Rattle.lg_run.specs.Commands.{option_words, task, IsCommand}
 use Rattle.lg_run.specs.declared.command.Command.{Command}
+use Rattle.lg_run.specs.declared.setup.Setup.{Setup}
 use Rattle.lg_run.specs.Inputs.{Found, Reading, accepted, refused, IsOne, Given, InputsAre}
 use Rattle.lg_run.specs.Lines.{memory_line, dict_line, know_line, script_line}
 use Rattle.lg_run.specs.Stops.{dict_status, know_status, script_status, stop_status, stop_line, EndsAs, EndsWithLine}
@@ -49,22 +49,22 @@ told_map (Some known) words Holds More leads h = λ t is. leads known t (h t is)
 
 -- ---- the options that were read
 
-module _ (words texts : List (List ℕ)) (command : Command) (options : Options) (is : IsCommand words command) (same : texts ≡ option_words command) (read : (o : Options) → OptionsAre texts o → options ≡ o) where
-  are_read : options ≡ is.options
-  are_read = read is.options (subst (λ (w : List (List ℕ)). OptionsAre w is.options) (sym same) is.are_options)
+module _ (words texts : List (List ℕ)) (command : Command) (setup : Setup) (is : IsCommand words command) (same : texts ≡ option_words command) (read : (o : Setup) → OptionsAre texts o → setup ≡ o) where
+  are_read : setup ≡ is.setup
+  are_read = read is.setup (subst (λ (w : List (List ℕ)). OptionsAre w is.setup) (sym same) is.are_options)
 
-  pub range_read : AreInRange options
+  pub range_read : AreInRange setup
   range_read = subst AreInRange (sym are_read) is.range
 
   -- so that the task is the command's with them
-  is_task_read : TaskIs words (task options command)
-  is_task_read = subst (λ (o : Options). TaskIs words (task o command)) (sym are_read) is.is_task
+  is_task_read : TaskIs words (task setup command)
+  is_task_read = subst (λ (o : Setup). TaskIs words (task o command)) (sym are_read) is.is_task
 
-  pub about_read : OneTask → (asked : List (List ℕ)) (stop : Stop) → IsAbout (names_of (task options command)) asked stop → (t : Task) → TaskIs words t → IsAbout (names_of t) asked stop
-  about_read one asked stop h t that = subst (λ (t : Task). IsAbout (names_of t) asked stop) (one words (task options command) t is_task_read that) h
+  pub about_read : OneTask → (asked : List (List ℕ)) (stop : Stop) → IsAbout (names_of (task setup command)) asked stop → (t : Task) → TaskIs words t → IsAbout (names_of t) asked stop
+  about_read one asked stop h t that = subst (λ (t : Task). IsAbout (names_of t) asked stop) (one words (task setup command) t is_task_read that) h
 
-  pub told_read : OneTask → (contents : Option Contents) (Holds : Reading Given → Type 0) → IfSome contents (λ known. Holds (InputsAre known (task options command))) → WhereTold contents words Holds
-  told_read one contents Holds h = told_of one contents (task options command) words Holds is_task_read h
+  pub told_read : OneTask → (contents : Option Contents) (Holds : Reading Given → Type 0) → IfSome contents (λ known. Holds (InputsAre known (task setup command))) → WhereTold contents words Holds
+  told_read one contents Holds h = told_of one contents (task setup command) words Holds is_task_read h
 
 -- ---- what is written
 

@@ -9,25 +9,25 @@ use Rattle.lg_run.proofs.inputs.read_inputs.Goals as goal
 -- the names of the command's own files
 pub returns-in-One-clause-names : goal.returns-in-One-clause-names
 returns-in-One-clause-names g c =
-    subst (λ (t : Command). IfSome (g.F.Files.contents c.args.files.now) (λ known. AsksInOrder (InputsAre known (task c.args.options t)) (g.F.Files.asked c.args.files.now) (g.F.Files.asked c.inputs_of_one.new.files)))
+    subst (λ (t : Command). IfSome (g.F.Files.contents c.args.files.now) (λ known. AsksInOrder (InputsAre known (task c.args.setup t)) (g.F.Files.asked c.args.files.now) (g.F.Files.asked c.inputs_of_one.new.files)))
     (sym c.in-One.is) c.inputs_of_one.ensures.names
 
 pub returns-in-Run-clause-names : goal.returns-in-Run-clause-names
 returns-in-Run-clause-names g c =
-    subst (λ (t : Command). IfSome (g.F.Files.contents c.args.files.now) (λ known. AsksInOrder (InputsAre known (task c.args.options t)) (g.F.Files.asked c.args.files.now) (g.F.Files.asked c.inputs_of_run.new.files)))
+    subst (λ (t : Command). IfSome (g.F.Files.contents c.args.files.now) (λ known. AsksInOrder (InputsAre known (task c.args.setup t)) (g.F.Files.asked c.args.files.now) (g.F.Files.asked c.inputs_of_run.new.files)))
     (sym c.in-Run.is) c.inputs_of_run.ensures.names
 
 pub returns-in-One-clause-about : goal.returns-in-One-clause-about
 returns-in-One-clause-about g c =
-    subst (λ (t : Command). IfErr c.inputs_of_one.result (IsAbout (names_of (task c.args.options t)) (g.F.Files.asked c.inputs_of_one.new.files)))
+    subst (λ (t : Command). IfErr c.inputs_of_one.result (IsAbout (names_of (task c.args.setup t)) (g.F.Files.asked c.inputs_of_one.new.files)))
     (sym c.in-One.is) c.inputs_of_one.ensures.about
 
 pub returns-in-Run-clause-about : goal.returns-in-Run-clause-about
 returns-in-Run-clause-about g c =
-    subst (λ (t : Command). IfErr c.inputs_of_run.result (IsAbout (names_of (task c.args.options t)) (g.F.Files.asked c.inputs_of_run.new.files)))
+    subst (λ (t : Command). IfErr c.inputs_of_run.result (IsAbout (names_of (task c.args.setup t)) (g.F.Files.asked c.inputs_of_run.new.files)))
     (sym c.in-Run.is) c.inputs_of_run.ensures.about
 
 pub returns-in-Run-clause-told : goal.returns-in-Run-clause-told
 returns-in-Run-clause-told g c =
-    subst (λ (t : Command). IfSome (g.F.Files.contents c.args.files.now) (λ known. Tells given_in (InputsAre known (task c.args.options t)) (g.F.Files.asked c.args.files.now) (g.F.Files.asked c.inputs_of_run.new.files) c.inputs_of_run.result))
+    subst (λ (t : Command). IfSome (g.F.Files.contents c.args.files.now) (λ known. Tells given_in (InputsAre known (task c.args.setup t)) (g.F.Files.asked c.args.files.now) (g.F.Files.asked c.inputs_of_run.new.files) c.inputs_of_run.result))
     (sym c.in-Run.is) c.inputs_of_run.ensures.told
