@@ -68,6 +68,16 @@ module _ (words texts : List (List ℕ)) (command : Command) (setup : Setup) (is
 
 -- ---- what is written
 
+-- an output fails only where the count of its faults rose
+pub caused_so : (g : Given) (status : Status) (before after : Option (List ℕ)) (files_before files_now out_before out_now : ℕ) → Finishes g status before after → (status ≡ WriteFault → Rose out_before out_now)
+    → Caused status files_before files_now out_before out_now
+caused_so g Done before after files_before files_now out_before out_now f rose = tt
+caused_so g WriteFault before after files_before files_now out_before out_now f rose = rose refl
+caused_so g NoMemory before after files_before files_now out_before out_now f rose = tt
+caused_so g ReadFault before after files_before files_now out_before out_now f rose = absurd f
+caused_so g BadInput before after files_before files_now out_before out_now f rose = tt
+caused_so g Usage before after files_before files_now out_before out_now f rose = tt
+
 module _ (inputs : Reading Given) (old new : List (List ℕ)) (before after : Option (List ℕ)) where
   -- a command that has its inputs in hand finishes so
   pub finished : (g : Given) (status : Status) → Comes inputs old new (accepted g) → Finishes g status before after → Told inputs old new before after status

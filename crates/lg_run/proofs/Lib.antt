@@ -17,3 +17,4 @@ pub mod Shown
 pub mod Numbers
 pub mod MadeAnswers
 pub mod MadeText
+pub mod MadeInputs

@@ -1,5 +1,5 @@
 -- Legal answers to a script of parses: they publish nothing, and what they add to the sums is small.
-use Rattle.std.proofs.Common.{◌≡◌, ◌⊎◌, ℕ, zero, suc, ◌+◌, ◌-◌, ◌*◌, ◌^◌, ◌≤◌, ◌<◌, Bool, true, false, cond, List, [], ◌∷◌, ◌++◌, length, map, filter, drop, All, get_or, sum, count_by, Option, Some, None, is_none, slice_get, refl, sym, ap, subst, ◌∙◌, arith}
+use Rattle.std.proofs.Common.{◌≡◌, ◌⊎◌, ℕ, zero, suc, ◌+◌, ◌-◌, ◌*◌, ◌^◌, ◌≤◌, ◌<◌, Bool, true, false, cond, List, [], ◌∷◌, ◌++◌, length, map, filter, drop, All, get_or, sum, count_by, Contains, Option, Some, None, is_none, slice_get, refl, sym, ap, subst, ◌∙◌, arith}
 use Rattle.std.specs.List.{AllByRecursion, enumerate_from, sum_by}
 use Rattle.std.specs.Prelude.{slice_index_or, is_some}
 use Rattle.std.proofs.lemmas.List.{length-map, length-drop}
@@ -111,7 +111,7 @@ only_list rs others (suc (suc k)) e = absurd (cc e)
 one_list : (replies : List (List Reply)) (rs : List Reply) → length replies ≡ 1 → rs ≡ get_or replies 0 rs → replies ≡ rs ∷ []
 one_list [] rs e is = absurd (omega (arith, e))
 one_list (x ∷ []) rs e is = ap (λ (l : List Reply). l ∷ []) (sym is)
-one_list (x ∷ y ∷ more) rs e is = absurd (omega (arith, e))
+one_list (x ∷ y ∷ rest) rs e is = absurd (omega (arith, e))
 
 all_small : (rs : List Reply) → AllByRecursion IsQuiet rs → AllByRecursion IsSmall rs
 all_small [] quiet = tt
@@ -141,7 +141,8 @@ no_edits : (commands : List CommandView) → AllByRecursion IsParse commands →
 no_edits [] parse = refl
 no_edits (c ∷ cs) parse =
     let one : is_edit c ≡ false = ap is_edit parse.0.1 in
-    sum_by-cons (λ (x : CommandView). cond (is_edit x) 1 0) c cs ∙ ap (λ (b : Bool). cond b 1 0 + count_by is_edit cs) one ∙ no_edits cs parse.1
+    let none : cond (is_edit c) 1 0 ≡ 0 = ap (λ (b : Bool). cond b 1 0) one in
+    omega (arith, sum_by-cons (λ (x : CommandView). cond (is_edit x) 1 0) c cs, none, no_edits cs parse.1)
 
 module _ (seed words sentences : ℕ) (dict : Dictionary) (scripts : List (List CommandView)) (made : AreMade seed words sentences dict scripts) where
   edits_none : sum (edit_counts (made.commands ∷ [])) ≤ 100000

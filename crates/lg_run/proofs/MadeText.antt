@@ -1,13 +1,16 @@
 -- The text of the sums, and how many they are.
 use Rattle.std.proofs.Common.{◌≡◌, ◌∙◌, ℕ, ◌+◌, ◌*◌, ◌^◌, ◌≤◌, ◌<◌, Bool, true, false, cond, List, [], ◌∷◌, ◌++◌, length, map, All, is_none, refl, sym, ap, subst, append-nil, append_assoc, arith}
-use Rattle.std.specs.Prelude.{decimal}
+use Rattle.std.specs.Prelude.{decimal, codes}
 use Rattle.std.specs.List.{AllByRecursion, flat_map, join_with_byte, sum_by}
 use Rattle.std.proofs.lemmas.List.Folds.{flat_map-map}
 use Rattle.std.proofs.lemmas.List.Sums.{sum_by-cons}
 use Rattle.lg_gram.specs.Linkages.{Linkage, IsLinkage, link_length, total_length}
 use Rattle.lg_gram.specs.declared.linkage.Link.{Link}
 use Rattle.lg_text.specs.Texts.{line_of}
-use Rattle.lg_run.specs.Sums.{EndsWithin}
+use Rattle.lg_gram.specs.declared.reply.Reply.{Reply}
+use Rattle.lg_run.specs.MadeRuns.{number_line, sums_text}
+use Rattle.lg_run.specs.Sums.{EndsWithin, AreSums, sum_lines}
+use Rattle.lg_run.specs.declared.made.Sums.{Sums}
 use Rattle.lg_run.proofs.Numbers.{from_all}
 
 -- joined parts are the first one, and each other one behind the byte
@@ -28,3 +31,12 @@ short_links most (l ∷ links) h few = let rest = short_links most links h.1 few
 
 pub short_linkage : (g : Linkage) → EndsWithin g → IsLinkage g → total_length g ≤ 2 ^ 40
 short_linkage g ends is = let le = short_links (length g.chosen) g.links (from_all (λ (l : Link). l.right < length g.chosen) g.links ends) is.few in omega (arith, le, is.few_links)
+
+-- the lines of the sums over these answers
+pub text_is : (seed words sentences : ℕ) (sums : Sums) (a b c : List ℕ) (replies : List Reply) → AreSums replies sums
+    → a ≡ line_of (codes "gen" ∷ decimal seed ∷ decimal words ∷ decimal sentences ∷ []) → b ≡ a ++ number_line (codes "sentences") sentences → c ≡ b ++ sum_lines sums → c ≡ sums_text seed words sentences replies
+text_is seed words sentences sums a b c replies h e f g =
+    let first = line_of (codes "gen" ∷ decimal seed ∷ decimal words ∷ decimal sentences ∷ []) in
+    let second = number_line (codes "sentences") sentences in
+    g ∙ ap (λ (l : List ℕ). l ++ sum_lines sums) (f ∙ ap (λ (l : List ℕ). l ++ second) e) ∙ append_assoc first second (sum_lines sums)
+    ∙ (λ i. first ++ (second ++ (number_line (codes "examined") (h.looked i) ++ (number_line (codes "shown") (h.pass i) ++ (number_line (codes "unused") (h.free i) ++ number_line (codes "length") (h.long i))))))

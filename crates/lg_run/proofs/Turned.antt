@@ -19,7 +19,7 @@ use Rattle.lg_run.specs.Listers.{Lister, StandsFor, Turns, MayTurn}
 use Rattle.lg_run.specs.declared.lister.Held.{Held}
 
 -- what is above no number that is less is no more
-no_more_than : (looked examine : ℕ) → ((k : ℕ) → k < looked → k < examine) → looked ≤ examine
+pub no_more_than : (looked examine : ℕ) → ((k : ℕ) → k < looked → k < examine) → looked ≤ examine
 no_more_than zero examine h = omega arith
 no_more_than (suc k) examine h = omega (arith, h k (omega arith))
 

@@ -149,7 +149,7 @@ fn answers<R: Threads + Sync, G: Gate>(
     scripts: &Scripts,
     gate: &G,
 ) -> Result<Outcome, NoMemory>
-    requires { AreScripts (script_views scripts.now) }
+    requires scripts { AreScripts (script_views scripts.now) }
     ensures legal { IfOk result (λ outcome. IsLegal (run_of (listings no_knowledge default_options) scripts.now dict.now outcome.journal) outcome.replies) }
     ensures whole { IfOk result (λ outcome. AnswersAll (script_views scripts.now) outcome.replies) }
 {

@@ -6,17 +6,17 @@ use Rattle.lg_run.specs.Inputs.{InputsAre}
 use Rattle.lg_run.specs.Reads.{AsksInOrder, given_in, TellsStop}
 use Rattle.lg_run.specs.Stops.{stop_status, stop_line}
 use Rattle.lg_run.specs.Answers.{Told, AnswersRefused, AnswersAccepted}
-use Rattle.lg_run.proofs.Ends.{told_read, about_read, range_read, finished, stop_written, last_written}
+use Rattle.lg_run.proofs.Ends.{told_read, about_read, range_read, finished, caused_so, stop_written, last_written}
 use Rattle.lg_run.proofs.top.run.Goals as goal
 
 -- the options are those of the command
 pub read_inputs-requires-clause-range : goal.read_inputs-requires-clause-range
-read_inputs-requires-clause-range g c = range_read _ _ _ _ c.in-Some.ensures c.setup.ensures c.in-Ok.ensures
+read_inputs-requires-clause-range g c = range_read _ _ _ _ c.in-Some.ensures c.options.ensures c.in-Ok.ensures
 
 -- the inputs are in hand
 pub returns-in-Ok-read_inputs-clause-names : goal.returns-in-Ok-read_inputs-clause-names
 returns-in-Ok-read_inputs-clause-names g c =
-    told_read _ _ _ _ c.in-Some.ensures c.setup.ensures c.in-Ok.ensures c.words_have_one_task.ensures (g.F.Files.contents c.args.files.now) (λ inputs. AsksInOrder inputs (g.F.Files.asked c.args.files.now) (g.F.Files.asked c.read_inputs.new.files)) c.in-Ok-read_inputs.ensures.names
+    told_read _ _ _ _ c.in-Some.ensures c.options.ensures c.in-Ok.ensures c.words_have_one_task.ensures (g.F.Files.contents c.args.files.now) (λ inputs. AsksInOrder inputs (g.F.Files.asked c.args.files.now) (g.F.Files.asked c.read_inputs.new.files)) c.in-Ok-read_inputs.ensures.names
 
 pub returns-in-Ok-read_inputs-clause-told : goal.returns-in-Ok-read_inputs-clause-told
 returns-in-Ok-read_inputs-clause-told g c =
@@ -24,14 +24,14 @@ returns-in-Ok-read_inputs-clause-told g c =
     let new = g.F.Files.asked c.read_inputs.new.files in
     let before = g.O.Sink.written c.args.out.now in
     let after = g.O.Sink.written c.finish.new.out in
-    told_read _ _ _ _ c.in-Some.ensures c.setup.ensures c.in-Ok.ensures c.words_have_one_task.ensures (g.F.Files.contents c.args.files.now) (λ inputs. Told inputs old new before after c.finish.result)
+    told_read _ _ _ _ c.in-Some.ensures c.options.ensures c.in-Ok.ensures c.words_have_one_task.ensures (g.F.Files.contents c.args.files.now) (λ inputs. Told inputs old new before after c.finish.result)
     (IfSome_then (g.F.Files.contents c.args.files.now) c.in-Ok-read_inputs.ensures.told
     (λ known h. finished (InputsAre known (task c.in-Ok.setup c.in-Some.command)) old new before after (given_in c.in-Ok-read_inputs.inputs) c.finish.result h c.finish.ensures.told))
 
 pub returns-in-Ok-read_inputs-clause-refused : goal.returns-in-Ok-read_inputs-clause-refused
 returns-in-Ok-read_inputs-clause-refused g c =
     let calm = Rose (g.F.Files.faults c.args.files.now) (g.F.Files.faults c.read_inputs.new.files) → ⊥ in
-    told_read _ _ _ _ c.in-Some.ensures c.setup.ensures c.in-Ok.ensures c.words_have_one_task.ensures (g.F.Files.contents c.args.files.now) (λ inputs. AnswersRefused inputs calm c.finish.result) (search rules)
+    told_read _ _ _ _ c.in-Some.ensures c.options.ensures c.in-Ok.ensures c.words_have_one_task.ensures (g.F.Files.contents c.args.files.now) (λ inputs. AnswersRefused inputs calm c.finish.result) (search rules)
 
 pub returns-in-Ok-read_inputs-clause-line : goal.returns-in-Ok-read_inputs-clause-line
 returns-in-Ok-read_inputs-clause-line g c =
@@ -39,23 +39,28 @@ returns-in-Ok-read_inputs-clause-line g c =
     (given_in c.in-Ok-read_inputs.inputs) c.finish.result (g.O.Sink.written c.args.out.now) (g.O.Sink.written c.finish.new.out) (g.E.Sink.written c.args.err.now) (g.E.Sink.written c.finish.new.err)
     c.finish.ensures.told (c.finish.ensures.line calm)
 
+pub returns-in-Ok-read_inputs-clause-caused : goal.returns-in-Ok-read_inputs-clause-caused
+returns-in-Ok-read_inputs-clause-caused g c =
+    caused_so (given_in c.in-Ok-read_inputs.inputs) c.finish.result (g.O.Sink.written c.args.out.now) (g.O.Sink.written c.finish.new.out) (g.F.Files.faults c.args.files.now) (g.F.Files.faults c.read_inputs.new.files)
+    (g.O.Sink.faults c.args.out.now) (g.O.Sink.faults c.finish.new.out) c.finish.ensures.told c.finish.ensures.caused
+
 -- and they are not
 pub returns-in-Err-clause-names : goal.returns-in-Err-clause-names
 returns-in-Err-clause-names g c =
-    told_read _ _ _ _ c.in-Some.ensures c.setup.ensures c.in-Ok.ensures c.words_have_one_task.ensures (g.F.Files.contents c.args.files.now) (λ inputs. AsksInOrder inputs (g.F.Files.asked c.args.files.now) (g.F.Files.asked c.read_inputs.new.files)) c.in-Err.ensures.names
+    told_read _ _ _ _ c.in-Some.ensures c.options.ensures c.in-Ok.ensures c.words_have_one_task.ensures (g.F.Files.contents c.args.files.now) (λ inputs. AsksInOrder inputs (g.F.Files.asked c.args.files.now) (g.F.Files.asked c.read_inputs.new.files)) c.in-Err.ensures.names
 
 pub returns-in-Err-clause-told : goal.returns-in-Err-clause-told
 returns-in-Err-clause-told g c =
     let old = g.F.Files.asked c.args.files.now in
     let new = g.F.Files.asked c.read_inputs.new.files in
     let out = g.O.Sink.written c.args.out.now in
-    told_read _ _ _ _ c.in-Some.ensures c.setup.ensures c.in-Ok.ensures c.words_have_one_task.ensures (g.F.Files.contents c.args.files.now) (λ inputs. Told inputs old new out out c.refuse.result) (search rules)
+    told_read _ _ _ _ c.in-Some.ensures c.options.ensures c.in-Ok.ensures c.words_have_one_task.ensures (g.F.Files.contents c.args.files.now) (λ inputs. Told inputs old new out out c.refuse.result) (search rules)
 
 pub returns-in-Err-clause-complete : goal.returns-in-Err-clause-complete
 returns-in-Err-clause-complete g c =
     let calm = Rose (g.F.Files.faults c.args.files.now) (g.F.Files.faults c.read_inputs.new.files) → ⊥ in
     let faults = g.O.Sink.faults c.args.out.now in
-    told_read _ _ _ _ c.in-Some.ensures c.setup.ensures c.in-Ok.ensures c.words_have_one_task.ensures (g.F.Files.contents c.args.files.now) (λ inputs. AnswersAccepted inputs calm (Rose faults faults → ⊥) c.refuse.result) (search rules)
+    told_read _ _ _ _ c.in-Some.ensures c.options.ensures c.in-Ok.ensures c.words_have_one_task.ensures (g.F.Files.contents c.args.files.now) (λ inputs. AnswersAccepted inputs calm (Rose faults faults → ⊥) c.refuse.result) (search rules)
 
 pub returns-in-Err-clause-line : goal.returns-in-Err-clause-line
 returns-in-Err-clause-line g c =
@@ -64,5 +69,5 @@ returns-in-Err-clause-line g c =
     let stop = c.in-Err.stop in
     stop_written (g.F.Files.contents c.args.files.now) _ old new (g.F.Files.faults c.args.files.now) (g.F.Files.faults c.read_inputs.new.files) stop c.refuse.result _ (g.E.Sink.written c.args.err.now) (g.E.Sink.written c.refuse.new.err)
     c.refuse.ensures.stopped c.refuse.ensures.line c.in-Err.ensures.cause.fault
-    (about_read _ _ _ _ c.in-Some.ensures c.setup.ensures c.in-Ok.ensures c.words_have_one_task.ensures new stop c.in-Err.ensures.about)
-    (told_read _ _ _ _ c.in-Some.ensures c.setup.ensures c.in-Ok.ensures c.words_have_one_task.ensures (g.F.Files.contents c.args.files.now) (λ inputs. TellsStop inputs old new (stop_status stop) (stop_line stop)) c.in-Err.ensures.told)
+    (about_read _ _ _ _ c.in-Some.ensures c.options.ensures c.in-Ok.ensures c.words_have_one_task.ensures new stop c.in-Err.ensures.about)
+    (told_read _ _ _ _ c.in-Some.ensures c.options.ensures c.in-Ok.ensures c.words_have_one_task.ensures (g.F.Files.contents c.args.files.now) (λ inputs. TellsStop inputs old new (stop_status stop) (stop_line stop)) c.in-Err.ensures.told)

@@ -1,10 +1,20 @@
-use Rattle.std.proofs.Common.{◌≡◌, ◌-◌, ℕ, List, subst, ◌∙◌}
+use Rattle.std.proofs.Common.{◌≡◌, ◌-◌, ◌≤◌, ℕ, List, subst, ◌∙◌, arith}
 use Rattle.lg_answer.specs.Candidates.{StandsFor}
 use Rattle.lg_answer.specs.Pages.{IsListing, HasSkipped}
 use Rattle.lg_run.specs.Documents.{wanted}
 use Rattle.lg_run.specs.Listers.{Lister}
-use Rattle.lg_run.proofs.Turned.{Skips, wanted_is, opened}
+use Rattle.lg_run.proofs.Turned.{Skips, wanted_is, opened, skips_near}
 use Rattle.lg_run.proofs.lister.ListerEngine.begin.Goals as goal
+
+-- the listing has passed over fewer candidates than a million
+pub page-requires : goal.page-requires
+page-requires g c =
+    let start = c.in-Ok-start.start in
+    let skipped = c.in_ok-listing.ensures.skipped start.course.problem (λ h. (λ good. good, λ good. good)) in
+    record {
+      knows = subst (λ (l : Lister). StandsFor l.know c.in_ok-listing.listing.course) c.self.view_is c.in_ok-listing.ensures.stands;
+      near = omega (arith, skips_near _ _ start c.in_ok-listing.listing (c.args.first - 1) skipped c.in-Ok-start.ensures.first, c.requires.first.1);
+    }
 
 -- the first page of the listing
 pub returns : goal.returns
