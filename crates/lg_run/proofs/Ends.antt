@@ -98,6 +98,10 @@ module _ (inputs : Reading Given) (old new : List (List ℕ)) (before after : Op
   stopped same Usage line is h = absurd is
   stopped same WriteFault line is h = absurd is
 
+  pub told_stop : Keeps before after → (stop : Stop) (status : Status) (so : Type 0) (err_old err_new : Option (List ℕ)) → IsStopped status → EndsAs stop status so err_old err_new → TellsStop inputs old new (stop_status stop) (stop_line stop) → Told inputs old new before after status
+  told_stop same stop status so err_old err_new is (inl says) h = subst (λ (s : Status). Told inputs old new before after s) (sym says.same) (stopped same (stop_status stop) (stop_line stop) (subst IsStopped says.same is) h)
+  told_stop same stop status so err_old err_new is (inr says) h = subst (λ (s : Status). Told inputs old new before after s) (sym says.same) (inl same)
+
   module _ (one : IsOne inputs) (files_before files_now out_before out_now : ℕ) where
     clash : (g : Given) (line : List ℕ) → ◌≡◌ {A = Found Given} (accepted g) (refused line) → ⊥
     clash g line h = cc

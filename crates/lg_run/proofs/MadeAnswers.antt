@@ -141,7 +141,7 @@ no_edits : (commands : List CommandView) → AllByRecursion IsParse commands →
 no_edits [] parse = refl
 no_edits (c ∷ cs) parse =
     let one : is_edit c ≡ false = ap is_edit parse.0.1 in
-    let none : cond (is_edit c) 1 0 ≡ 0 = ap (λ (b : Bool). cond b 1 0) one in
+    let none : ◌≡◌ {A = ℕ} (cond (is_edit c) 1 0) 0 = ap (λ (b : Bool). cond b 1 0) one in
     omega (arith, sum_by-cons (λ (x : CommandView). cond (is_edit x) 1 0) c cs, none, no_edits cs parse.1)
 
 module _ (seed words sentences : ℕ) (dict : Dictionary) (scripts : List (List CommandView)) (made : AreMade seed words sentences dict scripts) where

@@ -12,11 +12,3 @@ of-requires c =
     let commands = c.in-Ok.commands.items in
     let bounds = c.scripts_keep_bounds.ensures c.args.text.now (map command_view commands) c.requires.short c.in-Ok.ensures in
     omega (arith, bounds.few, length-map commands command_view)
-
--- the reader's commands are those that the text stands for
-pub returns-in-Ok : goal.returns-in-Ok
-returns-in-Ok c = λ commands is.
-    let read = map command_view c.in-Ok.commands.items in
-    let same = read_one c.exactly_one_script.ensures.one c.args.text.now read commands c.in-Ok.ensures is in
-    of_each c.one_script.result (λ (s : List (List Command)). s ≡ c.in_ok-of.value ∷ []) (λ (s : List (List Command)). script_views s ≡ commands ∷ [])
-    (λ s e. ap script_views e ∙ ap (λ (l : List CommandView). l ∷ []) (ap (map command_view) c.in_ok-of.ensures ∙ same)) c.one_script.ensures

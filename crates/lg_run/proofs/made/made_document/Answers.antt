@@ -7,7 +7,9 @@ use Rattle.lg_run.proofs.made.made_document.Goals as goal
 
 -- the made script may be run
 pub answers-requires-clause-scripts : goal.answers-requires-clause-scripts
-answers-requires-clause-scripts g c = are_scripts c.args.seed c.args.words c.args.sentences c.in_ok-dict.dict (script_views c.in_ok-dict.scripts) c.in_ok-dict.ensures
+answers-requires-clause-scripts g c =
+    let scripts = are_scripts c.args.seed c.args.words c.args.sentences c.in_ok-dict.dict (script_views c.in_ok-dict.scripts) c.in_ok-dict.ensures in
+    search rules
 
 -- its answers are few, and add little each
 pub sums_of-sums-requires-clause-few : goal.sums_of-sums-requires-clause-few

@@ -1,12 +1,13 @@
 use Rattle.std.proofs.Common.{rules}
 use Rattle.std.proofs.lemmas.Option.{IfSome_then}
+use Rattle.std.proofs.KnownBytes.{Keeps-refl}
 use Rattle.lg_base.specs.Faults.{Rose}
 use Rattle.lg_run.specs.Commands.{task}
 use Rattle.lg_run.specs.Inputs.{InputsAre}
 use Rattle.lg_run.specs.Reads.{AsksInOrder, given_in, TellsStop}
 use Rattle.lg_run.specs.Stops.{stop_status, stop_line}
 use Rattle.lg_run.specs.Answers.{Told, AnswersRefused, AnswersAccepted}
-use Rattle.lg_run.proofs.Ends.{told_read, about_read, range_read, finished, caused_so, stop_written, last_written}
+use Rattle.lg_run.proofs.Ends.{told_read, about_read, range_read, finished, told_stop, caused_so, stop_written, last_written}
 use Rattle.lg_run.proofs.top.run.Goals as goal
 
 -- the options are those of the command
@@ -54,7 +55,10 @@ returns-in-Err-clause-told g c =
     let old = g.F.Files.asked c.args.files.now in
     let new = g.F.Files.asked c.read_inputs.new.files in
     let out = g.O.Sink.written c.args.out.now in
-    told_read _ _ _ _ c.in-Some.ensures c.options.ensures c.in-Ok.ensures c.words_have_one_task.ensures (g.F.Files.contents c.args.files.now) (λ inputs. Told inputs old new out out c.refuse.result) (search rules)
+    let calm = Rose (g.E.Sink.faults c.args.err.now) (g.E.Sink.faults c.refuse.new.err) → ⊥ in
+    told_read _ _ _ _ c.in-Some.ensures c.options.ensures c.in-Ok.ensures c.words_have_one_task.ensures (g.F.Files.contents c.args.files.now) (λ inputs. Told inputs old new out out c.refuse.result)
+    (IfSome_then (g.F.Files.contents c.args.files.now) c.in-Err.ensures.told
+    (λ known h. told_stop (InputsAre known (task c.in-Ok.setup c.in-Some.command)) old new out out (Keeps-refl out) c.in-Err.stop c.refuse.result calm (g.E.Sink.written c.args.err.now) (g.E.Sink.written c.refuse.new.err) c.refuse.ensures.stopped c.refuse.ensures.line h))
 
 pub returns-in-Err-clause-complete : goal.returns-in-Err-clause-complete
 returns-in-Err-clause-complete g c =
