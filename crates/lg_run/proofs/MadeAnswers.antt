@@ -132,8 +132,8 @@ module _ (dict : Dictionary) (commands : List CommandView) (journal : List Place
   pub no_journal : journal ≡ []
   no_journal = no_places journal (in_each (λ (p : Place). ⊥) (rs ∷ []) journal (from_all (λ (p : Place). is_some (numbered (rs ∷ []) p.session) ≡ true) journal legal.journal.no_other)
       (λ session others is. subst (λ (l : List Place). AllByRecursion (λ (p : Place). ⊥) l) (sym (legal.journal.each session others is ∙ none session others (only_list rs others session is))) tt)) where
-    none : (session : ℕ) (others : List Reply) → rs ≡ others → published_by session others ≡ []
-    none session others same = subst (λ (l : List Reply). published_by session l ≡ []) same (ap (map (place_in session)) (none_published 1 rs quiet))
+        none : (session : ℕ) (others : List Reply) → rs ≡ others → published_by session others ≡ []
+        none session others same = subst (λ (l : List Reply). published_by session l ≡ []) same (ap (map (place_in session)) (none_published 1 rs quiet))
 
 -- ---- the inputs
 

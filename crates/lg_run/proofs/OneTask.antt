@@ -71,8 +71,7 @@ gives_some words settings read =
     let v = nulls_given (value_of (codes "nulls") settings) default_options.nulls (form_given Nulls words settings read) in
     let p = switch_given (value_of (codes "prune") settings) default_options.prune (form_given Prune words settings read) in
     let s = switch_given (value_of (codes "stats") settings) default_look.stats (form_given Stats words settings read) in
-    let d = switch_given (value_of (codes "diagram") settings) default_look.diagram (form_given Diagram words settings read) in
-    (
+    let d = switch_given (value_of (codes "diagram") settings) default_look.diagram (form_given Diagram words settings read) in (
       record { listing = record { want = w.0; examine = x.0; nulls = v.0; prune = p.0 }; look = record { diagram = d.0; stats = s.0 } },
       record { want = w.1; examine = x.1; nulls = v.1; prune = p.1; stats = s.1; diagram = d.1 },
       (w.2, x.2),
