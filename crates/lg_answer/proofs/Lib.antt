@@ -7,3 +7,4 @@ pub mod Nothing
 pub mod Coming
 pub mod Looking
 pub mod Printable
+pub mod Kept

@@ -6,4 +6,6 @@ mod forest;
 #[cfg(test)]
 mod problems;
 #[cfg(test)]
+mod pruned;
+#[cfg(test)]
 mod ranked;

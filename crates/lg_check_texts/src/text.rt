@@ -7,9 +7,9 @@ ghost use Rattle.lg_text.specs.Replies.{IsAnswerTo, IsPrintableReply};
 use lg_base::{Cost, Text, Texts};
 use lg_gram::{
     Bound, Chosen, CommandKind, Connector, Connectors, Disjunct, EditRefusal, Link, Linkage, Links,
-    Page, PageItem, PageItems, Place, Reply, Token, Tokens, Violation, matches,
+    Page, PageItem, PageItems, Place, Reply, Stats, Token, Tokens, Violation, matches,
 };
-use lg_text::{bound_text, journal_text, linkage_text, page_text, reply_text};
+use lg_text::{Look, bound_text, journal_text, linkage_text, listing_text, page_text, reply_text};
 use std::alloc::Global;
 use std::process::Abort;
 use std::test::Fail;
@@ -207,6 +207,12 @@ fn plain(rt: &impl Abort, alloc: Global) -> Result<Linkage, Fail>
     Ok(linkage)
 }
 
+// Nothing beside linkages.
+const BARE: Look = Look {
+    diagram: false,
+    stats: false,
+};
+
 const STARS: &str = "linkage 1 unused 1 cost 1.250 length 3
 word 0 x x - S**b,@B 1.250
 word 1 y y Ss - 0.000
@@ -283,8 +289,35 @@ fn a_page_is_printed(rt: HostRuntime) -> Result<(), Fail> {
         next: 4,
         end: false,
     };
-    let text = page_text(alloc, &tokens, &page)?;
+    let text = page_text(alloc, &tokens, &page, BARE)?;
     assert_eq!(rt; text.as_slice(), PAGE.as_bytes());
+    Ok(())
+}
+
+#[test]
+fn numbers_stand_before_a_page(rt: HostRuntime) -> Result<(), Fail> {
+    let alloc = rt.alloc();
+    let tokens = tokens(alloc, [b"w", b"z", b"z", b"z"])?;
+    let page = Page {
+        items: PageItems::of(Vec::new(alloc)),
+        next: 1,
+        end: true,
+    };
+    let stats = Stats {
+        disjuncts: 7,
+        kept: 5,
+    };
+    let look = Look {
+        diagram: true,
+        stats: true,
+    };
+    let text = listing_text(alloc, &tokens, &page, Some(stats), look)?;
+    assert_eq!(rt;
+        text.as_slice(),
+        b"stats disjuncts 7 kept 5\npage shown 0 examined 0 next 1 end\n".as_slice()
+    );
+    let text = listing_text(alloc, &tokens, &page, Some(stats), BARE)?;
+    assert_eq!(rt; text.as_slice(), b"page shown 0 examined 0 next 1 end\n".as_slice());
     Ok(())
 }
 
@@ -297,7 +330,7 @@ fn an_empty_page_is_its_last_line(rt: HostRuntime) -> Result<(), Fail> {
         next: 3,
         end: true,
     };
-    let text = page_text(alloc, &tokens, &page)?;
+    let text = page_text(alloc, &tokens, &page, BARE)?;
     assert_eq!(rt;
         text.as_slice(),
         b"page shown 0 examined 0 next 3 end\n".as_slice()
@@ -333,7 +366,7 @@ fn expect_answer<R: Abort>(
         session: 1,
         command: 2,
     };
-    let text = reply_text(alloc, place, kind, &reply)?;
+    let text = reply_text(alloc, place, kind, &reply, BARE)?;
     assert_eq!(rt; text.as_slice(), want.as_bytes());
     Ok(())
 }

@@ -1,5 +1,5 @@
 -- The texts of made input.
-use Rattle.std.specs.Prelude.{ℕ, zero, suc, ◌+◌, ◌*◌, ◌/◌, ◌%◌, ◌^◌, List, [], ◌∷◌, ◌++◌, codes, decimal}
+use Rattle.std.specs.Prelude.{ℕ, zero, suc, ◌+◌, ◌*◌, ◌/◌, ◌%◌, ◌^◌, List, [], ◌++◌, codes, decimal, ◌==◌, if◌then◌else◌}
 use Rattle.std.specs.List.{flat_map, range_with_len}
 
 -- ---- the dictionary
@@ -10,10 +10,11 @@ word i = codes "w" ++ decimal i
 
 -- the expression of a word, by the remainder of its number by 4
 abbrev pub expression : ℕ → List ℕ
-expression 0 = codes "D+"
-expression 1 = codes "{D-} & {@M+} & (S+ or O- or J-)"
-expression 2 = codes "S- & {O+} & {@M+}"
-expression _ = codes "M- & J+"
+expression remainder =
+    if remainder == 0 then codes "D+"
+    else (if remainder == 1 then codes "{D-} & {@M+} & (S+ or O- or J-)"
+    else (if remainder == 2 then codes "S- & {O+} & {@M+}"
+    else codes "M- & J+"))
 
 abbrev pub entry_line : ℕ → List ℕ
 entry_line i = word i ++ (codes ": " ++ (expression (i % 4) ++ codes ";\n"))

@@ -15,7 +15,7 @@ pub inside_is_shorter : (l m : Link) → is_inside l m ≡ true → link_length 
 inside_is_shorter l m is = grind (arith, nat_tests)
 
 -- what passes a test, of elements of one kind
-filtered : {X : Type 0} (P Q : X → Type 0) (p : X → Bool) → ((x : X) → Q x → p x ≡ true → P x) → (xs : List X) → All Q xs → All P (filter p xs)
+pub filtered : {X : Type 0} (P Q : X → Type 0) (p : X → Bool) → ((x : X) → Q x → p x ≡ true → P x) → (xs : List X) → All Q xs → All P (filter p xs)
 filtered P Q p gives [] h = All-nil P
 filtered P Q p gives (x ∷ xs) h = one (p x) refl (filtered P Q p gives xs (All-tail Q x xs h))
   where

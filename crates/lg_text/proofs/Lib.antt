@@ -1,6 +1,7 @@
 pub mod Joined
 pub mod Bytes
 pub mod PlainTexts
+pub mod PlainDiagrams
 pub mod TextLines
 pub mod Heads
 pub mod Reading
@@ -9,3 +10,5 @@ pub mod Painting
 pub mod Heights
 pub mod Columns
 pub mod Lines
+pub mod Rising
+pub mod Seeing

@@ -28,18 +28,19 @@ line_is links h columns blank barred linked line is bars shown ends =
     ∙ sym (get_or-map-range_with_len (character_at links h) 0 columns c c d (omega arith) (omega arith)))
 
 -- the lines from a height down are its line and those below
-lines_down : (links : List Drawn) (columns height : ℕ) → 0 < height → link_lines links columns height ≡ link_line_at links columns height ++ 10 ∷ link_lines links columns (height - 1)
-lines_down links columns zero some = absurd (omega arith)
-lines_down links columns (suc h) some = let below : h ≡ suc h - 1 = omega arith in ap (λ k. link_line_at links columns (suc h) ++ 10 ∷ link_lines links columns k) below
+lines_down : (mark : List ℕ) (links : List Drawn) (columns height : ℕ) → 0 < height → link_lines mark links columns height ≡ mark ++ (link_line_at links columns height ++ 10 ∷ link_lines mark links columns (height - 1))
+lines_down mark links columns zero some = absurd (omega arith)
+lines_down mark links columns (suc h) some = let below : h ≡ suc h - 1 = omega arith in ap (λ k. mark ++ (link_line_at links columns (suc h) ++ 10 ∷ link_lines mark links columns k)) below
 
--- one more line is written
-pub lines_more : (links : List Drawn) (columns height : ℕ) (old new all : List ℕ) → 0 < height → new ≡ old ++ (link_line_at links columns height ++ 10 ∷ []) → old ++ link_lines links columns height ≡ all → new ++ link_lines links columns (height - 1) ≡ all
-lines_more links columns height old new all some is so_far =
+-- one more line is written, behind the mark
+pub lines_more : (mark : List ℕ) (links : List Drawn) (columns height : ℕ) (old marked new all : List ℕ) → 0 < height → marked ≡ old ++ mark → new ≡ marked ++ (link_line_at links columns height ++ 10 ∷ [])
+    → old ++ link_lines mark links columns height ≡ all → new ++ link_lines mark links columns (height - 1) ≡ all
+lines_more mark links columns height old marked new all some is_marked is so_far =
     let line = link_line_at links columns height in
-    let rest = link_lines links columns (height - 1) in
-    ap (λ x. x ++ rest) is ∙ append_assoc old (line ++ 10 ∷ []) rest
-    ∙ ap (λ x. old ++ x) (append_assoc line (10 ∷ []) rest ∙ sym (lines_down links columns height some)) ∙ so_far
+    let rest = link_lines mark links columns (height - 1) in
+    (λ t. (is ∙ ap (λ x. x ++ (line ++ 10 ∷ [])) is_marked) t ++ rest) ∙ append_assoc (old ++ mark) (line ++ 10 ∷ []) rest ∙ append_assoc old mark ((line ++ 10 ∷ []) ++ rest)
+    ∙ ap (λ x. old ++ x) (ap (λ x. mark ++ x) (append_assoc line (10 ∷ []) rest) ∙ sym (lines_down mark links columns height some)) ∙ so_far
 
-pub lines_end : (links : List Drawn) (columns height : ℕ) (old all : List ℕ) → height ≤ 0 → old ++ link_lines links columns height ≡ all → old ≡ all
-lines_end links columns zero old all low so_far = sym (append-nil old) ∙ so_far
-lines_end links columns (suc h) old all low so_far = absurd (omega arith)
+pub lines_end : (mark : List ℕ) (links : List Drawn) (columns height : ℕ) (old all : List ℕ) → height ≤ 0 → old ++ link_lines mark links columns height ≡ all → old ≡ all
+lines_end mark links columns zero old all low so_far = sym (append-nil old) ∙ so_far
+lines_end mark links columns (suc h) old all low so_far = absurd (omega arith)

@@ -75,7 +75,7 @@ merged_plain (x ∷ xs) (y ∷ ys) e f =
     (cond_both (eqb x 42) y x (λ (z : ℕ). eqb 10 z ≡ false) (λ _. second.0) (λ _. first.0))
     (merged_plain xs ys first.1 second.1)
 
-take_plain : (n : ℕ) (xs : List ℕ) → IsOneLine xs → IsOneLine (take n xs)
+pub take_plain : (n : ℕ) (xs : List ℕ) → IsOneLine xs → IsOneLine (take n xs)
 take_plain zero xs e = refl
 take_plain (suc n) [] e = refl
 take_plain (suc n) (x ∷ xs) e = let parts = or_parts (eqb 10 x) (list_any (eqb 10) xs) e in or_from (eqb 10 x) (list_any (eqb 10) (take n xs)) parts.0 (take_plain n xs parts.1)

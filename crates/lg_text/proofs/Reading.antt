@@ -9,6 +9,7 @@ use Rattle.std.proofs.lemmas.List.Elements.{filter-append}
 use Rattle.std.proofs.lemmas.Grind.{flat_map-append}
 use Rattle.lg_gram.specs.declared.reply.Place.{Place}
 use Rattle.lg_text.specs.Replies.{place_text, journal_text}
+use Rattle.lg_text.specs.declared.look.Look.{Look}
 use Rattle.lg_text.specs.Shown.{IsOneLine, IsPlain, IsPlace, Answered, shown_of, answer_text, document_text, closed, begins, HasHead, page_words, journal_words, is_digit, JournalsAreShown, LinesAreApart, HeadsAreShown, DocumentsShow}
 use Rattle.lg_text.proofs.Bytes.{until, after, until_is, after_is, decimal_lacks}
 use Rattle.lg_text.proofs.PlainTexts.{AreOneLines}
@@ -108,14 +109,14 @@ extracts_both s t h k e f x y = record {
   entries_are = filter-append is_entry x.lines y.lines ∙ (λ i. x.entries_are i ++ y.entries_are i);
 }
 
-extracts_one : (a : Answered) → IsPlain a → Extracts (answer_text a) (head_line a ∷ []) []
-extracts_one a plain =
-    let h = head_of a plain in
+extracts_one : (look : Look) (a : Answered) → IsPlain a → Extracts (answer_text look a) (head_line a ∷ []) []
+extracts_one look a plain =
+    let h = head_of look a plain in
     let lines : List (List ℕ) = h.page.lines in
     let is_one : is_head (head_line a) ≡ true = ap is_head h.begins_so ∙ h.is_one in
     let is_none : is_entry (head_line a) ≡ false = ap is_entry h.begins_so ∙ not_entry h.digit h.more h.is_one in
-    let no_head : filter is_head lines ≡ [] = filter_none is_head lines (each_line head_byte is_head (λ c line. refl) false page_words (refl, (refl, (refl, (refl, (refl, tt))))) lines h.page.begun) in
-    let no_entry : filter is_entry lines ≡ [] = filter_none is_entry lines (each_line entry_byte is_entry (λ c line. refl) false page_words (refl, (refl, (refl, (refl, (refl, tt))))) lines h.page.begun) in
+    let no_head : filter is_head lines ≡ [] = filter_none is_head lines (each_line head_byte is_head (λ c line. refl) false page_words (refl, (refl, (refl, (refl, (refl, (refl, (refl, tt))))))) lines h.page.begun) in
+    let no_entry : filter is_entry lines ≡ [] = filter_none is_entry lines (each_line entry_byte is_entry (λ c line. refl) false page_words (refl, (refl, (refl, (refl, (refl, (refl, (refl, tt))))))) lines h.page.begun) in
     record {
       lines = head_line a ∷ lines;
       is = h.is ∙ ap (λ (l : List ℕ). closed (head_line a) ++ l) h.page.is;
@@ -124,10 +125,10 @@ extracts_one a plain =
       entries_are = cond-false (is_entry (head_line a)) (head_line a ∷ filter is_entry lines) (filter is_entry lines) is_none ∙ no_entry;
     }
 
-extracts_answers : (answers : List Answered) → AllByRecursion IsPlain answers → Extracts (flat_map answer_text answers) (map head_line answers) []
-extracts_answers [] plain = record { lines = []; is = refl; single = tt; heads_are = refl; entries_are = refl }
-extracts_answers (a ∷ answers) plain =
-    extracts_both (answer_text a) (flat_map answer_text answers) (head_line a ∷ []) (map head_line answers) [] [] (extracts_one a plain.0) (extracts_answers answers plain.1)
+extracts_answers : (look : Look) (answers : List Answered) → AllByRecursion IsPlain answers → Extracts (flat_map (answer_text look) answers) (map head_line answers) []
+extracts_answers look [] plain = record { lines = []; is = refl; single = tt; heads_are = refl; entries_are = refl }
+extracts_answers look (a ∷ answers) plain =
+    extracts_both (answer_text look a) (flat_map (answer_text look) answers) (head_line a ∷ []) (map head_line answers) [] [] (extracts_one look a plain.0) (extracts_answers look answers plain.1)
 
 extracts_journal : (j : List Place) → Extracts (journal_text j) [] (journal_lines j)
 extracts_journal j = record {
@@ -184,20 +185,20 @@ pub journals_are_shown : JournalsAreShown
 journals_are_shown j k p q e = same_journal j k p q (same_extracts (journal_text j) (journal_text k) [] [] (journal_lines j) (journal_lines k) (extracts_journal j) (extracts_journal k) e).1
 
 pub lines_are_apart : LinesAreApart
-lines_are_apart = ((λ a plain. (head_line a, head_of a plain)), journal_has_lines)
+lines_are_apart = ((λ look a plain. (head_line a, head_of look a plain)), journal_has_lines)
 
 -- an answer has one first line
 one_head : (x y text : List ℕ) → HasHead x text → HasHead y text → x ≡ y
 one_head x y text h k = (same_first x y h.rest k.rest h.single k.single (sym h.is ∙ k.is)).0
 
 pub heads_are_shown : HeadsAreShown
-heads_are_shown a b p q head h k =
-    same_shown a b p q (one_head (head_line a) head (answer_text a) (head_of a p) h ∙ one_head head (head_line b) (answer_text b) k (head_of b q))
+heads_are_shown look other a b p q head h k =
+    same_shown a b p q (one_head (head_line a) head (answer_text look a) (head_of look a p) h ∙ one_head head (head_line b) (answer_text other b) k (head_of other b q))
 
 pub documents_are_shown : DocumentsShow
-documents_are_shown one other j k p q r s e =
-    let x = extracts_both (flat_map answer_text one) (journal_text j) (map head_line one) [] [] (journal_lines j) (extracts_answers one p) (extracts_journal j) in
-    let y = extracts_both (flat_map answer_text other) (journal_text k) (map head_line other) [] [] (journal_lines k) (extracts_answers other q) (extracts_journal k) in
-    let parts = same_extracts (document_text one j) (document_text other k) _ _ _ _ x y e in
+documents_are_shown look look' one other j k p q r s e =
+    let x = extracts_both (flat_map (answer_text look) one) (journal_text j) (map head_line one) [] [] (journal_lines j) (extracts_answers look one p) (extracts_journal j) in
+    let y = extracts_both (flat_map (answer_text look') other) (journal_text k) (map head_line other) [] [] (journal_lines k) (extracts_answers look' other q) (extracts_journal k) in
+    let parts = same_extracts (document_text look one j) (document_text look' other k) _ _ _ _ x y e in
     let heads : map head_line one ≡ map head_line other = append_cancel_right (map head_line one) (map head_line other) [] parts.0 in
     (same_heads one other p q heads, same_journal j k r s parts.1)

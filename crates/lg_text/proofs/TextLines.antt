@@ -1,5 +1,5 @@
 -- The lines of pages, of answers and of the journal.
-use Rattle.std.proofs.Common.{◌≡◌, ℕ, ◌+◌, ◌<◌, ◌^◌, Bool, true, false, cond, List, [], ◌∷◌, ◌++◌, length, map, Option, Some, None, refl, ap, sym, ◌∙◌, arith, codes, append-nil}
+use Rattle.std.proofs.Common.{◌≡◌, ℕ, zero, suc, ◌+◌, ◌<◌, ◌^◌, Bool, true, false, cond, List, [], ◌∷◌, ◌++◌, length, map, Option, Some, None, refl, ap, sym, ◌∙◌, arith, codes, append-nil, append_assoc}
 use Rattle.std.specs.List.{list_all, flat_map, enumerate_from, zip, join_with_byte, AllByRecursion}
 use Rattle.std.specs.Option.{option_map_or}
 use Rattle.std.specs.Fmt.{decimal}
@@ -17,17 +17,22 @@ use Rattle.lg_gram.specs.declared.listing.Bound.TheVariants.{TooManyWords, TooWi
 use Rattle.lg_gram.specs.declared.listing.Token.{Token}
 use Rattle.lg_gram.specs.declared.listing.Page.{Page}
 use Rattle.lg_gram.specs.declared.listing.PageItem.{PageItem}
+use Rattle.lg_gram.specs.declared.listing.Stats.{Stats}
 use Rattle.lg_gram.specs.declared.listing.Violation.{Violation}
 use Rattle.lg_gram.specs.declared.reply.CommandKind.{CommandKind}
 use Rattle.lg_gram.specs.declared.reply.CommandKind.TheVariants as kinds
 use Rattle.lg_gram.specs.declared.reply.Place.{Place}
 use Rattle.lg_gram.specs.declared.reply.Reply.{Reply}
 use Rattle.lg_gram.specs.declared.reply.Reply.TheVariants.{Listed, Beyond, Published, Refused, At, NoListing}
-use Rattle.lg_text.specs.Texts.{line_of, heading_line, word_line, link_line, label_text, choice_pieces, linkage_text, fail_line, item_text, shown, page_line, page_text, bound_pieces}
+use Rattle.lg_text.specs.Texts.{line_of, heading_line, word_line, link_line, label_text, choice_pieces, linkage_text, bound_pieces}
+use Rattle.lg_text.specs.Diagrams.{Drawn, cells, starts_of, drawn_of, link_line_at, link_lines, cells_line, highest, line_width, marked_diagram}
+use Rattle.lg_text.specs.Pages.{fail_line, shown_diagram, item_text, shown, page_line, page_text, shown_stats, listing_text}
+use Rattle.lg_text.specs.declared.look.Look.{Look}
 use Rattle.lg_text.specs.Replies.{kind_word, place_text, cause_pieces, reply_text, edit_line, journal_text}
 use Rattle.lg_text.specs.Shown.{IsOneLine, IsPlainPage, IsPlainReply, IsPlain, Answered, answer_text, closed, begins, HasLines, HasHead, page_words, journal_words, is_digit}
 use Rattle.lg_text.proofs.Bytes.{lacks_both, decimal_digits}
 use Rattle.lg_text.proofs.PlainTexts.{AreOneLines, AreChosen, joined_plain, number_plain, cost_plain, label_plain, choice_plain}
+use Rattle.lg_text.proofs.PlainDiagrams.{drawn_plain, link_line_plain, cells_plain, words_plain}
 
 pub all_both : {X : Type 0} (P : X → Type 0) (xs ys : List X) → AllByRecursion P xs → AllByRecursion P ys → AllByRecursion P (xs ++ ys)
 all_both P [] ys p q = q
@@ -68,12 +73,12 @@ word_lines from (t ∷ tokens) (o ∷ chosen) named all = (
   word_lines (from + 1) tokens chosen named.1 all.1,
 )
 
-link_lines : (g : Linkage) → AreChosen g.chosen → (links : List Link) → AllByRecursion (λ l. HasLines page_words (link_line g l)) links
-link_lines g all [] = tt
-link_lines g all (l ∷ links) = (
+links_lines : (g : Linkage) → AreChosen g.chosen → (links : List Link) → AllByRecursion (λ l. HasLines page_words (link_line g l)) links
+links_lines g all [] = tt
+links_lines g all (l ∷ links) = (
   line_one page_words (codes "link" ∷ decimal l.left ∷ decimal l.right ∷ label_text g l ∷ decimal l.lplace ∷ decimal l.rplace ∷ [])
       (refl, (number_plain l.left, (number_plain l.right, (label_plain g all l, (number_plain l.lplace, (number_plain l.rplace, tt)))))) refl,
-  link_lines g all links,
+  links_lines g all links,
 )
 
 linkage_lines : (tokens : List Token) (number : ℕ) (g : Linkage) → AllByRecursion (λ (token : Token). IsOneLine token.text) tokens → AreChosen g.chosen → HasLines page_words (linkage_text tokens number g)
@@ -81,7 +86,41 @@ linkage_lines tokens number g named all =
     lines_both page_words (heading_line number g) _ (heading_lines number g)
     (lines_both page_words (flat_map word_line (enumerate_from 0 (zip tokens g.chosen))) (flat_map (link_line g) g.links)
     (lines_all page_words word_line (enumerate_from 0 (zip tokens g.chosen)) (word_lines 0 tokens g.chosen named all))
-    (lines_all page_words (link_line g) g.links (link_lines g all g.links)))
+    (lines_all page_words (link_line g) g.links (links_lines g all g.links)))
+
+-- a line of a diagram, behind its mark
+marked_line : (line rest : List ℕ) → IsOneLine line → HasLines page_words rest → HasLines page_words (62 ∷ (line ++ 10 ∷ rest))
+marked_line line rest plain lines = record {
+  lines = (62 ∷ line) ∷ lines.lines;
+  is = ap (λ (l : List ℕ). 62 ∷ (line ++ 10 ∷ l)) lines.is ∙ sym (append_assoc (62 ∷ line) (10 ∷ []) (flat_map closed lines.lines));
+  single = (plain, lines.single);
+  begun = (refl, lines.begun);
+}
+
+diagram_lines : (tokens : List Token) (g : Linkage) → AllByRecursion (λ (token : Token). IsOneLine token.text) tokens → AreChosen g.chosen → HasLines page_words (marked_diagram (codes ">") tokens g)
+diagram_lines tokens g named all =
+    lines_both page_words (link_lines (codes ">") links columns (highest links)) (62 ∷ (cells_line 0 texts starts ++ 10 ∷ [])) (down (highest links))
+    (marked_line (cells_line 0 texts starts) [] (words_plain 0 texts starts (cells_plain tokens g.chosen named)) (lines_none page_words))
+  where
+    texts : List (List ℕ)
+    texts = cells tokens g
+
+    starts : List ℕ
+    starts = starts_of texts g (length texts)
+
+    links : List Drawn
+    links = map (drawn_of g starts) g.links
+
+    columns : ℕ
+    columns = line_width starts
+
+    down : (h : ℕ) → HasLines page_words (link_lines (codes ">") links columns h)
+    down zero = lines_none page_words
+    down (suc h) = marked_line (link_line_at links columns (suc h)) (link_lines (codes ">") links columns h) (link_line_plain links (drawn_plain g starts all g.links) columns (suc h)) (down h)
+
+shown_lines : (b : Bool) (tokens : List Token) (g : Linkage) → AllByRecursion (λ (token : Token). IsOneLine token.text) tokens → AreChosen g.chosen → HasLines page_words (shown_diagram b tokens g)
+shown_lines true tokens g named all = diagram_lines tokens g named all
+shown_lines false tokens g named all = lines_none page_words
 
 broken_lines : (number : ℕ) (broken : Option Violation) (text : List ℕ) → HasLines page_words text → HasLines page_words (option_map_or (fail_line number) broken text)
 broken_lines number None text lines = lines
@@ -89,23 +128,38 @@ broken_lines number (Some v) text lines = line_one page_words
     (codes "fail" ∷ decimal number ∷ codes "rule" ∷ decimal v.rule ∷ codes "link" ∷ decimal v.left ∷ decimal v.right ∷ [])
     (refl, (number_plain number, (refl, (number_plain v.rule, (refl, (number_plain v.left, (number_plain v.right, tt))))))) refl
 
-item_lines : (tokens : List Token) (items : List PageItem) → AllByRecursion (λ (token : Token). IsOneLine token.text) tokens → AllByRecursion (λ (item : PageItem). AreChosen item.linkage.chosen) items
-    → AllByRecursion (λ item. HasLines page_words (item_text tokens item)) items
-item_lines tokens [] named all = tt
-item_lines tokens (item ∷ items) named all =
-    (broken_lines item.number item.broken (linkage_text tokens item.number item.linkage) (linkage_lines tokens item.number item.linkage named all.0), item_lines tokens items named all.1)
+item_lines : (look : Look) (tokens : List Token) (items : List PageItem) → AllByRecursion (λ (token : Token). IsOneLine token.text) tokens → AllByRecursion (λ (item : PageItem). AreChosen item.linkage.chosen) items
+    → AllByRecursion (λ item. HasLines page_words (item_text look tokens item)) items
+item_lines look tokens [] named all = tt
+item_lines look tokens (item ∷ items) named all = (
+  broken_lines item.number item.broken (linkage_text tokens item.number item.linkage ++ shown_diagram look.diagram tokens item.linkage)
+      (lines_both page_words (linkage_text tokens item.number item.linkage) (shown_diagram look.diagram tokens item.linkage)
+      (linkage_lines tokens item.number item.linkage named all.0) (shown_lines look.diagram tokens item.linkage named all.0)),
+  item_lines look tokens items named all.1,
+)
 
 end_plain : (b : Bool) → IsOneLine (cond b (codes "end") (codes "more"))
 end_plain true = refl
 end_plain false = refl
 
-pub page_lines : (tokens : List Token) (page : Page) → IsPlainPage tokens page → HasLines page_words (page_text tokens page)
-page_lines tokens page plain =
-    lines_both page_words (flat_map (item_text tokens) page.items) (page_line page)
-    (lines_all page_words (item_text tokens) page.items (item_lines tokens page.items plain.tokens_plain plain.chosen_plain))
+page_lines : (look : Look) (tokens : List Token) (page : Page) → IsPlainPage tokens page → HasLines page_words (page_text look tokens page)
+page_lines look tokens page plain =
+    lines_both page_words (flat_map (item_text look tokens) page.items) (page_line page)
+    (lines_all page_words (item_text look tokens) page.items (item_lines look tokens page.items plain.tokens_plain plain.chosen_plain))
     (line_one page_words
     (codes "page" ∷ codes "shown" ∷ decimal (shown page.items) ∷ codes "examined" ∷ decimal (length page.items) ∷ codes "next" ∷ decimal page.next ∷ cond page.end (codes "end") (codes "more") ∷ [])
     (refl, (refl, (number_plain (shown page.items), (refl, (number_plain (length page.items), (refl, (number_plain page.next, (end_plain page.end, tt)))))))) refl)
+
+stats_lines : (b : Bool) (stats : Option Stats) → HasLines page_words (shown_stats b stats)
+stats_lines true (Some s) = line_one page_words
+    (codes "stats" ∷ codes "disjuncts" ∷ decimal s.disjuncts ∷ codes "kept" ∷ decimal s.kept ∷ [])
+    (refl, (refl, (number_plain s.disjuncts, (refl, (number_plain s.kept, tt))))) refl
+stats_lines true None = lines_none page_words
+stats_lines false stats = lines_none page_words
+
+pub listing_lines : (look : Look) (tokens : List Token) (page : Page) (stats : Option Stats) → IsPlainPage tokens page → HasLines page_words (listing_text look tokens page stats)
+listing_lines look tokens page stats plain =
+    lines_both page_words (shown_stats look.stats stats) (page_text look tokens page) (stats_lines look.stats stats) (page_lines look tokens page plain)
 
 -- ---- answers
 
@@ -136,17 +190,17 @@ told_line r = join_with_byte 32 (told_pieces r)
 abbrev pub head_line : Answered → List ℕ
 head_line a = place_text a.place ++ 32 ∷ (kind_word a.kind ++ 32 ∷ told_line a.reply)
 
-abbrev tail_text : Reply → List ℕ
-tail_text (Listed version tokens page stats) = page_text tokens page
-tail_text _ = []
+abbrev tail_text : Look → Reply → List ℕ
+tail_text look (Listed version tokens page stats) = listing_text look tokens page stats
+tail_text look _ = []
 
-head_is : (place : Place) (kind : CommandKind) (r : Reply) → reply_text place kind r ≡ closed (place_text place ++ 32 ∷ (kind_word kind ++ 32 ∷ told_line r)) ++ tail_text r
-head_is place kind (Listed version tokens page stats) = refl
-head_is place kind (Beyond version bound) = sym (append-nil (reply_text place kind (Beyond version bound)))
-head_is place kind (Published version) = sym (append-nil (reply_text place kind (Published version)))
-head_is place kind (Refused version cause name) = sym (append-nil (reply_text place kind (Refused version cause name)))
-head_is place kind (At version) = sym (append-nil (reply_text place kind (At version)))
-head_is place kind NoListing = sym (append-nil (reply_text place kind NoListing))
+head_is : (look : Look) (place : Place) (kind : CommandKind) (r : Reply) → reply_text look place kind r ≡ closed (place_text place ++ 32 ∷ (kind_word kind ++ 32 ∷ told_line r)) ++ tail_text look r
+head_is look place kind (Listed version tokens page stats) = refl
+head_is look place kind (Beyond version bound) = sym (append-nil (reply_text look place kind (Beyond version bound)))
+head_is look place kind (Published version) = sym (append-nil (reply_text look place kind (Published version)))
+head_is look place kind (Refused version cause name) = sym (append-nil (reply_text look place kind (Refused version cause name)))
+head_is look place kind (At version) = sym (append-nil (reply_text look place kind (At version)))
+head_is look place kind NoListing = sym (append-nil (reply_text look place kind NoListing))
 
 cause_plain : (cause : EditRefusal) (name : List ℕ) → IsOneLine name → AreOneLines (cause_pieces cause name)
 cause_plain (UnknownMacro number) name plain = (refl, (refl, (plain, tt)))
@@ -168,33 +222,33 @@ told_plain (Refused version cause name) plain = (refl, (refl, (lacks_both 10 (de
 told_plain (At version) plain = (number_plain version, tt)
 told_plain NoListing plain = (refl, (refl, tt))
 
-tail_lines : (r : Reply) → IsPlainReply r → HasLines page_words (tail_text r)
-tail_lines (Listed version tokens page stats) plain = page_lines tokens page plain
-tail_lines (Beyond version bound) plain = lines_none page_words
-tail_lines (Published version) plain = lines_none page_words
-tail_lines (Refused version cause name) plain = lines_none page_words
-tail_lines (At version) plain = lines_none page_words
-tail_lines NoListing plain = lines_none page_words
+tail_lines : (look : Look) (r : Reply) → IsPlainReply r → HasLines page_words (tail_text look r)
+tail_lines look (Listed version tokens page stats) plain = listing_lines look tokens page stats plain
+tail_lines look (Beyond version bound) plain = lines_none page_words
+tail_lines look (Published version) plain = lines_none page_words
+tail_lines look (Refused version cause name) plain = lines_none page_words
+tail_lines look (At version) plain = lines_none page_words
+tail_lines look NoListing plain = lines_none page_words
 
 -- the first digit of a number
 first_digit : (digits : List ℕ) → 0 < length digits → list_all is_digit digits ≡ true → (c : ℕ) × (cs : List ℕ) × (digits ≡ c ∷ cs) × (is_digit c ≡ true)
 first_digit [] some all = absurd (omega arith)
 first_digit (c ∷ cs) some all = (c, cs, refl, (and_parts (is_digit c) (list_all is_digit cs) all).0)
 
-pub head_of : (a : Answered) → IsPlain a → HasHead (head_line a) (answer_text a)
-head_of a plain =
+pub head_of : (look : Look) (a : Answered) → IsPlain a → HasHead (head_line a) (answer_text look a)
+head_of look a plain =
     let small : a.place.session < 2 ^ 64 = let less = plain.place.0 in omega arith in
     let d = first_digit (decimal a.place.session) (decimal_nonempty a.place.session small) (decimal_digits a.place.session) in
     let told : IsOneLine (told_line a.reply) = joined_plain 32 refl (told_pieces a.reply) (told_plain a.reply plain.texts) in
     record {
-      rest = tail_text a.reply;
-      is = head_is a.place a.kind a.reply;
+      rest = tail_text look a.reply;
+      is = head_is look a.place a.kind a.reply;
       single = lacks_both 10 (place_text a.place) _ (place_plain a.place) (lacks_both 10 (kind_word a.kind) _ (kind_plain a.kind) told);
       digit = d.0;
       more = (d.1 ++ 46 ∷ decimal a.place.command) ++ 32 ∷ (kind_word a.kind ++ 32 ∷ told_line a.reply);
       begins_so = ap (λ (l : List ℕ). (l ++ 46 ∷ decimal a.place.command) ++ 32 ∷ (kind_word a.kind ++ 32 ∷ told_line a.reply)) d.2;
       is_one = d.3;
-      page = tail_lines a.reply plain.texts;
+      page = tail_lines look a.reply plain.texts;
     }
 
 -- ---- the journal

@@ -4,7 +4,7 @@ use Rattle.lg_text.proofs.drawing.lines.write_link_lines.Given as goal
 
 -- what is left gives the rest
 abbrev pub invariant-loop-height : goal.invariant-loop-height
-invariant-loop-height l = l.out.items ++ link_lines l.links l.columns l.height ≡ l.initial.out.items ++ link_lines l.links l.columns (highest l.links)
+invariant-loop-height l = l.out.items ++ link_lines l.mark l.links l.columns l.height ≡ l.initial.out.items ++ link_lines l.mark l.links l.columns (highest l.links)
 
 abbrev pub decreases-loop-height : goal.decreases-loop-height
 decreases-loop-height l = l.height

@@ -1,0 +1,77 @@
+#!/usr/bin/env python3
+"""Times sentences by a large dictionary, beside link-parser with the same one, where that is installed.
+
+    bench/english.py FOLDER [LIMIT]
+
+FOLDER has `en.dict`, a dictionary of this program's format; `lp`, the same dictionary as a language directory of link-parser; and
+files `sentences-N.txt` with a sentence of N words a line. The program is the one that `bin/lgparse --build` builds. For each file
+it prints, for each sentence, the numbers of disjuncts before and after pruning, and the processor seconds and the megabytes of
+both programs beyond those that they take for the dictionary alone; and then the medians. A run ends after LIMIT seconds (60).
+"""
+import glob
+import os
+import re
+import shutil
+import statistics
+import subprocess
+import sys
+import tempfile
+
+TOP = os.path.dirname(os.path.dirname(os.path.realpath(__file__)))
+PROGRAM = os.path.join(TOP, "crates/lgparse/out/lgparse")
+PARSER = ["-cost-max=1000", "-short=254", "-limit=1000", "-postscript=0", "-graphics=0", "-links=10", "-timeout=600", "-islands-ok=0", "-null=1"]
+
+
+def measured(command, words, limit):
+    """Processor seconds and megabytes of a run, and its output; nothing where it does not end in time."""
+    with tempfile.NamedTemporaryFile("r") as told:
+        try:
+            run = subprocess.run(["/usr/bin/time", "-q", "-o", told.name, "-f", "%U %S %M", *command],
+                                 input=words, capture_output=True, text=True, timeout=limit, check=False)
+        except subprocess.TimeoutExpired:
+            return None
+        user, system, most = told.read().split()
+    return float(user) + float(system), int(most) / 1024, run.stdout
+
+
+def ours(folder, sentence, limit):
+    return measured([PROGRAM, "one", "--want", "10", "--stats", "on", f"{folder}/en.dict", sentence], "", limit)
+
+
+def theirs(folder, sentence, limit):
+    if shutil.which("link-parser") is None:
+        return None
+    return measured(["link-parser", f"{folder}/lp", *PARSER], sentence + "\n", limit)
+
+
+def beyond(run, base):
+    return None if run is None or base is None else (max(run[0] - base[0], 0.0), max(run[1] - base[1], 0.0))
+
+
+def shown(pair):
+    return "        -         -" if pair is None else f"{pair[0]:7.2f} s {pair[1]:6.0f} MB"
+
+
+def middle(pairs):
+    ended = [pair for pair in pairs if pair is not None]
+    if len(ended) < len(pairs) or not ended:
+        return None
+    return statistics.median(p[0] for p in ended), statistics.median(p[1] for p in ended)
+
+
+def main():
+    folder, limit = sys.argv[1], float(sys.argv[2]) if len(sys.argv) > 2 else 60.0
+    base = ours(folder, "", limit), theirs(folder, "", limit)
+    print("dictionary alone:   lgparse", shown(base[0] and base[0][:2]), "  link-parser", shown(base[1] and base[1][:2]))
+    for path in sorted(glob.glob(f"{folder}/sentences-*.txt")):
+        both = []
+        for sentence in open(path, encoding="utf-8").read().splitlines():
+            run = ours(folder, sentence, limit)
+            found = re.match(r"stats disjuncts (\d+) kept (\d+)", run[2]) if run else None
+            counts = found.groups() if found else ("-", "-")
+            both.append((beyond(run, base[0]), beyond(theirs(folder, sentence, limit), base[1])))
+            print(f"{len(sentence.split()):3d} words {counts[0]:>8} {counts[1]:>7}", shown(both[-1][0]), shown(both[-1][1]), flush=True)
+        print("     medians              ", shown(middle([b[0] for b in both])), shown(middle([b[1] for b in both])), flush=True)
+
+
+main()

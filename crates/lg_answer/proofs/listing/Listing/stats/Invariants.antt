@@ -1,7 +1,0 @@
-use Rattle.std.proofs.Common.{◌≡◌, length, take}
-use Rattle.std.specs.List.{sum_by}
-use Rattle.lg_answer.proofs.listing.Listing.stats.Given as goal
-
--- the disjuncts of the positions so far
-abbrev pub invariant-loop-position : goal.invariant-loop-position
-invariant-loop-position l = l.disjuncts ≡ sum_by length (take l.position-index l.position-items)

@@ -1,0 +1,14 @@
+pub mod Elements
+pub mod Choices
+pub mod Leaves
+pub mod Numbered
+pub mod Linked
+pub mod Bounds
+pub mod Kept
+pub mod Sweeps
+pub mod Matches
+pub mod Final
+pub mod Listed
+pub mod Joined
+pub mod Members
+pub mod Places

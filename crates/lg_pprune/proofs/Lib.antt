@@ -1,0 +1,7 @@
+pub mod Elements
+pub mod Chosen
+pub mod Tables
+pub mod Settling
+pub mod Supporting
+pub mod Adding
+pub mod Pruned

@@ -1,0 +1,28 @@
+use Rattle.std.proofs.Common.{◌+◌, ◌<◌, length, sym, subst, arith}
+use Rattle.std.proofs.lemmas.List.{length-map}
+use Rattle.lg_pprune.specs.Sites.{table_in}
+use Rattle.lg_pprune.proofs.Tables.{TableSoFar, items_of, table_none, table_used, table_unused, table_all, at_index, flag_at}
+use Rattle.lg_pprune.proofs.table.fill.Goals as goal
+use Rattle.lg_pprune.proofs.table.fill.Goals.{then-used-index+in_ok-push_sites, else-used-index}
+
+pub loop-index-init : goal.loop-index-init
+loop-index-init c = table_none c.args.right c.args.words c.args.sides.now c.args.used.now c.args.table.now c.requires.long c.requires.none
+
+pub push_sites-requires : goal.push_sites-requires
+push_sites-requires c = let a = c.loop-index.invariant.long in let b = length-map c.loop-index.table items_of in omega arith
+
+pub loop-index-preserved : goal.loop-index-preserved
+loop-index-preserved c =
+    let h = c.loop-index-test.true in
+    let e = c.requires.same_length in
+    let l : c.loop-index.index < length c.args.used.now = omega arith in
+    elim c.if-used-index.branch [
+      | then-used-index+in_ok-push_sites w ↦ subst (λ z. TableSoFar c.args.right c.args.words c.args.sides.now c.args.used.now (c.loop-index.index + 1) (table_in z)) (sym w.table-is)
+          (table_used c.args.right c.args.words c.args.sides.now c.args.used.now c.loop-index.index (table_in c.loop-index.table) (table_in w.push_sites.new.table) w.index-sides-index.result
+          (at_index c.args.sides.now c.loop-index.index w.index-sides-index.result h w.index-sides-index.is) (flag_at c.args.used.now c.loop-index.index _ l w.if-used-index.true) c.loop-index.invariant w.in_ok-push_sites.ensures)
+      | else-used-index w ↦ subst (λ z. TableSoFar c.args.right c.args.words c.args.sides.now c.args.used.now (c.loop-index.index + 1) (table_in z)) (sym w.table-is)
+          (table_unused c.args.right c.args.words c.args.sides.now c.args.used.now c.loop-index.index (table_in c.loop-index.table) (flag_at c.args.used.now c.loop-index.index _ l w.if-used-index.false) c.loop-index.invariant)
+    ]
+
+pub returns : goal.returns
+returns c = table_all c.args.right c.args.words c.args.sides.now c.args.used.now c.loop-index.index (table_in c.loop-index.table) c.loop-index-test.false c.loop-index.invariant
