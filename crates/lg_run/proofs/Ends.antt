@@ -11,10 +11,10 @@ use Rattle.lg_knowread.specs.declared.fault.KnowError.{KnowError}
 use Rattle.lg_knowread.specs.declared.fault.KnowError.TheVariants as know_errors
 use Rattle.lg_script.specs.declared.script_error.ScriptError.{ScriptError}
 use Rattle.lg_script.specs.declared.script_error.ScriptError.TheVariants as script_errors
-use Rattle.lg_answer.specs.declared.options.Options.{Options}
 use Rattle.lg_run.specs.Words.{Task, TaskIs, OptionsAre, AreInRange}
 use Rattle.lg_run.specs.Commands.{option_words, task, IsCommand}
 use Rattle.lg_run.specs.declared.command.Command.{Command}
+use Rattle.lg_run.specs.declared.setup.Setup.{Setup}
 use Rattle.lg_run.specs.Inputs.{Found, Reading, accepted, refused, IsOne, Given, InputsAre}
 use Rattle.lg_run.specs.Lines.{memory_line, dict_line, know_line, script_line}
 use Rattle.lg_run.specs.Stops.{dict_status, know_status, script_status, stop_status, stop_line, EndsAs, EndsWithLine}
@@ -49,24 +49,34 @@ told_map (Some known) words Holds More leads h = λ t is. leads known t (h t is)
 
 -- ---- the options that were read
 
-module _ (words texts : List (List ℕ)) (command : Command) (options : Options) (is : IsCommand words command) (same : texts ≡ option_words command) (read : (o : Options) → OptionsAre texts o → options ≡ o) where
-  are_read : options ≡ is.options
-  are_read = read is.options (subst (λ (w : List (List ℕ)). OptionsAre w is.options) (sym same) is.are_options)
+module _ (words texts : List (List ℕ)) (command : Command) (setup : Setup) (is : IsCommand words command) (same : texts ≡ option_words command) (read : (o : Setup) → OptionsAre texts o → setup ≡ o) where
+  are_read : setup ≡ is.setup
+  are_read = read is.setup (subst (λ (w : List (List ℕ)). OptionsAre w is.setup) (sym same) is.are_options)
 
-  pub range_read : AreInRange options
+  pub range_read : AreInRange setup
   range_read = subst AreInRange (sym are_read) is.range
 
   -- so that the task is the command's with them
-  is_task_read : TaskIs words (task options command)
-  is_task_read = subst (λ (o : Options). TaskIs words (task o command)) (sym are_read) is.is_task
+  is_task_read : TaskIs words (task setup command)
+  is_task_read = subst (λ (o : Setup). TaskIs words (task o command)) (sym are_read) is.is_task
 
-  pub about_read : OneTask → (asked : List (List ℕ)) (stop : Stop) → IsAbout (names_of (task options command)) asked stop → (t : Task) → TaskIs words t → IsAbout (names_of t) asked stop
-  about_read one asked stop h t that = subst (λ (t : Task). IsAbout (names_of t) asked stop) (one words (task options command) t is_task_read that) h
+  pub about_read : OneTask → (asked : List (List ℕ)) (stop : Stop) → IsAbout (names_of (task setup command)) asked stop → (t : Task) → TaskIs words t → IsAbout (names_of t) asked stop
+  about_read one asked stop h t that = subst (λ (t : Task). IsAbout (names_of t) asked stop) (one words (task setup command) t is_task_read that) h
 
-  pub told_read : OneTask → (contents : Option Contents) (Holds : Reading Given → Type 0) → IfSome contents (λ known. Holds (InputsAre known (task options command))) → WhereTold contents words Holds
-  told_read one contents Holds h = told_of one contents (task options command) words Holds is_task_read h
+  pub told_read : OneTask → (contents : Option Contents) (Holds : Reading Given → Type 0) → IfSome contents (λ known. Holds (InputsAre known (task setup command))) → WhereTold contents words Holds
+  told_read one contents Holds h = told_of one contents (task setup command) words Holds is_task_read h
 
 -- ---- what is written
+
+-- an output fails only where the count of its faults rose
+pub caused_so : (g : Given) (status : Status) (before after : Option (List ℕ)) (files_before files_now out_before out_now : ℕ) → Finishes g status before after → (status ≡ WriteFault → Rose out_before out_now)
+    → Caused status files_before files_now out_before out_now
+caused_so g Done before after files_before files_now out_before out_now f rose = tt
+caused_so g WriteFault before after files_before files_now out_before out_now f rose = rose refl
+caused_so g NoMemory before after files_before files_now out_before out_now f rose = tt
+caused_so g ReadFault before after files_before files_now out_before out_now f rose = absurd f
+caused_so g BadInput before after files_before files_now out_before out_now f rose = tt
+caused_so g Usage before after files_before files_now out_before out_now f rose = tt
 
 module _ (inputs : Reading Given) (old new : List (List ℕ)) (before after : Option (List ℕ)) where
   -- a command that has its inputs in hand finishes so
@@ -87,6 +97,10 @@ module _ (inputs : Reading Given) (old new : List (List ℕ)) (before after : Op
   stopped same Done line is h = absurd is
   stopped same Usage line is h = absurd is
   stopped same WriteFault line is h = absurd is
+
+  pub told_stop : Keeps before after → (stop : Stop) (status : Status) (so : Type 0) (err_old err_new : Option (List ℕ)) → IsStopped status → EndsAs stop status so err_old err_new → TellsStop inputs old new (stop_status stop) (stop_line stop) → Told inputs old new before after status
+  told_stop same stop status so err_old err_new is (inl says) h = subst (λ (s : Status). Told inputs old new before after s) (sym says.same) (stopped same (stop_status stop) (stop_line stop) (subst IsStopped says.same is) h)
+  told_stop same stop status so err_old err_new is (inr says) h = subst (λ (s : Status). Told inputs old new before after s) (sym says.same) (inl same)
 
   module _ (one : IsOne inputs) (files_before files_now out_before out_now : ℕ) where
     clash : (g : Given) (line : List ℕ) → ◌≡◌ {A = Found Given} (accepted g) (refused line) → ⊥

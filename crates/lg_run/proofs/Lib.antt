@@ -15,3 +15,6 @@ pub mod Printed
 pub mod Turned
 pub mod Shown
 pub mod Numbers
+pub mod MadeAnswers
+pub mod MadeText
+pub mod MadeInputs

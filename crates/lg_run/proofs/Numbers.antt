@@ -10,7 +10,7 @@ use Rattle.lg_gram.specs.declared.reply.Reply.{Reply}
 use Rattle.lg_gram.specs.declared.reply.Reply.TheVariants.{Listed, Beyond, Published, Refused, At, NoListing}
 use Rattle.lg_dict.specs.Dictionary.{Dictionary}
 use Rattle.lg_knowread.specs.declared.knowledge.Knowledge.{Knowledge}
-use Rattle.lg_answer.specs.declared.options.Options.{Options}
+use Rattle.lg_run.specs.declared.setup.Setup.{Setup}
 use Rattle.lg_script.specs.Commands.{CommandView}
 use Rattle.lg_script.specs.Histories.{numbered, is_published, published_by, reply_version}
 use Rattle.lg_text.specs.Shown.{IsPlain, IsPlainReply, IsPlace, shown_version}
@@ -18,7 +18,7 @@ use Rattle.lg_text.proofs.TextLines.{all_both}
 use Rattle.lg_run.specs.Documents.{IsOutcome}
 use Rattle.lg_run.specs.Shown.{placed, all_placed, ArePlain, HasShortScripts, HasPlainTexts, OutcomesAreShown, RunsAreShown}
 
-from_all : {X : Type 0} (P : X → Type 0) (xs : List X) → All P xs → AllByRecursion P xs
+pub from_all : {X : Type 0} (P : X → Type 0) (xs : List X) → All P xs → AllByRecursion P xs
 from_all P [] h = tt
 from_all P (x ∷ xs) h = (h 0 x (omega arith), from_all P xs (λ k d less. h (suc k) d (omega arith)))
 
@@ -69,11 +69,11 @@ number_within : {X : Type 0} (xs : List X) (n : ℕ) → is_some (numbered xs n)
 number_within xs zero some = absurd (true≢false (sym some))
 number_within xs (suc k) some = let less = within xs k some in (omega arith, omega arith)
 
-abbrev places_of : ℕ → List Place → List Place
+abbrev pub places_of : ℕ → List Place → List Place
 places_of session journal = filter (λ p. p.session == session) journal
 
 -- what holds of the places of each session holds of all
-in_each : (Q : Place → Type 0) (replies : List (List Reply)) (journal : List Place) → AllByRecursion (λ (p : Place). is_some (numbered replies p.session) ≡ true) journal
+pub in_each : (Q : Place → Type 0) (replies : List (List Reply)) (journal : List Place) → AllByRecursion (λ (p : Place). is_some (numbered replies p.session) ≡ true) journal
     → ((session : ℕ) (rs : List Reply) → numbered replies session ≡ Some rs → AllByRecursion Q (places_of session journal)) → AllByRecursion Q journal
 in_each Q replies [] has each = tt
 in_each Q replies (p ∷ ps) has each = (here (numbered replies p.session) refl has.0, in_each Q replies ps has.1 (λ session rs is. others session (p.session == session) (each session rs is)))
@@ -86,7 +86,7 @@ in_each Q replies (p ∷ ps) has each = (here (numbered replies p.session) refl 
     others session true h = h.1
     others session false h = h
 
-abbrev place_in : ℕ → ℕ × Reply → Place
+abbrev pub place_in : ℕ → ℕ × Reply → Place
 place_in session n = record { session = session; command = n.0 }
 
 published_small : (session n : ℕ) (rs : List Reply) → n + length rs ≤ 2 ^ 32
@@ -163,7 +163,7 @@ numbered_at : {X : Type 0} (d : X) (xs : List X) (n : ℕ) → 1 ≤ n → n ≤
 numbered_at d xs zero low high = absurd (omega arith)
 numbered_at d xs (suc k) low high = (get_or xs k d, slice_get-get_or xs k d (omega arith))
 
-module _ (options : Options) (dict : Dictionary) (know : Knowledge) (scripts : List (List CommandView)) (document : List ℕ) (o : IsOutcome options dict know scripts document) (short : HasShortScripts scripts) where
+module _ (setup : Setup) (dict : Dictionary) (know : Knowledge) (scripts : List (List CommandView)) (document : List ℕ) (o : IsOutcome setup dict know scripts document) (short : HasShortScripts scripts) where
   has : AllByRecursion (λ (p : Place). is_some (numbered o.replies p.session) ≡ true) o.journal
   has = from_all (λ (p : Place). is_some (numbered o.replies p.session) ≡ true) o.journal o.legal.journal.no_other
 
@@ -222,6 +222,6 @@ module _ (options : Options) (dict : Dictionary) (know : Knowledge) (scripts : L
   }
 
 pub runs_are_shown : OutcomesAreShown → RunsAreShown
-runs_are_shown shows options options' dict dict' know know' scripts scripts' document one other short short' plain plain' =
-    shows scripts scripts' one.replies other.replies one.journal other.journal
-    (are_plain options dict know scripts document one short plain) (are_plain options' dict' know' scripts' document other short' plain') (sym one.is ∙ other.is)
+runs_are_shown shows setup setup' dict dict' know know' scripts scripts' document one other short short' plain plain' =
+    shows setup.look setup'.look scripts scripts' one.replies other.replies one.journal other.journal
+    (are_plain setup dict know scripts document one short plain) (are_plain setup' dict' know' scripts' document other short' plain') (sym one.is ∙ other.is)

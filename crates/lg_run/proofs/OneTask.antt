@@ -8,13 +8,13 @@ use Rattle.std.proofs.lemmas.List.Sums.{AllPass-from_list_all, list_all-from_All
 use Rattle.lg_answer.specs.Pages.{default_options}
 use Rattle.lg_answer.specs.declared.options.Nulls.{Nulls as Unlinked}
 use Rattle.lg_answer.specs.declared.options.Nulls.TheVariants.{First, Passing}
-use Rattle.lg_answer.specs.declared.options.Options.{Options}
+use Rattle.lg_run.specs.declared.setup.Setup.{Setup}
 use Rattle.lg_script.specs.Bounds.{IsCount}
-use Rattle.lg_script.specs.Commands.{IsNumber}
-use Rattle.lg_run.specs.Words.{Task, One, Run, IsKnown, want, examine, nulls, WritesNulls, first, passing, value_of, AreOptions, none, apart, joined, GivesNumber, GivesNulls, Gives, OptionsAre, is_operand, SENTENCE, SCRIPTS, TaskIs, one, run, AreInRange}
+use Rattle.lg_script.specs.Commands.{IsNumber, written_number}
+use Rattle.lg_run.specs.Words.{Task, One, Run, Gen, IsKnown, want, examine, nulls, prune, stats, diagram, WritesNulls, first, passing, WritesSwitch, on, off, value_of, AreOptions, none, apart, joined, GivesNumber, GivesNulls, GivesSwitch, Gives, default_look, OptionsAre, is_operand, SENTENCE, SCRIPTS, Writes, IsSeed, IsMadeCount, TaskIs, one, run, gen, AreInRange}
 use Rattle.lg_run.specs.Settings.{name_of, operand, IsCut}
 use Rattle.lg_run.specs.declared.options.Setting.{Setting}
-use Rattle.lg_run.specs.declared.options.Setting.TheVariants.{Want, Examine, Nulls}
+use Rattle.lg_run.specs.declared.options.Setting.TheVariants.{Want, Examine, Nulls, Prune, Stats, Diagram}
 use Rattle.lg_run.specs.Commands.{option_words, task, IsCommand}
 use Rattle.lg_run.specs.declared.command.Command.{Command}
 use Rattle.lg_run.proofs.OptionWords.{Settings, same_setting, same_cut}
@@ -26,11 +26,17 @@ abbrev FormOf : Setting → List ℕ → Type 0
 FormOf Want value = (n : ℕ) × IsNumber value n
 FormOf Examine value = (n : ℕ) × IsNumber value n
 FormOf Nulls value = (n : Unlinked) × WritesNulls value n
+FormOf Prune value = (b : Bool) × WritesSwitch value b
+FormOf Stats value = (b : Bool) × WritesSwitch value b
+FormOf Diagram value = (b : Bool) × WritesSwitch value b
 
 form_by : (name value : List ℕ) → IsKnown name value → (s : Setting) × (name ≡ name_of s) × FormOf s value
 form_by name value (want v n is) = (Want, refl, (n, is))
 form_by name value (examine v n is) = (Examine, refl, (n, is))
 form_by name value (nulls v n is) = (Nulls, refl, (n, is))
+form_by name value (prune v b is) = (Prune, refl, (b, is))
+form_by name value (stats v b is) = (Stats, refl, (b, is))
+form_by name value (diagram v b is) = (Diagram, refl, (b, is))
 
 -- the value that is given to an option is in its form
 form_first : (s : Setting) (b : Bool) (name value : List ℕ) (o : Option (List ℕ)) → bytes_eq name (name_of s) ≡ b → IsKnown name value → IfSome o (FormOf s) → IfSome (cond b (Some value) o) (FormOf s)
@@ -54,12 +60,22 @@ nulls_given : (o : Option (List ℕ)) (usual : Unlinked) → IfSome o (λ value.
 nulls_given None usual h = (usual, refl)
 nulls_given (Some value) usual h = (h.0, h.1)
 
-gives_some : (words : List (List ℕ)) (settings : Settings) → AreOptions words settings → (options : Options) × Gives settings options × AreInRange options
+switch_given : (o : Option (List ℕ)) (usual : Bool) → IfSome o (λ value. (b : Bool) × WritesSwitch value b) → (b : Bool) × GivesSwitch o usual b
+switch_given None usual h = (usual, refl)
+switch_given (Some value) usual h = (h.0, h.1)
+
+gives_some : (words : List (List ℕ)) (settings : Settings) → AreOptions words settings → (setup : Setup) × Gives settings setup × AreInRange setup
 gives_some words settings read =
     let w = number_given (value_of (codes "want") settings) default_options.want (omega arith, omega arith) (form_given Want words settings read) in
     let x = number_given (value_of (codes "examine") settings) default_options.examine (omega arith, omega arith) (form_given Examine words settings read) in
     let v = nulls_given (value_of (codes "nulls") settings) default_options.nulls (form_given Nulls words settings read) in
-    (record { want = w.0; examine = x.0; nulls = v.0 }, record { want = w.1; examine = x.1; nulls = v.1 }, (w.2, x.2))
+    let p = switch_given (value_of (codes "prune") settings) default_options.prune (form_given Prune words settings read) in
+    let s = switch_given (value_of (codes "stats") settings) default_look.stats (form_given Stats words settings read) in
+    let d = switch_given (value_of (codes "diagram") settings) default_look.diagram (form_given Diagram words settings read) in (
+      record { listing = record { want = w.0; examine = x.0; nulls = v.0; prune = p.0 }; look = record { diagram = d.0; stats = s.0 } },
+      record { want = w.1; examine = x.1; nulls = v.1; prune = p.1; stats = s.1; diagram = d.1 },
+      (w.2, x.2),
+    )
 
 one_number : (o : Option (List ℕ)) (usual n m : ℕ) → GivesNumber o usual n → GivesNumber o usual m → n ≡ m
 one_number None usual n m h k = h ∙ sym k
@@ -77,13 +93,31 @@ pub one_nulls : (o : Option (List ℕ)) (usual n m : Unlinked) → GivesNulls o 
 one_nulls None usual n m h k = h ∙ sym k
 one_nulls (Some value) usual n m h k = said_is value n h ∙ sym (said_is value m k)
 
--- options with the same values
-pub same_values : (x y : Options) → x.want ≡ y.want → x.examine ≡ y.examine → x.nulls ≡ y.nulls → x ≡ y
-same_values x y w e n = ap (λ (m : ℕ). record x { want = m }) w ∙ ap (λ (m : ℕ). record x { want = y.want; examine = m }) e ∙ ap (λ (m : Unlinked). record y { nulls = m }) n
+-- whether a word says that something is done
+abbrev switched : List ℕ → Bool
+switched value = bytes_eq value (codes "on")
 
-pub same_gives : (settings : Settings) (x y : Options) → Gives settings x → Gives settings y → x ≡ y
+switched_is : (value : List ℕ) (b : Bool) → WritesSwitch value b → b ≡ switched value
+switched_is value b on = refl
+switched_is value b off = refl
+
+pub one_switch : (o : Option (List ℕ)) (usual b c : Bool) → GivesSwitch o usual b → GivesSwitch o usual c → b ≡ c
+one_switch None usual b c h k = h ∙ sym k
+one_switch (Some value) usual b c h k = switched_is value b h ∙ sym (switched_is value c k)
+
+-- setups with the same values
+pub same_values : (x y : Setup) → x.listing.want ≡ y.listing.want → x.listing.examine ≡ y.listing.examine → x.listing.nulls ≡ y.listing.nulls → x.listing.prune ≡ y.listing.prune
+    → x.look.diagram ≡ y.look.diagram → x.look.stats ≡ y.look.stats → x ≡ y
+same_values x y w e n p d s = λ i. record {
+  listing = record { want = w i; examine = e i; nulls = n i; prune = p i };
+  look = record { diagram = d i; stats = s i };
+}
+
+pub same_gives : (settings : Settings) (x y : Setup) → Gives settings x → Gives settings y → x ≡ y
 same_gives settings x y h k =
-    same_values x y (one_number _ _ x.want y.want h.want k.want) (one_number _ _ x.examine y.examine h.examine k.examine) (one_nulls _ _ x.nulls y.nulls h.nulls k.nulls)
+    same_values x y (one_number _ _ x.listing.want y.listing.want h.want k.want) (one_number _ _ x.listing.examine y.listing.examine h.examine k.examine)
+    (one_nulls _ _ x.listing.nulls y.listing.nulls h.nulls k.nulls) (one_switch _ _ x.listing.prune y.listing.prune h.prune k.prune)
+    (one_switch _ _ x.look.diagram y.look.diagram h.diagram k.diagram) (one_switch _ _ x.look.stats y.look.stats h.stats k.stats)
 
 -- ---- the task
 
@@ -94,12 +128,12 @@ AreOperands words = All (λ word. IsTrue (is_operand word)) words
 -- what holds of a task of the word `one`, by the words behind it
 pub record IsOneOf (words : List (List ℕ)) (task : Task) : Type 0 where
   pub front : List (List ℕ)
-  pub options : Options
+  pub setup : Setup
   pub dictionary : List ℕ
   pub sentence : List ℕ
-  pub same : task ≡ One options dictionary sentence
+  pub same : task ≡ One setup dictionary sentence
   pub split : words ≡ front ++ dictionary ∷ sentence ∷ []
-  pub are : OptionsAre front options
+  pub are : OptionsAre front setup
   pub dictionary_is : IsTrue (is_operand dictionary)
   pub sentence_is : IsTrue (is_operand sentence)
   pub short : length sentence ≤ SENTENCE
@@ -107,24 +141,44 @@ pub record IsOneOf (words : List (List ℕ)) (task : Task) : Type 0 where
 -- and of the word `run`
 pub record IsRunOf (words : List (List ℕ)) (task : Task) : Type 0 where
   pub front : List (List ℕ)
-  pub options : Options
+  pub setup : Setup
   pub dictionary : List ℕ
   pub knowledge : List ℕ
   pub scripts : List (List ℕ)
-  pub same : task ≡ Run options dictionary knowledge scripts
+  pub same : task ≡ Run setup dictionary knowledge scripts
   pub split : words ≡ front ++ dictionary ∷ knowledge ∷ scripts
-  pub are : OptionsAre front options
+  pub are : OptionsAre front setup
   pub operands : AreOperands (dictionary ∷ knowledge ∷ scripts)
   pub some : 1 ≤ length scripts
   pub few : length scripts ≤ SCRIPTS
 
+-- and of the word `gen`
+pub record IsGenOf (words : List (List ℕ)) (task : Task) : Type 0 where
+  pub seed_word : List ℕ
+  pub made_word : List ℕ
+  pub count_word : List ℕ
+  pub seed : ℕ
+  pub made : ℕ
+  pub sentences : ℕ
+  pub same : task ≡ Gen seed made sentences
+  pub split : words ≡ seed_word ∷ made_word ∷ count_word ∷ []
+  pub is_seed : IsSeed seed_word seed
+  pub is_made : IsMadeCount made_word made
+  pub are_sentences : IsMadeCount count_word sentences
+
 one_is_not_run : codes "one" ≡ codes "run" → ⊥
 one_is_not_run e = let same : ◌≡◌ {A = ℕ} 111 114 = ap (λ (w : List ℕ). get_or w 0 0) e in absurd (omega arith)
 
+one_is_not_gen : codes "one" ≡ codes "gen" → ⊥
+one_is_not_gen e = let same : ◌≡◌ {A = ℕ} 111 103 = ap (λ (w : List ℕ). get_or w 0 0) e in absurd (omega arith)
+
+run_is_not_gen : codes "run" ≡ codes "gen" → ⊥
+run_is_not_gen e = let same : ◌≡◌ {A = ℕ} 114 103 = ap (λ (w : List ℕ). get_or w 0 0) e in absurd (omega arith)
+
 is_one : (words : List (List ℕ)) (task : Task) → TaskIs words task → (rest : List (List ℕ)) → words ≡ codes "one" ∷ rest → IsOneOf rest task
-is_one words task (one front options dictionary sentence are d s short) rest e = record {
+is_one words task (one front setup dictionary sentence are d s short) rest e = record {
   front = front;
-  options = options;
+  setup = setup;
   dictionary = dictionary;
   sentence = sentence;
   same = refl;
@@ -134,12 +188,13 @@ is_one words task (one front options dictionary sentence are d s short) rest e =
   sentence_is = s;
   short = short;
 }
-is_one words task (run front options dictionary knowledge scripts are operands some few) rest e = absurd (one_is_not_run cc)
+is_one words task (run front setup dictionary knowledge scripts are operands some few) rest e = absurd (one_is_not_run cc)
+is_one words task (gen a b c seed n m is_seed is_n is_m) rest e = absurd (one_is_not_gen cc)
 
 is_run : (words : List (List ℕ)) (task : Task) → TaskIs words task → (rest : List (List ℕ)) → words ≡ codes "run" ∷ rest → IsRunOf rest task
-is_run words task (run front options dictionary knowledge scripts are operands some few) rest e = record {
+is_run words task (run front setup dictionary knowledge scripts are operands some few) rest e = record {
   front = front;
-  options = options;
+  setup = setup;
   dictionary = dictionary;
   knowledge = knowledge;
   scripts = scripts;
@@ -150,7 +205,25 @@ is_run words task (run front options dictionary knowledge scripts are operands s
   some = some;
   few = few;
 }
-is_run words task (one front options dictionary sentence are d s short) rest e = absurd (one_is_not_run cc)
+is_run words task (one front setup dictionary sentence are d s short) rest e = absurd (one_is_not_run cc)
+is_run words task (gen a b c seed n m is_seed is_n is_m) rest e = absurd (run_is_not_gen cc)
+
+is_gen : (words : List (List ℕ)) (task : Task) → TaskIs words task → (rest : List (List ℕ)) → words ≡ codes "gen" ∷ rest → IsGenOf rest task
+is_gen words task (gen a b c seed n m is_seed is_n is_m) rest e = record {
+  seed_word = a;
+  made_word = b;
+  count_word = c;
+  seed = seed;
+  made = n;
+  sentences = m;
+  same = refl;
+  split = cc;
+  is_seed = is_seed;
+  is_made = is_n;
+  are_sentences = is_m;
+}
+is_gen words task (one front setup dictionary sentence are d s short) rest e = absurd (one_is_not_gen cc)
+is_gen words task (run front setup dictionary knowledge scripts are operands some few) rest e = absurd (run_is_not_gen cc)
 
 first_operand : (word : List ℕ) (words : List (List ℕ)) → AreOperands (word ∷ words) → IsTrue (is_operand word)
 first_operand word words operands = operands 0 [] (omega arith)
@@ -189,6 +262,15 @@ module _ (words front behind : List (List ℕ)) (cut : IsCut words front behind)
       let is = is_run (codes "run" ∷ words) task h words refl in
       nowhere is.dictionary is.knowledge is.scripts (cut_once words front is.front behind _ cut (run_cut words task is)).1 is.operands is.some is.few
 
+-- words that are no three numbers in form
+pub no_gen : (words : List (List ℕ)) → ((a b c : List ℕ) (seed n m : ℕ) → words ≡ a ∷ b ∷ c ∷ [] → IsSeed a seed → IsMadeCount b n → IsMadeCount c m → ⊥) → (task : Task) → TaskIs (codes "gen" ∷ words) task → ⊥
+no_gen words nowhere task h =
+    let is = is_gen (codes "gen" ∷ words) task h words refl in
+    nowhere is.seed_word is.made_word is.count_word is.seed is.made is.sentences is.split is.is_seed is.is_made is.are_sentences
+
+pub first_three : (a b c d e f : List ℕ) → a ∷ b ∷ c ∷ [] ≡ d ∷ e ∷ f ∷ [] → (a ≡ d) × (b ≡ e) × (c ≡ f)
+first_three a b c d e f h = (cc, cc, cc)
+
 pub first_two : (a b c d : List ℕ) → a ∷ b ∷ [] ≡ c ∷ d ∷ [] → (a ≡ c) × (b ≡ d)
 first_two a b c d e = (cc, cc)
 
@@ -212,58 +294,82 @@ module _ {A : Type 0} (text : A → List ℕ) (words : List A) where
 
 -- ---- a command
 
-pub is_one_command : (words : List (List ℕ)) (command : Command) (dictionary sentence : List ℕ) → ((options : Options) → task options command ≡ One options dictionary sentence)
+pub is_one_command : (words : List (List ℕ)) (command : Command) (dictionary sentence : List ℕ) → ((setup : Setup) → task setup command ≡ One setup dictionary sentence)
     → IsCut words (option_words command) (dictionary ∷ sentence ∷ []) → IsTrue (is_operand dictionary) → IsTrue (is_operand sentence) → length sentence ≤ SENTENCE → IsCommand (codes "one" ∷ words) command
 is_one_command words command dictionary sentence task_is cut d s short =
     let g = gives_some (option_words command) cut.settings cut.read in
     let are : OptionsAre (option_words command) g.0 = record { settings = cut.settings; read = cut.read; given = g.1 } in
     record {
-      options = g.0;
+      setup = g.0;
       are_options = are;
       is_task = rw (task_is g.0, cut.split) (one (option_words command) g.0 dictionary sentence are d s short);
       range = g.2;
       short = rw (task_is g.0) short;
     }
 
-pub is_run_command : (words : List (List ℕ)) (command : Command) (dictionary knowledge : List ℕ) (scripts : List (List ℕ)) → ((options : Options) → task options command ≡ Run options dictionary knowledge scripts)
+pub is_run_command : (words : List (List ℕ)) (command : Command) (dictionary knowledge : List ℕ) (scripts : List (List ℕ)) → ((setup : Setup) → task setup command ≡ Run setup dictionary knowledge scripts)
     → IsCut words (option_words command) (dictionary ∷ knowledge ∷ scripts) → AreOperands (dictionary ∷ knowledge ∷ scripts) → 1 ≤ length scripts → length scripts ≤ SCRIPTS → IsCommand (codes "run" ∷ words) command
 is_run_command words command dictionary knowledge scripts task_is cut operands some few =
     let g = gives_some (option_words command) cut.settings cut.read in
     let are : OptionsAre (option_words command) g.0 = record { settings = cut.settings; read = cut.read; given = g.1 } in
     record {
-      options = g.0;
+      setup = g.0;
       are_options = are;
       is_task = rw (task_is g.0, cut.split) (run (option_words command) g.0 dictionary knowledge scripts are operands some few);
       range = g.2;
       short = rw (task_is g.0) (some, few);
     }
 
+pub is_gen_command : (words : List (List ℕ)) (command : Command) (a b c : List ℕ) (seed n m : ℕ) → ((setup : Setup) → task setup command ≡ Gen seed n m) → option_words command ≡ []
+    → words ≡ a ∷ b ∷ c ∷ [] → IsSeed a seed → IsMadeCount b n → IsMadeCount c m → IsCommand (codes "gen" ∷ words) command
+is_gen_command words command a b c seed n m task_is no_options split is_seed is_n is_m =
+    let g = gives_some [] [] none in
+    record {
+      setup = g.0;
+      are_options = rw no_options (record { settings = []; read = none; given = g.1 });
+      is_task = rw (task_is g.0, split) (gen a b c seed n m is_seed is_n is_m);
+      range = g.2;
+      short = rw (task_is g.0) (is_seed.small, is_n.made, is_m.made);
+    }
+
 -- ---- a task is the only one
 
--- options are given in one way
-same_options : (front other : List (List ℕ)) (x y : Options) → (h : OptionsAre front x) → (k : OptionsAre other y) → h.settings ≡ k.settings → x ≡ y
-same_options front other x y h k e = same_gives h.settings x y h.given (rw e k.given)
+-- digits write one number
+one_writes : (most : ℕ) (a b : List ℕ) (n m : ℕ) → a ≡ b → Writes most a n → Writes most b m → n ≡ m
+one_writes most a b n m e h k = h.value ∙ ap (written_number 0) e ∙ sym k.value
 
-same_one : (x y : Options) (d e s t : List ℕ) → x ≡ y → d ≡ e → s ≡ t → One x d s ≡ One y e t
+same_gen : (a b c d e f : ℕ) → a ≡ d → b ≡ e → c ≡ f → Gen a b c ≡ Gen d e f
+same_gen a b c d e f g h i = rw (g, h, i) refl
+
+-- options are given in one way
+same_setup : (front other : List (List ℕ)) (x y : Setup) → (h : OptionsAre front x) → (k : OptionsAre other y) → h.settings ≡ k.settings → x ≡ y
+same_setup front other x y h k e = same_gives h.settings x y h.given (rw e k.given)
+
+same_one : (x y : Setup) (d e s t : List ℕ) → x ≡ y → d ≡ e → s ≡ t → One x d s ≡ One y e t
 same_one x y d e s t f g h = rw (f, g, h) refl
 
-same_run : (x y : Options) (d e k l : List ℕ) (s t : List (List ℕ)) → x ≡ y → d ≡ e → k ≡ l → s ≡ t → Run x d k s ≡ Run y e l t
+same_run : (x y : Setup) (d e k l : List ℕ) (s t : List (List ℕ)) → x ≡ y → d ≡ e → k ≡ l → s ≡ t → Run x d k s ≡ Run y e l t
 same_run x y d e k l s t f g h i = rw (f, g, h, i) refl
 
 pub one_task : (words : List (List ℕ)) (x y : Task) → TaskIs words x → TaskIs words y → x ≡ y
-one_task words x y (one front options dictionary sentence are d s short) k =
+one_task words x y (one front setup dictionary sentence are d s short) k =
     let rest = front ++ dictionary ∷ sentence ∷ [] in
     let own : IsCut rest front (dictionary ∷ sentence ∷ []) = record { settings = are.settings; split = refl; read = are.read; ends = operand dictionary (sentence ∷ []) d } in
     let is = is_one words y k rest refl in
     let that : IsCut rest is.front (is.dictionary ∷ is.sentence ∷ []) = record { settings = is.are.settings; split = is.split; read = is.are.read; ends = operand is.dictionary (is.sentence ∷ []) is.dictionary_is } in
     let cut = cut_once rest front is.front _ _ own that in
     let words_same = first_two _ _ _ _ cut.1 in
-    same_one options is.options dictionary is.dictionary sentence is.sentence (same_options front is.front options is.options are is.are cut.0) words_same.0 words_same.1 ∙ sym is.same
-one_task words x y (run front options dictionary knowledge scripts are operands some few) k =
+    same_one setup is.setup dictionary is.dictionary sentence is.sentence (same_setup front is.front setup is.setup are is.are cut.0) words_same.0 words_same.1 ∙ sym is.same
+one_task words x y (run front setup dictionary knowledge scripts are operands some few) k =
     let rest = front ++ dictionary ∷ knowledge ∷ scripts in
     let own : IsCut rest front (dictionary ∷ knowledge ∷ scripts) = record { settings = are.settings; split = refl; read = are.read; ends = operand dictionary (knowledge ∷ scripts) (first_operand dictionary (knowledge ∷ scripts) operands) } in
     let is = is_run words y k rest refl in
     let that : IsCut rest is.front (is.dictionary ∷ is.knowledge ∷ is.scripts) = record { settings = is.are.settings; split = is.split; read = is.are.read; ends = operand is.dictionary (is.knowledge ∷ is.scripts) (first_operand is.dictionary (is.knowledge ∷ is.scripts) is.operands) } in
     let cut = cut_once rest front is.front _ _ own that in
     let words_same = first_and_rest _ _ _ _ _ _ cut.1 in
-    same_run options is.options dictionary is.dictionary knowledge is.knowledge scripts is.scripts (same_options front is.front options is.options are is.are cut.0) words_same.0 words_same.1 words_same.2 ∙ sym is.same
+    same_run setup is.setup dictionary is.dictionary knowledge is.knowledge scripts is.scripts (same_setup front is.front setup is.setup are is.are cut.0) words_same.0 words_same.1 words_same.2 ∙ sym is.same
+one_task words x y (gen a b c seed n m is_seed is_n is_m) k =
+    let is = is_gen words y k (a ∷ b ∷ c ∷ []) refl in
+    let same = first_three _ _ _ _ _ _ is.split in
+    same_gen seed n m is.seed is.made is.sentences (one_writes 10 _ _ _ _ same.0 is_seed.writes is.is_seed.writes) (one_writes 6 _ _ _ _ same.1 is_n.writes is.is_made.writes) (one_writes 6 _ _ _ _ same.2 is_m.writes is.are_sentences.writes)
+    ∙ sym is.same

@@ -5,9 +5,9 @@ use Rattle.lg_dict.specs.Dictionary.{Dictionary}
 use Rattle.lg_knowread.specs.declared.fault.KnowError.{KnowError}
 use Rattle.lg_knowread.specs.declared.knowledge.Knowledge.{Knowledge}
 use Rattle.lg_knowread.specs.Reading.{KnowledgeIs}
-use Rattle.lg_answer.specs.declared.options.Options.{Options}
-use Rattle.lg_run.specs.Words.{Task, One, Run}
-use Rattle.lg_run.specs.Inputs.{HasSome, IsOne, FileIs, DictionaryInput, found_knowledge, KnowledgeReads, reads_knowledge, KnowledgeInput, ScriptsInput, EditsRead, OneGiven, RunGiven, given, ScriptsGiven, KnowledgeGiven, InputsAre, Followed}
+use Rattle.lg_run.specs.Words.{Task, One, Run, Gen}
+use Rattle.lg_run.specs.Inputs.{HasSome, IsOne, FileIs, DictionaryInput, found_knowledge, KnowledgeReads, reads_knowledge, KnowledgeInput, ScriptsInput, EditsRead, OneGiven, RunGiven, GenGiven, given, ScriptsGiven, KnowledgeGiven, InputsAre, Followed}
+use Rattle.lg_run.specs.declared.setup.Setup.{Setup}
 use Rattle.lg_run.proofs.Readings.{one_given, some_given, some_followed, one_followed}
 use Rattle.lg_run.proofs.ScriptLists.{SomeScript, OneScript, some_within, one_within}
 use Rattle.lg_run.proofs.Dictionaries.{some_file, one_file, SomeDictionary, OneDictionary, one_dictionary, some_dictionary}
@@ -33,33 +33,35 @@ one_knowledge law contents name = one_followed (FileIs contents name) (Knowledge
 -- ---- all inputs
 
 module _ (dictionaries : OneDictionary) (knowledges : OneKnowledge) (scripts : OneScript) (contents : Contents) where
-  one_of_scripts : (options : Options) (dict : Dictionary) (know : Knowledge) (names : List (List ℕ)) → IsOne (ScriptsGiven contents options dict know names)
-  one_of_scripts options dict know names =
-      one_followed (Followed (ScriptsInput contents names) (EditsRead names)) (λ all. given (RunGiven options dict know all)) (one_within contents scripts names) (λ all. one_given (RunGiven options dict know all))
+  one_of_scripts : (setup : Setup) (dict : Dictionary) (know : Knowledge) (names : List (List ℕ)) → IsOne (ScriptsGiven contents setup dict know names)
+  one_of_scripts setup dict know names =
+      one_followed (Followed (ScriptsInput contents names) (EditsRead names)) (λ all. given (RunGiven setup dict know all)) (one_within contents scripts names) (λ all. one_given (RunGiven setup dict know all))
 
-  one_of_knowledge : (options : Options) (dict : Dictionary) (knowledge : List ℕ) (names : List (List ℕ)) → IsOne (KnowledgeGiven contents options dict knowledge names)
-  one_of_knowledge options dict knowledge names =
-      one_followed (KnowledgeInput contents knowledge) (λ know. ScriptsGiven contents options dict know names) (one_knowledge knowledges contents knowledge) (λ know. one_of_scripts options dict know names)
+  one_of_knowledge : (setup : Setup) (dict : Dictionary) (knowledge : List ℕ) (names : List (List ℕ)) → IsOne (KnowledgeGiven contents setup dict knowledge names)
+  one_of_knowledge setup dict knowledge names =
+      one_followed (KnowledgeInput contents knowledge) (λ know. ScriptsGiven contents setup dict know names) (one_knowledge knowledges contents knowledge) (λ know. one_of_scripts setup dict know names)
 
   pub one_verdict : (task : Task) → IsOne (InputsAre contents task)
-  one_verdict (One options dictionary sentence) =
-      one_followed (DictionaryInput contents dictionary) (λ dict. given (OneGiven options dict sentence)) (one_dictionary dictionaries contents dictionary) (λ dict. one_given (OneGiven options dict sentence))
-  one_verdict (Run options dictionary knowledge names) =
-      one_followed (DictionaryInput contents dictionary) (λ dict. KnowledgeGiven contents options dict knowledge names) (one_dictionary dictionaries contents dictionary) (λ dict. one_of_knowledge options dict knowledge names)
+  one_verdict (One setup dictionary sentence) =
+      one_followed (DictionaryInput contents dictionary) (λ dict. given (OneGiven setup dict sentence)) (one_dictionary dictionaries contents dictionary) (λ dict. one_given (OneGiven setup dict sentence))
+  one_verdict (Run setup dictionary knowledge names) =
+      one_followed (DictionaryInput contents dictionary) (λ dict. KnowledgeGiven contents setup dict knowledge names) (one_dictionary dictionaries contents dictionary) (λ dict. one_of_knowledge setup dict knowledge names)
+  one_verdict (Gen seed words sentences) = one_given (GenGiven seed words sentences)
 
 module _ (dictionaries : SomeDictionary) (knowledges : SomeKnowledge) (scripts : SomeScript) (contents : Contents) where
-  some_of_scripts : (options : Options) (dict : Dictionary) (know : Knowledge) (names : List (List ℕ)) → HasSome (ScriptsGiven contents options dict know names)
-  some_of_scripts options dict know names =
-      some_followed (Followed (ScriptsInput contents names) (EditsRead names)) (λ all. given (RunGiven options dict know all)) (some_within contents scripts names) (λ all. some_given (RunGiven options dict know all))
+  some_of_scripts : (setup : Setup) (dict : Dictionary) (know : Knowledge) (names : List (List ℕ)) → HasSome (ScriptsGiven contents setup dict know names)
+  some_of_scripts setup dict know names =
+      some_followed (Followed (ScriptsInput contents names) (EditsRead names)) (λ all. given (RunGiven setup dict know all)) (some_within contents scripts names) (λ all. some_given (RunGiven setup dict know all))
 
-  some_of_knowledge : (options : Options) (dict : Dictionary) (knowledge : List ℕ) (names : List (List ℕ)) → HasSome (KnowledgeGiven contents options dict knowledge names)
-  some_of_knowledge options dict knowledge names =
-      some_followed (KnowledgeInput contents knowledge) (λ know. ScriptsGiven contents options dict know names)
+  some_of_knowledge : (setup : Setup) (dict : Dictionary) (knowledge : List ℕ) (names : List (List ℕ)) → HasSome (KnowledgeGiven contents setup dict knowledge names)
+  some_of_knowledge setup dict knowledge names =
+      some_followed (KnowledgeInput contents knowledge) (λ know. ScriptsGiven contents setup dict know names)
       (some_followed (FileIs contents knowledge) (KnowledgeReads knowledge) (some_file contents knowledge) (some_know_text knowledges knowledge))
-      (λ know. some_of_scripts options dict know names)
+      (λ know. some_of_scripts setup dict know names)
 
   pub some_verdict : (task : Task) → HasSome (InputsAre contents task)
-  some_verdict (One options dictionary sentence) =
-      some_followed (DictionaryInput contents dictionary) (λ dict. given (OneGiven options dict sentence)) (some_dictionary dictionaries contents dictionary) (λ dict. some_given (OneGiven options dict sentence))
-  some_verdict (Run options dictionary knowledge names) =
-      some_followed (DictionaryInput contents dictionary) (λ dict. KnowledgeGiven contents options dict knowledge names) (some_dictionary dictionaries contents dictionary) (λ dict. some_of_knowledge options dict knowledge names)
+  some_verdict (One setup dictionary sentence) =
+      some_followed (DictionaryInput contents dictionary) (λ dict. given (OneGiven setup dict sentence)) (some_dictionary dictionaries contents dictionary) (λ dict. some_given (OneGiven setup dict sentence))
+  some_verdict (Run setup dictionary knowledge names) =
+      some_followed (DictionaryInput contents dictionary) (λ dict. KnowledgeGiven contents setup dict knowledge names) (some_dictionary dictionaries contents dictionary) (λ dict. some_of_knowledge setup dict knowledge names)
+  some_verdict (Gen seed words sentences) = some_given (GenGiven seed words sentences)

@@ -13,6 +13,7 @@ use Rattle.lg_script.specs.declared.command.Command.{Command}
 use Rattle.lg_script.specs.Commands.{command_view, script_views}
 use Rattle.lg_script.specs.Kinds.{kind_of}
 use Rattle.lg_text.specs.Replies.{reply_text}
+use Rattle.lg_text.specs.declared.look.Look.{Look}
 use Rattle.lg_run.specs.Documents.{reply_texts, session_texts}
 use Rattle.lg_run.specs.Lines.{joined}
 use Rattle.lg_run.specs.Written.{Writes}
@@ -73,32 +74,32 @@ document_written old new given document (Err Memory) is w = inr (document, is, w
 -- ---- the texts of answers
 
 -- no command or no answer is left
-pub no_replies : (session n : ℕ) (commands : List Command) (rs : List Reply) → (commands ≡ []) ⊎ (rs ≡ []) → joined (reply_texts session n (map command_view commands) rs) ≡ []
-no_replies session n [] [] e = refl
-no_replies session n [] (r ∷ rs) e = refl
-no_replies session n (command ∷ commands) [] e = refl
-no_replies session n (command ∷ commands) (r ∷ rs) (inl e) = absurd (cc e)
-no_replies session n (command ∷ commands) (r ∷ rs) (inr e) = absurd (cc e)
+pub no_replies : (look : Look) (session n : ℕ) (commands : List Command) (rs : List Reply) → (commands ≡ []) ⊎ (rs ≡ []) → joined (reply_texts look session n (map command_view commands) rs) ≡ []
+no_replies look session n [] [] e = refl
+no_replies look session n [] (r ∷ rs) e = refl
+no_replies look session n (command ∷ commands) [] e = refl
+no_replies look session n (command ∷ commands) (r ∷ rs) (inl e) = absurd (cc e)
+no_replies look session n (command ∷ commands) (r ∷ rs) (inr e) = absurd (cc e)
 
 -- no script or no list of answers is left
-pub no_sessions : (session : ℕ) (scripts : List (List Command)) (replies : List (List Reply)) → (scripts ≡ []) ⊎ (replies ≡ []) → joined (session_texts session (script_views scripts) replies) ≡ []
-no_sessions session [] [] e = refl
-no_sessions session [] (rs ∷ replies) e = refl
-no_sessions session (commands ∷ scripts) [] e = refl
-no_sessions session (commands ∷ scripts) (rs ∷ replies) (inl e) = absurd (cc e)
-no_sessions session (commands ∷ scripts) (rs ∷ replies) (inr e) = absurd (cc e)
+pub no_sessions : (look : Look) (session : ℕ) (scripts : List (List Command)) (replies : List (List Reply)) → (scripts ≡ []) ⊎ (replies ≡ []) → joined (session_texts look session (script_views scripts) replies) ≡ []
+no_sessions look session [] [] e = refl
+no_sessions look session [] (rs ∷ replies) e = refl
+no_sessions look session (commands ∷ scripts) [] e = refl
+no_sessions look session (commands ∷ scripts) (rs ∷ replies) (inl e) = absurd (cc e)
+no_sessions look session (commands ∷ scripts) (rs ∷ replies) (inr e) = absurd (cc e)
 
 -- the answers to the next command, and to the others
-pub next_reply : (session n : ℕ) {scripts more : List Command} {rs left : List Reply} (command : Command) (r : Reply) → scripts ≡ command ∷ more → rs ≡ r ∷ left
-    → joined (reply_texts session n (map command_view scripts) rs) ≡ reply_text (record { session = session; command = n }) (kind_of (command_view command)) r ++ joined (reply_texts session (n + 1) (map command_view more) left)
-next_reply session n command r e f = λ i. joined (reply_texts session n (map command_view (e i)) (f i))
+pub next_reply : (look : Look) (session n : ℕ) {scripts more : List Command} {rs left : List Reply} (command : Command) (r : Reply) → scripts ≡ command ∷ more → rs ≡ r ∷ left
+    → joined (reply_texts look session n (map command_view scripts) rs) ≡ reply_text look (record { session = session; command = n }) (kind_of (command_view command)) r ++ joined (reply_texts look session (n + 1) (map command_view more) left)
+next_reply look session n command r e f = λ i. joined (reply_texts look session n (map command_view (e i)) (f i))
 
 -- those of the next session, and then the others with what follows
-pub next_session : (session : ℕ) {scripts more : List (List Command)} {replies left : List (List Reply)} {commands : List Command} {rs : List Reply} (here : List Command) (answers : List Reply) (last : List ℕ)
+pub next_session : (look : Look) (session : ℕ) {scripts more : List (List Command)} {replies left : List (List Reply)} {commands : List Command} {rs : List Reply} (here : List Command) (answers : List Reply) (last : List ℕ)
     → scripts ≡ commands ∷ more → replies ≡ rs ∷ left → here ≡ commands → answers ≡ rs
-    → joined (session_texts session (script_views scripts) replies) ++ last ≡ joined (reply_texts session 1 (map command_view here) answers) ++ (joined (session_texts (session + 1) (script_views more) left) ++ last)
-next_session session {more = more} {left = left} here answers last e f p q =
-    let first = reply_texts session 1 (map command_view here) answers in
-    let others = session_texts (session + 1) (script_views more) left in
-    (λ i. joined (session_texts session (script_views ((e ∙ ap (λ (l : List Command). l ∷ more) (sym p)) i)) ((f ∙ ap (λ (l : List Reply). l ∷ left) (sym q)) i)) ++ last)
+    → joined (session_texts look session (script_views scripts) replies) ++ last ≡ joined (reply_texts look session 1 (map command_view here) answers) ++ (joined (session_texts look (session + 1) (script_views more) left) ++ last)
+next_session look session {more = more} {left = left} here answers last e f p q =
+    let first = reply_texts look session 1 (map command_view here) answers in
+    let others = session_texts look (session + 1) (script_views more) left in
+    (λ i. joined (session_texts look session (script_views ((e ∙ ap (λ (l : List Command). l ∷ more) (sym p)) i)) ((f ∙ ap (λ (l : List Reply). l ∷ left) (sym q)) i)) ++ last)
     ∙ ap (λ (l : List ℕ). l ++ last) (flat_map-append (λ (piece : List ℕ). piece) first others) ∙ append_assoc (joined first) (joined others) last

@@ -10,6 +10,7 @@ pub mod Reads
 pub mod Pieces
 pub mod Documents
 pub mod MadeRuns
+pub mod Sums
 pub mod Shown
 pub mod Answers
 pub mod Listers

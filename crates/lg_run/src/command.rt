@@ -4,6 +4,7 @@ ghost use Rattle.std.specs.List.{list_all};
 ghost use Rattle.lg_run.specs.Words.{Task, TaskIs, is_operand};
 ghost use Rattle.lg_run.specs.Commands.{option_words, IsCommand};
 
+use crate::number::{made_count_of, seed_of};
 use crate::options::{cut_options, is_operand};
 use lg_dictread::FILE;
 
@@ -23,6 +24,12 @@ pub enum Command<'a> {
         knowledge: &'a str,
         scripts: &'a [String],
     },
+    /// The sums of a made session.
+    Gen {
+        seed: u32,
+        words: u32,
+        sentences: u32,
+    },
 }
 
 impl<'a> Command<'a> {
@@ -32,6 +39,7 @@ impl<'a> Command<'a> {
     {
         match self {
             Command::One { options, .. } | Command::Run { options, .. } => options,
+            Command::Gen { .. } => &[],
         }
     }
 }
@@ -44,11 +52,13 @@ const SCRIPTS: usize = 64;
 
 /// The command that the words ask for. None where they are in no form.
 ///
-/// The first word is `one` or `run`. Options follow, each at most once and in any order, in two words or joined by `=`:
-/// `--want N` and `--examine N`, where N is one to seven digits that write a number from 1 to 1,000,000, and
-/// `--nulls first` or `--nulls passing`. Where an option is left out, want is 10, examine is 1000 and nulls is first.
-/// Operands are last, and none of them begins with `-`: `one` has two, DICT and SENTENCE, of which the second has at most
-/// 67,108,864 bytes, and `run` has DICT, KNOWLEDGE and 1 to 64 scripts.
+/// The first word is `one`, `run` or `gen`. Behind the first two stand options, each at most once and in any order, in two words or
+/// joined by `=`: `--want N` and `--examine N`, where N is one to seven digits that write a number from 1 to 1,000,000,
+/// `--nulls first` or `--nulls passing`, and `--prune`, `--stats` and `--diagram`, each with `on` or `off`. Where an option is left
+/// out, want is 10, examine is 1000, nulls is first, prune is on, and stats and diagram are off. Operands are last, and none of them
+/// begins with `-`: `one` has two, DICT and SENTENCE, of which the second has at most 67,108,864 bytes, and `run` has DICT, KNOWLEDGE
+/// and 1 to 64 scripts. Behind `gen` stand three words of digits alone: a seed of up to ten digits that write a number below 2^32, and
+/// the numbers of words and of sentences, each of up to six digits that write a number from 1 to 100,000.
 pub fn command_of(words: &[String]) -> Option<Command<'_>>
     ensures { MatchOption result
         ((t : Task) → TaskIs (map string_bytes words.now) t → ⊥)
@@ -58,6 +68,7 @@ pub fn command_of(words: &[String]) -> Option<Command<'_>>
     match word.as_str() {
         "one" => one_of(rest),
         "run" => run_of(rest),
+        "gen" => gen_of(rest),
         _ => None,
     }
 }
@@ -95,6 +106,33 @@ fn run_of(words: &[String]) -> Option<Command<'_>>
         knowledge,
         scripts,
     })
+}
+
+fn gen_of(words: &[String]) -> Option<Command<'_>>
+    ensures { MatchOption result
+        ((t : Task) → TaskIs (codes "gen" ∷ map string_bytes words.now) t → ⊥)
+        (IsCommand (codes "gen" ∷ map string_bytes words.now)) }
+{
+    let (seed, words, sentences) = three_of(words)?;
+    let seed = seed_of(seed)?;
+    let words = made_count_of(words)?;
+    let sentences = made_count_of(sentences)?;
+    Some(Command::Gen {
+        seed,
+        words,
+        sentences,
+    })
+}
+
+// The words, where there are three.
+fn three_of(words: &[String]) -> Option<(&str, &str, &str)>
+    ensures { MatchOption result
+        ((a b c : List ℕ) → map string_bytes words.now ≡ a ∷ b ∷ c ∷ [] → ⊥)
+        (λ three. map string_bytes words.now ≡ three.0.now ∷ three.1.now ∷ three.2.now ∷ []) }
+{
+    let (first, rest) = words.split_first()?;
+    let (second, third) = two_of(rest)?;
+    Some((first.as_str(), second, third))
 }
 
 // The words, where there are two.

@@ -10,8 +10,8 @@ ghost use Rattle.lg_run.specs.Answers.{names_of, IsGivenInBounds};
 use crate::command::Command;
 use crate::knowledge::read_know;
 use crate::script::read_scripts;
+use crate::setup::Setup;
 use crate::stop::Stop;
-use lg_answer::Options;
 use lg_base::{FileError, Files, NoMemory};
 use lg_dict::Dict;
 use lg_dictread::{FILE, exactly_one_dictionary, read_dict};
@@ -23,45 +23,60 @@ use std::alloc::Global;
 #[derive(Drop)]
 pub enum Inputs<'a> {
     One {
-        options: Options,
+        setup: Setup,
         dict: Dict,
         sentence: &'a str,
     },
     Run {
-        options: Options,
+        setup: Setup,
         dict: Dict,
         know: Knowledge,
         scripts: Scripts,
     },
+    /// Nothing is read for made input.
+    Gen {
+        seed: u32,
+        words: u32,
+        sentences: u32,
+    },
 }
 
-/// Reads the inputs of a command that has these options.
+/// Reads the inputs of a command that has this setup.
 pub fn read_inputs<'a, F: Files>(
     alloc: Global,
     files: &mut F,
-    options: Options,
+    setup: Setup,
     command: Command<'a>,
 ) -> Result<Inputs<'a>, Stop<'a>>
-    requires short { IsShort (task options command) }
-    requires range { AreInRange options }
-    ensures names { IfSome (F.contents files.old) (λ known. AsksInOrder (InputsAre known (task options command.entry)) (F.asked files.old) (F.asked files.new)) }
-    ensures told { IfSome (F.contents files.old) (λ known. Tells given_in (InputsAre known (task options command.entry)) (F.asked files.old) (F.asked files.new) result) }
+    requires short { IsShort (task setup command) }
+    requires range { AreInRange setup }
+    ensures names { IfSome (F.contents files.old) (λ known. AsksInOrder (InputsAre known (task setup command.entry)) (F.asked files.old) (F.asked files.new)) }
+    ensures told { IfSome (F.contents files.old) (λ known. Tells given_in (InputsAre known (task setup command.entry)) (F.asked files.old) (F.asked files.new) result) }
     ensures bounds { IfOk result (λ inputs. IsGivenInBounds (given_in inputs)) }
     ensures cause { HasCause (F.asked files.new) (F.faults files.old) (F.faults files.new) result }
-    ensures about { IfErr result (IsAbout (names_of (task options command.entry)) (F.asked files.new)) }
+    ensures about { IfErr result (IsAbout (names_of (task setup command.entry)) (F.asked files.new)) }
 {
     match command {
         Command::One {
             dictionary,
             sentence,
             ..
-        } => inputs_of_one(alloc, files, options, dictionary, sentence),
+        } => inputs_of_one(alloc, files, setup, dictionary, sentence),
         Command::Run {
             dictionary,
             knowledge,
             scripts,
             ..
-        } => inputs_of_run(alloc, files, options, dictionary, knowledge, scripts),
+        } => inputs_of_run(alloc, files, setup, dictionary, knowledge, scripts),
+        Command::Gen {
+            seed,
+            words,
+            sentences,
+        } => Ok(Inputs::Gen {
+            seed,
+            words,
+            sentences,
+        }),
     }
 }
 
@@ -69,14 +84,14 @@ pub fn read_inputs<'a, F: Files>(
 fn inputs_of_one<'a, F: Files>(
     alloc: Global,
     files: &mut F,
-    options: Options,
+    setup: Setup,
     dictionary: &'a str,
     sentence: &'a str,
 ) -> Result<Inputs<'a>, Stop<'a>>
-    requires range { AreInRange options }
+    requires range { AreInRange setup }
     requires short { length sentence.now ≤ SENTENCE }
-    ensures names { IfSome (F.contents files.old) (λ known. AsksInOrder (InputsAre known (One options dictionary.now sentence.now)) (F.asked files.old) (F.asked files.new)) }
-    ensures told { IfSome (F.contents files.old) (λ known. Tells given_in (InputsAre known (One options dictionary.now sentence.now)) (F.asked files.old) (F.asked files.new) result) }
+    ensures names { IfSome (F.contents files.old) (λ known. AsksInOrder (InputsAre known (One setup dictionary.now sentence.now)) (F.asked files.old) (F.asked files.new)) }
+    ensures told { IfSome (F.contents files.old) (λ known. Tells given_in (InputsAre known (One setup dictionary.now sentence.now)) (F.asked files.old) (F.asked files.new) result) }
     ensures bounds { IfOk result (λ inputs. IsGivenInBounds (given_in inputs)) }
     ensures cause { HasCause (F.asked files.new) (F.faults files.old) (F.faults files.new) result }
     ensures about { IfErr result (IsAbout (dictionary.now ∷ []) (F.asked files.new)) }
@@ -84,7 +99,7 @@ fn inputs_of_one<'a, F: Files>(
     exactly_one_dictionary();
     match read_dictionary(alloc, files, dictionary) {
         Ok(dict) => Ok(Inputs::One {
-            options,
+            setup,
             dict,
             sentence,
         }),
@@ -96,22 +111,22 @@ fn inputs_of_one<'a, F: Files>(
 fn inputs_of_run<'a, F: Files>(
     alloc: Global,
     files: &mut F,
-    options: Options,
+    setup: Setup,
     dictionary: &'a str,
     knowledge: &'a str,
     scripts: &'a [String],
 ) -> Result<Inputs<'a>, Stop<'a>>
-    requires range { AreInRange options }
+    requires range { AreInRange setup }
     requires scripts { (1 ≤ length scripts.now) × (length scripts.now ≤ SCRIPTS) }
-    ensures names { IfSome (F.contents files.old) (λ known. AsksInOrder (InputsAre known (Run options dictionary.now knowledge.now (map string_bytes scripts.now))) (F.asked files.old) (F.asked files.new)) }
-    ensures told { IfSome (F.contents files.old) (λ known. Tells given_in (InputsAre known (Run options dictionary.now knowledge.now (map string_bytes scripts.now))) (F.asked files.old) (F.asked files.new) result) }
+    ensures names { IfSome (F.contents files.old) (λ known. AsksInOrder (InputsAre known (Run setup dictionary.now knowledge.now (map string_bytes scripts.now))) (F.asked files.old) (F.asked files.new)) }
+    ensures told { IfSome (F.contents files.old) (λ known. Tells given_in (InputsAre known (Run setup dictionary.now knowledge.now (map string_bytes scripts.now))) (F.asked files.old) (F.asked files.new) result) }
     ensures bounds { IfOk result (λ inputs. IsGivenInBounds (given_in inputs)) }
     ensures cause { HasCause (F.asked files.new) (F.faults files.old) (F.faults files.new) result }
     ensures about { IfErr result (IsAbout (dictionary.now ∷ knowledge.now ∷ map string_bytes scripts.now) (F.asked files.new)) }
 {
     exactly_one_dictionary();
     match read_dictionary(alloc, files, dictionary) {
-        Ok(dict) => after_dictionary(alloc, files, options, dict, knowledge, scripts),
+        Ok(dict) => after_dictionary(alloc, files, setup, dict, knowledge, scripts),
         Err(stop) => Err(stop),
     }
 }
@@ -120,22 +135,22 @@ fn inputs_of_run<'a, F: Files>(
 fn after_dictionary<'a, F: Files>(
     alloc: Global,
     files: &mut F,
-    options: Options,
+    setup: Setup,
     dict: Dict,
     knowledge: &'a str,
     scripts: &'a [String],
 ) -> Result<Inputs<'a>, Stop<'a>>
-    requires range { AreInRange options }
+    requires range { AreInRange setup }
     requires scripts { (1 ≤ length scripts.now) × (length scripts.now ≤ SCRIPTS) }
-    ensures names { IfSome (F.contents files.old) (λ known. AsksInOrder (KnowledgeGiven known options dict knowledge.now (map string_bytes scripts.now)) (F.asked files.old) (F.asked files.new)) }
-    ensures told { IfSome (F.contents files.old) (λ known. Tells given_in (KnowledgeGiven known options dict knowledge.now (map string_bytes scripts.now)) (F.asked files.old) (F.asked files.new) result) }
+    ensures names { IfSome (F.contents files.old) (λ known. AsksInOrder (KnowledgeGiven known setup dict knowledge.now (map string_bytes scripts.now)) (F.asked files.old) (F.asked files.new)) }
+    ensures told { IfSome (F.contents files.old) (λ known. Tells given_in (KnowledgeGiven known setup dict knowledge.now (map string_bytes scripts.now)) (F.asked files.old) (F.asked files.new) result) }
     ensures bounds { IfOk result (λ inputs. IsGivenInBounds (given_in inputs)) }
     ensures cause { HasCause (F.asked files.new) (F.faults files.old) (F.faults files.new) result }
     ensures about { IfErr result (IsAbout (knowledge.now ∷ map string_bytes scripts.now) (F.asked files.new)) }
 {
     exactly_one_knowledge();
     match read_know(alloc, files, knowledge) {
-        Ok(know) => after_knowledge(alloc, files, options, dict, know, scripts),
+        Ok(know) => after_knowledge(alloc, files, setup, dict, know, scripts),
         Err(stop) => Err(stop),
     }
 }
@@ -144,16 +159,16 @@ fn after_dictionary<'a, F: Files>(
 fn after_knowledge<'a, F: Files>(
     alloc: Global,
     files: &mut F,
-    options: Options,
+    setup: Setup,
     dict: Dict,
     know: Knowledge,
     scripts: &'a [String],
 ) -> Result<Inputs<'a>, Stop<'a>>
-    requires range { AreInRange options }
+    requires range { AreInRange setup }
     requires few { length know.rules < 2 ^ 32 }
     requires scripts { (1 ≤ length scripts.now) × (length scripts.now ≤ SCRIPTS) }
-    ensures names { IfSome (F.contents files.old) (λ known. AsksInOrder (ScriptsGiven known options dict know (map string_bytes scripts.now)) (F.asked files.old) (F.asked files.new)) }
-    ensures told { IfSome (F.contents files.old) (λ known. Tells given_in (ScriptsGiven known options dict know (map string_bytes scripts.now)) (F.asked files.old) (F.asked files.new) result) }
+    ensures names { IfSome (F.contents files.old) (λ known. AsksInOrder (ScriptsGiven known setup dict know (map string_bytes scripts.now)) (F.asked files.old) (F.asked files.new)) }
+    ensures told { IfSome (F.contents files.old) (λ known. Tells given_in (ScriptsGiven known setup dict know (map string_bytes scripts.now)) (F.asked files.old) (F.asked files.new) result) }
     ensures bounds { IfOk result (λ inputs. IsGivenInBounds (given_in inputs)) }
     ensures cause { HasCause (F.asked files.new) (F.faults files.old) (F.faults files.new) result }
     ensures about { IfErr result (IsAbout (map string_bytes scripts.now) (F.asked files.new)) }
@@ -161,7 +176,7 @@ fn after_knowledge<'a, F: Files>(
     exactly_one_script();
     match read_scripts(alloc, files, scripts) {
         Ok(scripts) => Ok(Inputs::Run {
-            options,
+            setup,
             dict,
             know,
             scripts,

@@ -1,6 +1,6 @@
 //! What answers the sentences of a session.
 ghost use Rattle.std.specs.Prelude.{◌≡◌, ◌<◌, ◌^◌, length, IfOk};
-ghost use Rattle.lg_run.specs.Words.{AreInRange};
+ghost use Rattle.lg_run.specs.Words.{HasCounts};
 ghost use Rattle.lg_run.specs.Documents.{listings};
 ghost use Rattle.lg_run.specs.Listers.{StandsFor, Turns, MayTurn};
 
@@ -44,7 +44,7 @@ impl<'a> Lister<'a> {
     /// Lists by this knowledge, and with these options. There are fewer than 2^32 rules.
     pub(crate) fn new(know: &'a Knowledge, options: Options) -> Lister<'a>
         requires few { length know.now.rules < 2 ^ 32 }
-        requires range { AreInRange options }
+        requires range { HasCounts options }
         ensures { result ≡ record { know = know.entry.now; options = options } }
     {
         Lister { know, options }

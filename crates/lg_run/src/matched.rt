@@ -1,26 +1,28 @@
 //! The options of a command, taken by their names.
-ghost use Rattle.std.specs.Prelude.{◌≡◌, ℕ, List, false, codes, IfOk, IfErr, map, string_bytes, option_map};
+ghost use Rattle.std.specs.Prelude.{◌≡◌, ℕ, Bool, List, false, codes, IfOk, IfErr, map, string_bytes, option_map};
 ghost use Rattle.clap.specs.Words.{kind_of, rule_of};
 ghost use Rattle.lg_answer.specs.declared.options.Nulls.{Nulls as SeenNulls};
-ghost use Rattle.lg_answer.specs.declared.options.Options.{Options};
-ghost use Rattle.lg_run.specs.Words.{AreOptions, GivesNumber, GivesNulls, Gives, OptionsAre};
+ghost use Rattle.lg_run.specs.declared.setup.Setup.{Setup};
+ghost use Rattle.lg_run.specs.Words.{AreOptions, GivesNumber, GivesNulls, GivesSwitch, Gives, OptionsAre};
 ghost use Rattle.lg_run.specs.Matched.{TellsSettings, option_rule};
 
-use crate::options::nulls_of;
+use crate::options::{nulls_of, switch_of};
+use crate::setup::Setup;
 use clap::error::ErrorKind;
 use clap::{Arg, ArgAction, ArgMatches, Command, Error};
 use lg_answer::{Nulls, Options};
 use lg_base::NoMemory;
 use lg_script::number_of;
+use lg_text::Look;
 use std::alloc::Global;
 
-/// The options that the words give. The words are options in form, so that only out of memory is an error.
-pub(crate) fn read_options(alloc: Global, words: &[String]) -> Result<Options, NoMemory>
-    requires { (options : Options) × OptionsAre (map string_bytes words.now) options }
-    ensures { (options : Options) → OptionsAre (map string_bytes words.now) options → IfOk result (λ o. o ≡ options) }
+/// What the options in the words set. The words are options in form, so that only out of memory is an error.
+pub(crate) fn read_setup(alloc: Global, words: &[String]) -> Result<Setup, NoMemory>
+    requires { (setup : Setup) × OptionsAre (map string_bytes words.now) setup }
+    ensures { (setup : Setup) → OptionsAre (map string_bytes words.now) setup → IfOk result (λ s. s ≡ setup) }
 {
     match matches_of(alloc, words) {
-        Ok(matches) => Ok(options_in(&matches)),
+        Ok(matches) => Ok(setup_in(&matches)),
         Err(_) => Err(NoMemory),
     }
 }
@@ -36,7 +38,10 @@ fn matches_of(alloc: Global, words: &[String]) -> Result<ArgMatches<'_>, Error>
         .disable_help_flag(true)
         .arg(option(alloc, "want"))?
         .arg(option(alloc, "examine"))?
-        .arg(option(alloc, "nulls"))?;
+        .arg(option(alloc, "nulls"))?
+        .arg(option(alloc, "prune"))?
+        .arg(option(alloc, "stats"))?
+        .arg(option(alloc, "diagram"))?;
     command.try_get_matches_from(words)
 }
 
@@ -48,14 +53,21 @@ fn option<'a>(alloc: Global, name: &'a str) -> Arg<'a>
     Arg::new(alloc, name).long(name).action(ArgAction::Set)
 }
 
-fn options_in(matches: &ArgMatches<'_>) -> Options
-    ensures { (settings : List (List ℕ × List ℕ)) (options : Options) → TellsSettings matches.now settings → Gives settings options → result ≡ options }
+fn setup_in(matches: &ArgMatches<'_>) -> Setup
+    ensures { (settings : List (List ℕ × List ℕ)) (setup : Setup) → TellsSettings matches.now settings → Gives settings setup → result ≡ setup }
 {
-    let usual = Options::default();
-    Options {
-        want: number_or(matches.get_str("want"), usual.want),
-        examine: number_or(matches.get_str("examine"), usual.examine),
-        nulls: nulls_or(matches.get_str("nulls"), usual.nulls),
+    let usual = Setup::default();
+    Setup {
+        listing: Options {
+            want: number_or(matches.get_str("want"), usual.listing.want),
+            examine: number_or(matches.get_str("examine"), usual.listing.examine),
+            nulls: nulls_or(matches.get_str("nulls"), usual.listing.nulls),
+            prune: switch_or(matches.get_str("prune"), usual.listing.prune),
+        },
+        look: Look {
+            diagram: switch_or(matches.get_str("diagram"), usual.look.diagram),
+            stats: switch_or(matches.get_str("stats"), usual.look.stats),
+        },
     }
 }
 
@@ -72,4 +84,11 @@ fn nulls_or(text: Option<&str>, usual: Nulls) -> Nulls
     ensures { (n : SeenNulls) → GivesNulls (option_map (λ t. t.now) text.entry) usual n → result ≡ n }
 {
     text.and_then(nulls_of).unwrap_or(usual)
+}
+
+// Whether something is done, as the text says, or the usual where there is no text.
+fn switch_or(text: Option<&str>, usual: bool) -> bool
+    ensures { (b : Bool) → GivesSwitch (option_map (λ t. t.now) text.entry) usual b → result ≡ b }
+{
+    text.and_then(switch_of).unwrap_or(usual)
 }

@@ -1,8 +1,8 @@
 //! The form of a command's options.
-ghost use Rattle.std.specs.Prelude.{◌≡◌, true, false, ℕ, List, MatchOption, map, string_bytes};
+ghost use Rattle.std.specs.Prelude.{◌≡◌, true, false, ℕ, Bool, List, MatchOption, map, string_bytes};
 ghost use Rattle.lg_script.specs.Commands.{IsNumber};
 ghost use Rattle.lg_answer.specs.declared.options.Nulls.{Nulls as SeenNulls};
-ghost use Rattle.lg_run.specs.Words.{IsKnown, WritesNulls, is_operand};
+ghost use Rattle.lg_run.specs.Words.{IsKnown, WritesNulls, WritesSwitch, is_operand};
 ghost use Rattle.lg_run.specs.Settings.{name_of, option_word, Begins, BeginsWith, is_set, with_setting, Ends, IsCut};
 
 use lg_answer::Nulls;
@@ -14,6 +14,9 @@ pub(crate) enum Setting {
     Want,
     Examine,
     Nulls,
+    Prune,
+    Stats,
+    Diagram,
 }
 
 /// An option that some words begin with, and the words behind it.
@@ -29,6 +32,9 @@ pub(crate) struct Given {
     want: bool,
     examine: bool,
     nulls: bool,
+    prune: bool,
+    stats: bool,
+    diagram: bool,
 }
 
 /// Words cut in two.
@@ -49,6 +55,9 @@ pub(crate) fn cut_options(words: &[String]) -> Option<Cut<'_>>
         want: false,
         examine: false,
         nulls: false,
+        prune: false,
+        stats: false,
+        diagram: false,
     };
     let mut rest = words;
     while begins_with_dash(rest) {
@@ -98,6 +107,18 @@ impl Given {
                 nulls: true,
                 ..self
             }),
+            Setting::Prune if !self.prune => Some(Given {
+                prune: true,
+                ..self
+            }),
+            Setting::Stats if !self.stats => Some(Given {
+                stats: true,
+                ..self
+            }),
+            Setting::Diagram if !self.diagram => Some(Given {
+                diagram: true,
+                ..self
+            }),
             _ => None,
         }
     }
@@ -140,6 +161,9 @@ fn setting_of(word: &str, value: &str) -> Option<Setting>
         "--want" if is_number(value) => Some(Setting::Want),
         "--examine" if is_number(value) => Some(Setting::Examine),
         "--nulls" if nulls_of(value).is_some() => Some(Setting::Nulls),
+        "--prune" if switch_of(value).is_some() => Some(Setting::Prune),
+        "--stats" if switch_of(value).is_some() => Some(Setting::Stats),
+        "--diagram" if switch_of(value).is_some() => Some(Setting::Diagram),
         _ => None,
     }
 }
@@ -159,6 +183,17 @@ pub(crate) fn nulls_of(text: &str) -> Option<Nulls>
     match text {
         "first" => Some(Nulls::First),
         "passing" => Some(Nulls::Passing),
+        _ => None,
+    }
+}
+
+/// Whether something is done, as the text says. None where it says nothing of the kind.
+pub(crate) fn switch_of(text: &str) -> Option<bool>
+    ensures { MatchOption result ((b : Bool) → WritesSwitch text.now b → ⊥) (WritesSwitch text.now) }
+{
+    match text {
+        "on" => Some(true),
+        "off" => Some(false),
         _ => None,
     }
 }

@@ -11,7 +11,7 @@ use lg_base::{NoMemory, Sink, SinkFault};
 use lg_gram::{Place, Reply};
 use lg_script::{Command, Scripts};
 use lg_session::Outcome;
-use lg_text::{journal_text, reply_text};
+use lg_text::{Look, journal_text, reply_text};
 use std::alloc::Global;
 
 /// Why a document is not written whole.
@@ -26,18 +26,19 @@ pub(crate) fn write_outcome<O: Sink>(
     alloc: Global,
     scripts: &Scripts,
     outcome: &Outcome,
+    look: Look,
     out: &mut O,
 ) -> Result<(), Halt>
     requires few { length scripts.now < 2 ^ 32 }
     requires commands { All (λ commands. length commands < 2 ^ 32) (script_views scripts.now) }
     requires printable { AreAllPrintable (script_views scripts.now) outcome.now.replies }
-    ensures written { Writes (O.written out.old) (O.written out.new) (outcome_text (script_views scripts.now) outcome.now.replies outcome.now.journal) result }
+    ensures written { Writes (O.written out.old) (O.written out.new) (outcome_text look (script_views scripts.now) outcome.now.replies outcome.now.journal) result }
     ensures cause { HasHaltCause (O.faults out.old) (O.faults out.new) result }
 {
     let mut session: u32 = 0;
     for (commands, replies) in scripts.items().iter().zip(outcome.replies.items()) {
         session += 1;
-        write_session(alloc, session, commands.items(), replies.items(), out)?;
+        write_session(alloc, session, commands.items(), replies.items(), look, out)?;
     }
     match journal_text(alloc, outcome.journal.items()) {
         Ok(text) => put(out, &text),
@@ -51,11 +52,12 @@ fn write_session<O: Sink>(
     session: u32,
     commands: &[Command],
     replies: &[Reply],
+    look: Look,
     out: &mut O,
 ) -> Result<(), Halt>
     requires few { length commands.now < 2 ^ 32 }
     requires printable { ArePrintable (map command_view commands.now) replies.now }
-    ensures written { Writes (O.written out.old) (O.written out.new) (joined (reply_texts session 1 (map command_view commands.now) replies.now)) result }
+    ensures written { Writes (O.written out.old) (O.written out.new) (joined (reply_texts look session 1 (map command_view commands.now) replies.now)) result }
     ensures cause { HasHaltCause (O.faults out.old) (O.faults out.new) result }
 {
     let mut number: u32 = 0;
@@ -65,7 +67,7 @@ fn write_session<O: Sink>(
             session,
             command: number,
         };
-        write_reply(alloc, place, command, reply, out)?;
+        write_reply(alloc, place, command, reply, look, out)?;
     }
     Ok(())
 }
@@ -76,14 +78,15 @@ fn write_reply<O: Sink>(
     place: Place,
     command: &Command,
     reply: &Reply,
+    look: Look,
     out: &mut O,
 ) -> Result<(), Halt>
     requires kind { IsAnswerTo (kind_of (command_view command.now)) reply.now }
     requires printable { IsPrintableReply reply.now }
-    ensures written { Writes (O.written out.old) (O.written out.new) (reply_text place (kind_of (command_view command.now)) reply.now) result }
+    ensures written { Writes (O.written out.old) (O.written out.new) (reply_text look place (kind_of (command_view command.now)) reply.now) result }
     ensures cause { HasHaltCause (O.faults out.old) (O.faults out.new) result }
 {
-    match reply_text(alloc, place, command.kind(), reply) {
+    match reply_text(alloc, place, command.kind(), reply, look) {
         Ok(text) => put(out, &text),
         Err(NoMemory) => Err(Halt::Memory),
     }

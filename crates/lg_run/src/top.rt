@@ -16,12 +16,13 @@ use crate::inputs::{Inputs, read_inputs};
 use crate::law::{inputs_have_one_verdict, words_have_one_task};
 use crate::line::{dict_line, edits_line, know_line, script_line};
 use crate::lister::Lister;
-use crate::matched::read_options;
+use crate::made::write_made;
+use crate::matched::read_setup;
 use crate::outcome::{Halt, put, write_outcome};
 use crate::sentence::document;
+use crate::setup::Setup;
 use crate::status::Status;
 use crate::stop::Stop;
-use lg_answer::Options;
 use lg_base::{Files, NoMemory, Sink, SinkFault};
 use lg_dict::Dict;
 use lg_dictread::{DictError, WordFileError};
@@ -74,10 +75,10 @@ pub fn run<R: Threads + Sync, F: Files, O: Sink, E: Sink, G: Gate>(
     let Some(command) = command_of(words) else {
         return fail(err, Status::Usage, USAGE);
     };
-    let Ok(options) = read_options(alloc, command.options()) else {
+    let Ok(setup) = read_setup(alloc, command.options()) else {
         return fail(err, Status::NoMemory, MEMORY);
     };
-    match read_inputs(alloc, files, options, command) {
+    match read_inputs(alloc, files, setup, command) {
         Ok(inputs) => finish(rt, alloc, &inputs, out, err, gate),
         Err(stop) => refuse(alloc, err, stop),
     }
@@ -119,33 +120,38 @@ fn write_document<R: Threads + Sync, O: Sink, G: Gate>(
 {
     match inputs {
         Inputs::One {
-            options,
+            setup,
             dict,
             sentence,
-        } => write_sentence(alloc, *options, dict, sentence, out),
+        } => write_sentence(alloc, *setup, dict, sentence, out),
         Inputs::Run {
-            options,
+            setup,
             dict,
             know,
             scripts,
-        } => write_sessions(rt, alloc, *options, dict, know, scripts, out, gate),
+        } => write_sessions(rt, alloc, *setup, dict, know, scripts, out, gate),
+        Inputs::Gen {
+            seed,
+            words,
+            sentences,
+        } => write_made(rt, alloc, *seed, *words, *sentences, out, gate),
     }
 }
 
 // Writes the page of a sentence.
 fn write_sentence<O: Sink>(
     alloc: Global,
-    options: Options,
+    setup: Setup,
     dict: &Dict,
     sentence: &str,
     out: &mut O,
 ) -> Result<(), Halt>
     requires short { length sentence.now ≤ SENTENCE }
-    requires range { AreInRange options }
-    ensures written { Documents (OneGiven options dict.now sentence.now) (O.written out.old) (O.written out.new) result }
+    requires range { AreInRange setup }
+    ensures written { Documents (OneGiven setup dict.now sentence.now) (O.written out.old) (O.written out.new) result }
     ensures cause { HasHaltCause (O.faults out.old) (O.faults out.new) result }
 {
-    match document(alloc, options, dict, sentence) {
+    match document(alloc, setup, dict, sentence) {
         Ok(text) => put(out, &text),
         Err(NoMemory) => Err(Halt::Memory),
     }
@@ -155,20 +161,20 @@ fn write_sentence<O: Sink>(
 fn write_sessions<R: Threads + Sync, O: Sink, G: Gate>(
     rt: &R,
     alloc: Global,
-    options: Options,
+    setup: Setup,
     dict: &Dict,
     know: &Knowledge,
     scripts: &Scripts,
     out: &mut O,
     gate: &G,
 ) -> Result<(), Halt>
-    requires bounds { IsGivenInBounds (RunGiven options dict.now know.now (script_views scripts.now)) }
-    ensures written { Documents (RunGiven options dict.now know.now (script_views scripts.now)) (O.written out.old) (O.written out.new) result }
+    requires bounds { IsGivenInBounds (RunGiven setup dict.now know.now (script_views scripts.now)) }
+    ensures written { Documents (RunGiven setup dict.now know.now (script_views scripts.now)) (O.written out.old) (O.written out.new) result }
     ensures cause { HasHaltCause (O.faults out.old) (O.faults out.new) result }
 {
-    let lister = Lister::new(know, options);
+    let lister = Lister::new(know, setup.listing);
     match run_sessions(rt, alloc, dict, scripts, &lister, gate) {
-        Ok(outcome) => write_outcome(alloc, scripts, &outcome, out),
+        Ok(outcome) => write_outcome(alloc, scripts, &outcome, setup.look, out),
         Err(NoMemory) => Err(Halt::Memory),
     }
 }

@@ -30,4 +30,4 @@ returns c =
     let d : IsTrue (is_operand dictionary) = sym c.if-not-is_operand.ensures in
     let s : IsTrue (is_operand sentence) = sym c.if-not-is_operand-2.ensures in
     let short : length sentence ≤ SENTENCE = let k = c.if-sentence-gt-SENTENCE.false in omega arith in
-    is_one_command _ _ dictionary sentence (λ options. refl) (rw c.in_ok-dictionary.ensures at c.in_ok-cut.ensures) d s short
+    is_one_command _ _ dictionary sentence (λ setup. refl) (rw c.in_ok-dictionary.ensures at c.in_ok-cut.ensures) d s short

@@ -30,4 +30,4 @@ returns c =
     let mapped = length-map scripts string_bytes in
     let some : 1 ≤ length (map string_bytes scripts) = omega (arith, mapped, is_some (length scripts) c.if-is_empty.ensures) in
     let few : length (map string_bytes scripts) ≤ SCRIPTS = let k = c.if-scripts-gt-SCRIPTS.false in omega (arith, mapped, k) in
-    is_run_command _ _ _ _ _ (λ options. refl) (rw c.in_ok-dictionary.ensures at c.in_ok-cut.ensures) (subst AreOperands c.in_ok-dictionary.ensures (operands_by string_bytes c.in_ok-cut.cut.behind.now c.if-not-are_operands.ensures)) some few
+    is_run_command _ _ _ _ _ (λ setup. refl) (rw c.in_ok-dictionary.ensures at c.in_ok-cut.ensures) (subst AreOperands c.in_ok-dictionary.ensures (operands_by string_bytes c.in_ok-cut.cut.behind.now c.if-not-are_operands.ensures)) some few

@@ -16,9 +16,9 @@ returns-in-Ok-clause-names g c =
     let old = g.F.Files.asked c.args.files.now in
     let middle = g.F.Files.asked c.read_know.new.files in
     let new = g.F.Files.asked c.after_knowledge.new.files in
-    let asks = subst (λ (o : Option Contents). IfSome o (λ k. AsksInOrder (ScriptsGiven k c.args.options c.args.dict c.in-Ok.know (map string_bytes c.args.scripts.now)) middle new)) c.in-Ok.ensures.unchanged c.after_knowledge.ensures.names in
+    let asks = subst (λ (o : Option Contents). IfSome o (λ k. AsksInOrder (ScriptsGiven k c.args.setup c.args.dict c.in-Ok.know (map string_bytes c.args.scripts.now)) middle new)) c.in-Ok.ensures.unchanged c.after_knowledge.ensures.names in
     known_both known c.in-Ok.ensures.told asks
-    (λ k h next. asks_next (KnowledgeInput k c.args.knowledge.now) (λ know. ScriptsGiven k c.args.options c.args.dict know (map string_bytes c.args.scripts.now)) old middle new c.in-Ok.know h (one_knowledge c.exactly_one_knowledge.ensures.one k c.args.knowledge.now) next)
+    (λ k h next. asks_next (KnowledgeInput k c.args.knowledge.now) (λ know. ScriptsGiven k c.args.setup c.args.dict know (map string_bytes c.args.scripts.now)) old middle new c.in-Ok.know h (one_knowledge c.exactly_one_knowledge.ensures.one k c.args.knowledge.now) next)
 
 pub returns-in-Ok-clause-told : goal.returns-in-Ok-clause-told
 returns-in-Ok-clause-told g c =
@@ -26,20 +26,20 @@ returns-in-Ok-clause-told g c =
     let old = g.F.Files.asked c.args.files.now in
     let middle = g.F.Files.asked c.read_know.new.files in
     let new = g.F.Files.asked c.after_knowledge.new.files in
-    let says = subst (λ (o : Option Contents). IfSome o (λ k. Tells given_in (ScriptsGiven k c.args.options c.args.dict c.in-Ok.know (map string_bytes c.args.scripts.now)) middle new c.after_knowledge.result)) c.in-Ok.ensures.unchanged c.after_knowledge.ensures.told in
+    let says = subst (λ (o : Option Contents). IfSome o (λ k. Tells given_in (ScriptsGiven k c.args.setup c.args.dict c.in-Ok.know (map string_bytes c.args.scripts.now)) middle new c.after_knowledge.result)) c.in-Ok.ensures.unchanged c.after_knowledge.ensures.told in
     known_both known c.in-Ok.ensures.told says
-    (λ k h next. tells_next (KnowledgeInput k c.args.knowledge.now) (λ know. ScriptsGiven k c.args.options c.args.dict know (map string_bytes c.args.scripts.now)) old middle new c.in-Ok.know h given_in c.after_knowledge.result next)
+    (λ k h next. tells_next (KnowledgeInput k c.args.knowledge.now) (λ know. ScriptsGiven k c.args.setup c.args.dict know (map string_bytes c.args.scripts.now)) old middle new c.in-Ok.know h given_in c.after_knowledge.result next)
 
 -- the first file was not had
 pub returns-in-Err-clause-names : goal.returns-in-Err-clause-names
 returns-in-Err-clause-names g c =
     IfSome_then (g.F.Files.contents c.args.files.now) c.read_know.ensures.names
-    (λ k h. asks_first (KnowledgeInput k c.args.knowledge.now) (λ know. ScriptsGiven k c.args.options c.args.dict know (map string_bytes c.args.scripts.now)) (g.F.Files.asked c.args.files.now) (g.F.Files.asked c.read_know.new.files) h)
+    (λ k h. asks_first (KnowledgeInput k c.args.knowledge.now) (λ know. ScriptsGiven k c.args.setup c.args.dict know (map string_bytes c.args.scripts.now)) (g.F.Files.asked c.args.files.now) (g.F.Files.asked c.read_know.new.files) h)
 
 pub returns-in-Err-clause-told : goal.returns-in-Err-clause-told
 returns-in-Err-clause-told g c =
     IfSome_then (g.F.Files.contents c.args.files.now) c.in-Err.ensures.told
-    (λ k h. stops_first (KnowledgeInput k c.args.knowledge.now) (λ know. ScriptsGiven k c.args.options c.args.dict know (map string_bytes c.args.scripts.now)) (g.F.Files.asked c.args.files.now) (g.F.Files.asked c.read_know.new.files) (stop_status c.in-Err.stop) (stop_line c.in-Err.stop) h)
+    (λ k h. stops_first (KnowledgeInput k c.args.knowledge.now) (λ know. ScriptsGiven k c.args.setup c.args.dict know (map string_bytes c.args.scripts.now)) (g.F.Files.asked c.args.files.now) (g.F.Files.asked c.read_know.new.files) (stop_status c.in-Err.stop) (stop_line c.in-Err.stop) h)
 
 -- the name of the first file, or of a later one
 pub returns-in-Ok-clause-about : goal.returns-in-Ok-clause-about

@@ -16,8 +16,8 @@ returns-in-Ok-clause-names g c =
     let new = g.F.Files.asked c.read_scripts.new.files in
     let scripts = script_views c.in-Ok.scripts in
     IfSome_then (g.F.Files.contents c.args.files.now) c.in-Ok.ensures.told
-    (λ k h. asks_next (Followed (ScriptsInput k names) (EditsRead names)) (λ all. given (RunGiven c.args.options c.args.dict c.args.know all)) old new new scripts h (one_within k c.exactly_one_script.ensures.one names)
-    (asks_none (given (RunGiven c.args.options c.args.dict c.args.know scripts)) new new refl))
+    (λ k h. asks_next (Followed (ScriptsInput k names) (EditsRead names)) (λ all. given (RunGiven c.args.setup c.args.dict c.args.know all)) old new new scripts h (one_within k c.exactly_one_script.ensures.one names)
+    (asks_none (given (RunGiven c.args.setup c.args.dict c.args.know scripts)) new new refl))
 
 pub returns-in-Ok-clause-told : goal.returns-in-Ok-clause-told
 returns-in-Ok-clause-told g c =
@@ -26,7 +26,7 @@ returns-in-Ok-clause-told g c =
     let new = g.F.Files.asked c.read_scripts.new.files in
     let scripts = script_views c.in-Ok.scripts in
     IfSome_then (g.F.Files.contents c.args.files.now) c.in-Ok.ensures.told
-    (λ k h. comes_next (Followed (ScriptsInput k names) (EditsRead names)) (λ all. given (RunGiven c.args.options c.args.dict c.args.know all)) old new new scripts h (accepted (RunGiven c.args.options c.args.dict c.args.know scripts))
+    (λ k h. comes_next (Followed (ScriptsInput k names) (EditsRead names)) (λ all. given (RunGiven c.args.setup c.args.dict c.args.know all)) old new new scripts h (accepted (RunGiven c.args.setup c.args.dict c.args.know scripts))
     (record { names = []; read = (refl, refl); grown = sym (append-nil new) }))
 
 -- the scripts were not had
@@ -34,11 +34,11 @@ pub returns-in-Err-clause-names : goal.returns-in-Err-clause-names
 returns-in-Err-clause-names g c =
     let names = map string_bytes c.args.scripts.now in
     IfSome_then (g.F.Files.contents c.args.files.now) c.read_scripts.ensures.names
-    (λ k h. asks_first (Followed (ScriptsInput k names) (EditsRead names)) (λ all. given (RunGiven c.args.options c.args.dict c.args.know all)) (g.F.Files.asked c.args.files.now) (g.F.Files.asked c.read_scripts.new.files) h)
+    (λ k h. asks_first (Followed (ScriptsInput k names) (EditsRead names)) (λ all. given (RunGiven c.args.setup c.args.dict c.args.know all)) (g.F.Files.asked c.args.files.now) (g.F.Files.asked c.read_scripts.new.files) h)
 
 pub returns-in-Err-clause-told : goal.returns-in-Err-clause-told
 returns-in-Err-clause-told g c =
     let names = map string_bytes c.args.scripts.now in
     IfSome_then (g.F.Files.contents c.args.files.now) c.in-Err.ensures.told
-    (λ k h. stops_first (Followed (ScriptsInput k names) (EditsRead names)) (λ all. given (RunGiven c.args.options c.args.dict c.args.know all)) (g.F.Files.asked c.args.files.now) (g.F.Files.asked c.read_scripts.new.files)
+    (λ k h. stops_first (Followed (ScriptsInput k names) (EditsRead names)) (λ all. given (RunGiven c.args.setup c.args.dict c.args.know all)) (g.F.Files.asked c.args.files.now) (g.F.Files.asked c.read_scripts.new.files)
     (stop_status c.in-Err.stop) (stop_line c.in-Err.stop) h)

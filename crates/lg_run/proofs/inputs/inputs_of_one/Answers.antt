@@ -16,7 +16,7 @@ returns-in-Ok-clause-names g c =
     let new = g.F.Files.asked c.read_dictionary.new.files in
     let dict = c.in-Ok.dict in
     IfSome_then (g.F.Files.contents c.args.files.now) c.in-Ok.ensures.told
-    (λ k h. asks_next (DictionaryInput k name) (λ d. given (OneGiven c.args.options d sentence)) old new new dict h (one_dictionary c.exactly_one_dictionary.ensures.one k name) (asks_none (given (OneGiven c.args.options dict sentence)) new new refl))
+    (λ k h. asks_next (DictionaryInput k name) (λ d. given (OneGiven c.args.setup d sentence)) old new new dict h (one_dictionary c.exactly_one_dictionary.ensures.one k name) (asks_none (given (OneGiven c.args.setup dict sentence)) new new refl))
 
 pub returns-in-Ok-clause-told : goal.returns-in-Ok-clause-told
 returns-in-Ok-clause-told g c =
@@ -26,15 +26,15 @@ returns-in-Ok-clause-told g c =
     let new = g.F.Files.asked c.read_dictionary.new.files in
     let dict = c.in-Ok.dict in
     IfSome_then (g.F.Files.contents c.args.files.now) c.in-Ok.ensures.told
-    (λ k h. comes_next (DictionaryInput k name) (λ d. given (OneGiven c.args.options d sentence)) old new new dict h (accepted (OneGiven c.args.options dict sentence)) (record { names = []; read = (refl, refl); grown = sym (append-nil new) }))
+    (λ k h. comes_next (DictionaryInput k name) (λ d. given (OneGiven c.args.setup d sentence)) old new new dict h (accepted (OneGiven c.args.setup dict sentence)) (record { names = []; read = (refl, refl); grown = sym (append-nil new) }))
 
 -- the dictionary was not had
 pub returns-in-Err-clause-names : goal.returns-in-Err-clause-names
 returns-in-Err-clause-names g c =
     IfSome_then (g.F.Files.contents c.args.files.now) c.read_dictionary.ensures.names
-    (λ k h. asks_first (DictionaryInput k c.args.dictionary.now) (λ d. given (OneGiven c.args.options d c.args.sentence.now)) (g.F.Files.asked c.args.files.now) (g.F.Files.asked c.read_dictionary.new.files) h)
+    (λ k h. asks_first (DictionaryInput k c.args.dictionary.now) (λ d. given (OneGiven c.args.setup d c.args.sentence.now)) (g.F.Files.asked c.args.files.now) (g.F.Files.asked c.read_dictionary.new.files) h)
 
 pub returns-in-Err-clause-told : goal.returns-in-Err-clause-told
 returns-in-Err-clause-told g c =
     IfSome_then (g.F.Files.contents c.args.files.now) c.in-Err.ensures.told
-    (λ k h. stops_first (DictionaryInput k c.args.dictionary.now) (λ d. given (OneGiven c.args.options d c.args.sentence.now)) (g.F.Files.asked c.args.files.now) (g.F.Files.asked c.read_dictionary.new.files) (stop_status c.in-Err.stop) (stop_line c.in-Err.stop) h)
+    (λ k h. stops_first (DictionaryInput k c.args.dictionary.now) (λ d. given (OneGiven c.args.setup d c.args.sentence.now)) (g.F.Files.asked c.args.files.now) (g.F.Files.asked c.read_dictionary.new.files) (stop_status c.in-Err.stop) (stop_line c.in-Err.stop) h)

@@ -16,9 +16,9 @@ returns-in-Ok-clause-names g c =
     let old = g.F.Files.asked c.args.files.now in
     let middle = g.F.Files.asked c.read_dictionary.new.files in
     let new = g.F.Files.asked c.after_dictionary.new.files in
-    let asks = subst (λ (o : Option Contents). IfSome o (λ k. AsksInOrder (KnowledgeGiven k c.args.options c.in-Ok.dict c.args.knowledge.now (map string_bytes c.args.scripts.now)) middle new)) c.in-Ok.ensures.unchanged c.after_dictionary.ensures.names in
+    let asks = subst (λ (o : Option Contents). IfSome o (λ k. AsksInOrder (KnowledgeGiven k c.args.setup c.in-Ok.dict c.args.knowledge.now (map string_bytes c.args.scripts.now)) middle new)) c.in-Ok.ensures.unchanged c.after_dictionary.ensures.names in
     known_both known c.in-Ok.ensures.told asks
-    (λ k h next. asks_next (DictionaryInput k c.args.dictionary.now) (λ dict. KnowledgeGiven k c.args.options dict c.args.knowledge.now (map string_bytes c.args.scripts.now)) old middle new c.in-Ok.dict h (one_dictionary c.exactly_one_dictionary.ensures.one k c.args.dictionary.now) next)
+    (λ k h next. asks_next (DictionaryInput k c.args.dictionary.now) (λ dict. KnowledgeGiven k c.args.setup dict c.args.knowledge.now (map string_bytes c.args.scripts.now)) old middle new c.in-Ok.dict h (one_dictionary c.exactly_one_dictionary.ensures.one k c.args.dictionary.now) next)
 
 pub returns-in-Ok-clause-told : goal.returns-in-Ok-clause-told
 returns-in-Ok-clause-told g c =
@@ -26,20 +26,20 @@ returns-in-Ok-clause-told g c =
     let old = g.F.Files.asked c.args.files.now in
     let middle = g.F.Files.asked c.read_dictionary.new.files in
     let new = g.F.Files.asked c.after_dictionary.new.files in
-    let says = subst (λ (o : Option Contents). IfSome o (λ k. Tells given_in (KnowledgeGiven k c.args.options c.in-Ok.dict c.args.knowledge.now (map string_bytes c.args.scripts.now)) middle new c.after_dictionary.result)) c.in-Ok.ensures.unchanged c.after_dictionary.ensures.told in
+    let says = subst (λ (o : Option Contents). IfSome o (λ k. Tells given_in (KnowledgeGiven k c.args.setup c.in-Ok.dict c.args.knowledge.now (map string_bytes c.args.scripts.now)) middle new c.after_dictionary.result)) c.in-Ok.ensures.unchanged c.after_dictionary.ensures.told in
     known_both known c.in-Ok.ensures.told says
-    (λ k h next. tells_next (DictionaryInput k c.args.dictionary.now) (λ dict. KnowledgeGiven k c.args.options dict c.args.knowledge.now (map string_bytes c.args.scripts.now)) old middle new c.in-Ok.dict h given_in c.after_dictionary.result next)
+    (λ k h next. tells_next (DictionaryInput k c.args.dictionary.now) (λ dict. KnowledgeGiven k c.args.setup dict c.args.knowledge.now (map string_bytes c.args.scripts.now)) old middle new c.in-Ok.dict h given_in c.after_dictionary.result next)
 
 -- the first file was not had
 pub returns-in-Err-clause-names : goal.returns-in-Err-clause-names
 returns-in-Err-clause-names g c =
     IfSome_then (g.F.Files.contents c.args.files.now) c.read_dictionary.ensures.names
-    (λ k h. asks_first (DictionaryInput k c.args.dictionary.now) (λ dict. KnowledgeGiven k c.args.options dict c.args.knowledge.now (map string_bytes c.args.scripts.now)) (g.F.Files.asked c.args.files.now) (g.F.Files.asked c.read_dictionary.new.files) h)
+    (λ k h. asks_first (DictionaryInput k c.args.dictionary.now) (λ dict. KnowledgeGiven k c.args.setup dict c.args.knowledge.now (map string_bytes c.args.scripts.now)) (g.F.Files.asked c.args.files.now) (g.F.Files.asked c.read_dictionary.new.files) h)
 
 pub returns-in-Err-clause-told : goal.returns-in-Err-clause-told
 returns-in-Err-clause-told g c =
     IfSome_then (g.F.Files.contents c.args.files.now) c.in-Err.ensures.told
-    (λ k h. stops_first (DictionaryInput k c.args.dictionary.now) (λ dict. KnowledgeGiven k c.args.options dict c.args.knowledge.now (map string_bytes c.args.scripts.now)) (g.F.Files.asked c.args.files.now) (g.F.Files.asked c.read_dictionary.new.files) (stop_status c.in-Err.stop) (stop_line c.in-Err.stop) h)
+    (λ k h. stops_first (DictionaryInput k c.args.dictionary.now) (λ dict. KnowledgeGiven k c.args.setup dict c.args.knowledge.now (map string_bytes c.args.scripts.now)) (g.F.Files.asked c.args.files.now) (g.F.Files.asked c.read_dictionary.new.files) (stop_status c.in-Err.stop) (stop_line c.in-Err.stop) h)
 
 -- the name of the first file, or of a later one
 pub returns-in-Ok-clause-about : goal.returns-in-Ok-clause-about

@@ -10,7 +10,10 @@ command_is c =
     let named = bare_is c.new.result c.no_binary_name.result c.disable_help_flag.result c.new.ensures.app c.no_binary_name.ensures c.disable_help_flag.ensures in
     let wants = c.in_ok-arg.ensures.shape c.option.ensures.local ∙ ap₂ with_rule named c.option.ensures.rule in
     let examines = c.in_ok-arg-2.ensures.shape c.option-2.ensures.local ∙ ap₂ with_rule wants c.option-2.ensures.rule in
-    c.in_ok-command.ensures.shape c.option-3.ensures.local ∙ ap₂ with_rule examines c.option-3.ensures.rule
+    let linked = c.in_ok-arg-3.ensures.shape c.option-3.ensures.local ∙ ap₂ with_rule examines c.option-3.ensures.rule in
+    let prunes = c.in_ok-arg-4.ensures.shape c.option-4.ensures.local ∙ ap₂ with_rule linked c.option-4.ensures.rule in
+    let counts = c.in_ok-arg-5.ensures.shape c.option-5.ensures.local ∙ ap₂ with_rule prunes c.option-5.ensures.rule in
+    c.in_ok-command.ensures.shape c.option-6.ensures.local ∙ ap₂ with_rule counts c.option-6.ensures.rule
 
 pub returns-clause-ok : goal.returns-clause-ok
 returns-clause-ok c = λ settings are.

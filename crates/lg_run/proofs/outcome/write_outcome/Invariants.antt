@@ -17,7 +17,7 @@ invariant-loop-commands g l = record {
   few : l.session + length (iter_rest (zip_first l.commands-iterator)) ≡ length l.scripts;
   commands : All (λ commands. length commands < 2 ^ 32) (script_views (iter_rest (zip_first l.commands-iterator)));
   printable : AreAllPrintable (script_views (iter_rest (zip_first l.commands-iterator))) (iter_rest (zip_second l.commands-iterator));
-  written : WrittenTo (g.O.Sink.written l.fn.out) (g.O.Sink.written l.out) (outcome_text (script_views l.scripts) l.outcome.replies l.outcome.journal)
-      (joined (session_texts (l.session + 1) (script_views (iter_rest (zip_first l.commands-iterator))) (iter_rest (zip_second l.commands-iterator))) ++ journal_text l.outcome.journal);
+  written : WrittenTo (g.O.Sink.written l.fn.out) (g.O.Sink.written l.out) (outcome_text l.look (script_views l.scripts) l.outcome.replies l.outcome.journal)
+      (joined (session_texts l.look (l.session + 1) (script_views (iter_rest (zip_first l.commands-iterator))) (iter_rest (zip_second l.commands-iterator))) ++ journal_text l.outcome.journal);
   later : g.O.Sink.faults l.fn.out ≤ g.O.Sink.faults l.out;
 }

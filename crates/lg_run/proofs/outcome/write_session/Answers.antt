@@ -22,7 +22,7 @@ loop-command-preserved g c =
       is_finite = tt;
       few = omega (arith, w.few, ap length more.0);
       printable = printable.2;
-      written = written_more (g.O.Sink.written c.write_reply.new.out) _ _ w.written (next_reply c.args.session (c.loop-command.number + 1) c.in-Some.command.now c.in-Some.reply.now more.0 more.1) c.in_ok-write_reply.ensures.written;
+      written = written_more (g.O.Sink.written c.write_reply.new.out) _ _ w.written (next_reply c.args.look c.args.session (c.loop-command.number + 1) c.in-Some.command.now c.in-Some.reply.now more.0 more.1) c.in_ok-write_reply.ensures.written;
       later = omega (arith, c.write_reply.ensures.cause.later, w.later);
     }
 
@@ -31,11 +31,11 @@ pub returns-in_err-write_reply-clause-written : goal.returns-in_err-write_reply-
 returns-in_err-write_reply-clause-written g c =
     let more = c.in-Some.ensures.steps in
     rw (err_from_is_err_and c.from_residual.result c.from_residual.ensures.1).1
-    (written_front (g.O.Sink.written c.write_reply.new.out) _ _ c.loop-command.invariant.written (next_reply c.args.session (c.loop-command.number + 1) c.in-Some.command.now c.in-Some.reply.now more.0 more.1) c.in_err-write_reply.ensures.written)
+    (written_front (g.O.Sink.written c.write_reply.new.out) _ _ c.loop-command.invariant.written (next_reply c.args.look c.args.session (c.loop-command.number + 1) c.in-Some.command.now c.in-Some.reply.now more.0 more.1) c.in_err-write_reply.ensures.written)
 
 -- no command or no answer is left
 pub returns-clause-written : goal.returns-clause-written
 returns-clause-written g c =
     let it = c.loop-command.command-iterator in
     written_all c.loop-command.invariant.written
-    (no_replies c.args.session (c.loop-command.number + 1) (iter_rest (zip_first it)) (iter_rest (zip_second it)) (either_empty_from_Zip it c.next.new.self c.next.result c.in-None.is c.next.ensures.steps))
+    (no_replies c.args.look c.args.session (c.loop-command.number + 1) (iter_rest (zip_first it)) (iter_rest (zip_second it)) (either_empty_from_Zip it c.next.new.self c.next.result c.in-None.is c.next.ensures.steps))

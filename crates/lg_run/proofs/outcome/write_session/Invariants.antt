@@ -15,7 +15,7 @@ invariant-loop-command g l = record {
   is_finite : (goal.iterator-loop-command g).is_finite l.command-iterator;
   few : l.number + length (iter_rest (zip_first l.command-iterator)) ≡ length l.commands;
   printable : ArePrintable (map command_view (iter_rest (zip_first l.command-iterator))) (iter_rest (zip_second l.command-iterator));
-  written : WrittenTo (g.O.Sink.written l.fn.out) (g.O.Sink.written l.out) (joined (reply_texts l.session 1 (map command_view l.commands) l.replies))
-      (joined (reply_texts l.session (l.number + 1) (map command_view (iter_rest (zip_first l.command-iterator))) (iter_rest (zip_second l.command-iterator))));
+  written : WrittenTo (g.O.Sink.written l.fn.out) (g.O.Sink.written l.out) (joined (reply_texts l.look l.session 1 (map command_view l.commands) l.replies))
+      (joined (reply_texts l.look l.session (l.number + 1) (map command_view (iter_rest (zip_first l.command-iterator))) (iter_rest (zip_second l.command-iterator))));
   later : g.O.Sink.faults l.fn.out ≤ g.O.Sink.faults l.out;
 }

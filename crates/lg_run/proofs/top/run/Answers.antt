@@ -1,12 +1,13 @@
 use Rattle.std.proofs.Common.{rules}
 use Rattle.std.proofs.lemmas.Option.{IfSome_then}
+use Rattle.std.proofs.KnownBytes.{Keeps-refl}
 use Rattle.lg_base.specs.Faults.{Rose}
 use Rattle.lg_run.specs.Commands.{task}
 use Rattle.lg_run.specs.Inputs.{InputsAre}
 use Rattle.lg_run.specs.Reads.{AsksInOrder, given_in, TellsStop}
 use Rattle.lg_run.specs.Stops.{stop_status, stop_line}
 use Rattle.lg_run.specs.Answers.{Told, AnswersRefused, AnswersAccepted}
-use Rattle.lg_run.proofs.Ends.{told_read, about_read, range_read, finished, stop_written, last_written}
+use Rattle.lg_run.proofs.Ends.{told_read, about_read, range_read, finished, told_stop, caused_so, stop_written, last_written}
 use Rattle.lg_run.proofs.top.run.Goals as goal
 
 -- the options are those of the command
@@ -26,7 +27,7 @@ returns-in-Ok-read_inputs-clause-told g c =
     let after = g.O.Sink.written c.finish.new.out in
     told_read _ _ _ _ c.in-Some.ensures c.options.ensures c.in-Ok.ensures c.words_have_one_task.ensures (g.F.Files.contents c.args.files.now) (λ inputs. Told inputs old new before after c.finish.result)
     (IfSome_then (g.F.Files.contents c.args.files.now) c.in-Ok-read_inputs.ensures.told
-    (λ known h. finished (InputsAre known (task c.in-Ok.options c.in-Some.command)) old new before after (given_in c.in-Ok-read_inputs.inputs) c.finish.result h c.finish.ensures.told))
+    (λ known h. finished (InputsAre known (task c.in-Ok.setup c.in-Some.command)) old new before after (given_in c.in-Ok-read_inputs.inputs) c.finish.result h c.finish.ensures.told))
 
 pub returns-in-Ok-read_inputs-clause-refused : goal.returns-in-Ok-read_inputs-clause-refused
 returns-in-Ok-read_inputs-clause-refused g c =
@@ -39,6 +40,11 @@ returns-in-Ok-read_inputs-clause-line g c =
     (given_in c.in-Ok-read_inputs.inputs) c.finish.result (g.O.Sink.written c.args.out.now) (g.O.Sink.written c.finish.new.out) (g.E.Sink.written c.args.err.now) (g.E.Sink.written c.finish.new.err)
     c.finish.ensures.told (c.finish.ensures.line calm)
 
+pub returns-in-Ok-read_inputs-clause-caused : goal.returns-in-Ok-read_inputs-clause-caused
+returns-in-Ok-read_inputs-clause-caused g c =
+    caused_so (given_in c.in-Ok-read_inputs.inputs) c.finish.result (g.O.Sink.written c.args.out.now) (g.O.Sink.written c.finish.new.out) (g.F.Files.faults c.args.files.now) (g.F.Files.faults c.read_inputs.new.files)
+    (g.O.Sink.faults c.args.out.now) (g.O.Sink.faults c.finish.new.out) c.finish.ensures.told c.finish.ensures.caused
+
 -- and they are not
 pub returns-in-Err-clause-names : goal.returns-in-Err-clause-names
 returns-in-Err-clause-names g c =
@@ -49,7 +55,10 @@ returns-in-Err-clause-told g c =
     let old = g.F.Files.asked c.args.files.now in
     let new = g.F.Files.asked c.read_inputs.new.files in
     let out = g.O.Sink.written c.args.out.now in
-    told_read _ _ _ _ c.in-Some.ensures c.options.ensures c.in-Ok.ensures c.words_have_one_task.ensures (g.F.Files.contents c.args.files.now) (λ inputs. Told inputs old new out out c.refuse.result) (search rules)
+    let calm = Rose (g.E.Sink.faults c.args.err.now) (g.E.Sink.faults c.refuse.new.err) → ⊥ in
+    told_read _ _ _ _ c.in-Some.ensures c.options.ensures c.in-Ok.ensures c.words_have_one_task.ensures (g.F.Files.contents c.args.files.now) (λ inputs. Told inputs old new out out c.refuse.result)
+    (IfSome_then (g.F.Files.contents c.args.files.now) c.in-Err.ensures.told
+    (λ known h. told_stop (InputsAre known (task c.in-Ok.setup c.in-Some.command)) old new out out (Keeps-refl out) c.in-Err.stop c.refuse.result calm (g.E.Sink.written c.args.err.now) (g.E.Sink.written c.refuse.new.err) c.refuse.ensures.stopped c.refuse.ensures.line h))
 
 pub returns-in-Err-clause-complete : goal.returns-in-Err-clause-complete
 returns-in-Err-clause-complete g c =

@@ -7,6 +7,6 @@ use Rattle.lg_run.proofs.top.write_sentence.Goals as goal
 -- the document, as far as it is written
 pub returns-in-Ok-clause-written : goal.returns-in-Ok-clause-written
 returns-in-Ok-clause-written g c =
-    let document : DocumentIs c.args.options c.args.dict.now c.args.sentence.now c.deref.result.now =
-    subst (DocumentIs c.args.options c.args.dict.now c.args.sentence.now) (sym c.deref.ensures.value) c.in-Ok.ensures in
-    document_written (g.O.Sink.written c.args.out.now) (g.O.Sink.written c.put.new.out) (OneGiven c.args.options c.args.dict.now c.args.sentence.now) c.deref.result.now c.put.result document c.put.ensures.written
+    let document : DocumentIs c.args.setup c.args.dict.now c.args.sentence.now c.deref.result.now =
+    subst (DocumentIs c.args.setup c.args.dict.now c.args.sentence.now) (sym c.deref.ensures.value) c.in-Ok.ensures in
+    document_written (g.O.Sink.written c.args.out.now) (g.O.Sink.written c.put.new.out) (OneGiven c.args.setup c.args.dict.now c.args.sentence.now) c.deref.result.now c.put.result document c.put.ensures.written

@@ -11,7 +11,8 @@ returns c =
     let page = c.in_ok-listing.page in
     let held = c.args.held in
     let tokens : c.in_ok-tokens.tokens ≡ held.listing.tokens = c.in_ok-tokens.ensures ∙ c.tokens.ensures.value ∙ c.in_ok-listing.ensures.same.tokens in
-    let near = stops_near _ _ _ _ _ _ page c.in_ok-listing.ensures.page in
+    let own = held.listing.course.problem in
+    let near = stops_near own _ _ _ _ _ page (c.in_ok-listing.ensures.page own (λ g. (λ h. h, λ h. h))) in
     subst (λ (l : Lister). Turns l held (record { listing = c.in_ok-listing.listing; want = held.want }) c.in_ok-tokens.tokens page) c.self.view_is
     (record {
       shown = c.in_ok-listing.ensures.page;

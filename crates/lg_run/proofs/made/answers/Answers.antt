@@ -1,0 +1,22 @@
+use Rattle.std.proofs.Common.{◌≡◌, ◌∙◌, ◌<◌, ◌^◌, length, IfOk, sym, subst, arith}
+use Rattle.lg_knowread.specs.declared.knowledge.Knowledge.{Knowledge}
+use Rattle.lg_session.specs.Legal.{IsLegal, run_of}
+use Rattle.lg_answer.specs.Pages.{default_options}
+use Rattle.lg_run.specs.Words.{HasCounts}
+use Rattle.lg_run.specs.Documents.{listings, no_knowledge}
+use Rattle.lg_run.specs.Listers.{Lister}
+use Rattle.lg_run.proofs.made.answers.Goals as goal
+
+-- there are no rules, and the usual numbers are in their range
+pub new-lister-requires-clause-few : goal.new-lister-requires-clause-few
+new-lister-requires-clause-few g c = subst (λ (k : Knowledge). length k.rules < 2 ^ 32) (sym c.no_knowledge-know.ensures) (omega arith)
+
+pub new-lister-requires-clause-range : goal.new-lister-requires-clause-range
+new-lister-requires-clause-range g c = subst HasCounts (sym c.default.ensures) ((omega arith, omega arith), (omega arith, omega arith))
+
+-- the answers are those of the lister over no knowledge
+pub returns-clause-legal : goal.returns-clause-legal
+returns-clause-legal g c =
+    let usual : Lister = record { know = no_knowledge; options = default_options } in
+    let is : c.new-lister.result ≡ usual = c.new-lister.ensures ∙ (λ i. record { know = c.no_knowledge-know.ensures i; options = c.default.ensures i }) in
+    subst (λ (l : Lister). IfOk c.run_sessions.result (λ outcome. IsLegal (run_of (listings l.know l.options) c.args.scripts.now c.args.dict.now outcome.journal) outcome.replies)) is c.run_sessions.ensures.legal
