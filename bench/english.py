@@ -19,15 +19,15 @@ import tempfile
 
 TOP = os.path.dirname(os.path.dirname(os.path.realpath(__file__)))
 PROGRAM = os.path.join(TOP, "crates/lgparse/out/lgparse")
-PARSER = ["-cost-max=1000", "-short=254", "-limit=1000", "-postscript=0", "-graphics=0", "-links=10", "-timeout=600", "-islands-ok=0", "-null=1"]
+PARSER = ["-cost-max=1000", "-short=254", "-limit=1000", "-postscript=0", "-graphics=0", "-links=1", "-timeout=600", "-islands-ok=0", "-null=1"]
 
 
-def measured(command, words, limit):
-    """Processor seconds and megabytes of a run, and its output; nothing where it does not end in time."""
+def measured(folder, command, words, limit):
+    """Processor seconds and megabytes of a run in the folder, and its output; nothing where it does not end in time."""
     with tempfile.NamedTemporaryFile("r") as told:
         try:
             run = subprocess.run(["/usr/bin/time", "-q", "-o", told.name, "-f", "%U %S %M", *command],
-                                 input=words, capture_output=True, text=True, timeout=limit, check=False)
+                                 cwd=folder, input=words, capture_output=True, text=True, timeout=limit, check=True)
         except subprocess.TimeoutExpired:
             return None
         user, system, most = told.read().split()
@@ -35,13 +35,13 @@ def measured(command, words, limit):
 
 
 def ours(folder, sentence, limit):
-    return measured([PROGRAM, "one", "--want", "10", "--stats", "on", f"{folder}/en.dict", sentence], "", limit)
+    return measured(folder, [PROGRAM, "one", "--want", "10", "--stats", "on", "en.dict", sentence], "", limit)
 
 
 def theirs(folder, sentence, limit):
     if shutil.which("link-parser") is None:
         return None
-    return measured(["link-parser", f"{folder}/lp", *PARSER], sentence + "\n", limit)
+    return measured(folder, ["link-parser", f"{folder}/lp", *PARSER], sentence + "\n", limit)
 
 
 def beyond(run, base):
@@ -60,7 +60,7 @@ def middle(pairs):
 
 
 def main():
-    folder, limit = sys.argv[1], float(sys.argv[2]) if len(sys.argv) > 2 else 60.0
+    folder, limit = os.path.abspath(sys.argv[1]), float(sys.argv[2]) if len(sys.argv) > 2 else 60.0
     base = ours(folder, "", limit), theirs(folder, "", limit)
     print("dictionary alone:   lgparse", shown(base[0] and base[0][:2]), "  link-parser", shown(base[1] and base[1][:2]))
     for path in sorted(glob.glob(f"{folder}/sentences-*.txt")):
