@@ -2,11 +2,7 @@
 # Times dictionaries of 1,000 to 1,000,000 words, an entry a word: the text is read and the dictionary is made. Entries of a
 # shape write the same expression, as those of a lexicon do, or each writes its own. Where link-parser is installed, it then
 # starts with the entries of the first kind.
-cd -P -- "$(dirname -- "$(readlink -f -- "$0")")" || exit 70
-program=../crates/lgparse/out/lgparse
-[[ -x $program ]] || { echo 'build the program first: bin/lgparse --build' >&2; exit 1; }
-folder=$(mktemp -d) || exit 70
-trap 'rm -rf -- "$folder"' EXIT
+source "$(dirname -- "$(readlink -f -- "$0")")/begin.sh"
 
 # Entry number n has one of four shapes; of the kind `own` the first connector has the digits of n as small letters.
 entries() {

@@ -5,7 +5,7 @@
 
 FOLDER has `en.dict`, a dictionary of this program's format; `lp`, the same dictionary as a language directory of link-parser; and
 files `sentences-N.txt` with a sentence of N words a line. The program is the one that `bin/lgparse --build` builds. For each file
-it prints, for each sentence, the numbers of disjuncts before and after pruning, and the processor seconds and the megabytes of
+it prints, for each sentence, the numbers of disjuncts before and after pruning (by a run that counts them, which is not timed), and the processor seconds and the megabytes of
 both programs beyond those that they take for the dictionary alone; and then the medians. A run ends after LIMIT seconds (60).
 """
 import glob
@@ -34,8 +34,8 @@ def measured(folder, command, words, limit):
     return float(user) + float(system), int(most) / 1024, run.stdout
 
 
-def ours(folder, sentence, limit):
-    return measured(folder, [PROGRAM, "one", "--want", "10", "--stats", "on", "en.dict", sentence], "", limit)
+def ours(folder, sentence, limit, *options):
+    return measured(folder, [PROGRAM, "one", "--want", "10", *options, "en.dict", sentence], "", limit)
 
 
 def theirs(folder, sentence, limit):
@@ -67,7 +67,8 @@ def main():
         both = []
         for sentence in open(path, encoding="utf-8").read().splitlines():
             run = ours(folder, sentence, limit)
-            found = re.match(r"stats disjuncts (\d+) kept (\d+)", run[2]) if run else None
+            counted = ours(folder, sentence, limit, "--stats", "on")
+            found = re.match(r"stats disjuncts (\d+) kept (\d+)", counted[2]) if counted else None
             counts = found.groups() if found else ("-", "-")
             both.append((beyond(run, base[0]), beyond(theirs(folder, sentence, limit), base[1])))
             print(f"{len(sentence.split()):3d} words {counts[0]:>8} {counts[1]:>7}", shown(both[-1][0]), shown(both[-1][1]), flush=True)

@@ -1,11 +1,8 @@
 #!/usr/bin/env bash
 # Times a sentence of one word whose entry has one to six factors of ten alternatives each, so 10 to 1,000,000 choices, which
-# is the most that an entry may have: all of them become disjuncts, and none of them finds a partner.
-cd -P -- "$(dirname -- "$(readlink -f -- "$0")")" || exit 70
-program=../crates/lgparse/out/lgparse
-[[ -x $program ]] || { echo 'build the program first: bin/lgparse --build' >&2; exit 1; }
-dictionary=$(mktemp) || exit 70
-trap 'rm -f -- "$dictionary"' EXIT
+# is the most that an entry may have: all of them become disjuncts, to be counted, and none of them finds a partner.
+source "$(dirname -- "$(readlink -f -- "$0")")/begin.sh"
+
 for factors in 1 2 3 4 5 6; do
   awk -v factors="$factors" 'BEGIN {
     printf "w: ()"
@@ -14,7 +11,7 @@ for factors in 1 2 3 4 5 6; do
       printf ")"
     }
     print ";"
-  }' >"$dictionary"
+  }' >"$folder/d"
   printf '10^%s disjuncts: ' "$factors"
-  ./measure "$program" one "$dictionary" w || exit
+  ./measure "$program" one --stats on "$folder/d" w || exit
 done

@@ -1,11 +1,7 @@
 #!/usr/bin/env bash
 # Counts what the first linkage of long sentences takes: instructions, processor time and memory, from the start of the process to
 # its end. Where link-parser is installed, it parses the same sentence with the same dictionary and prints one linkage.
-cd -P -- "$(dirname -- "$(readlink -f -- "$0")")" || exit 70
-program=../crates/lgparse/out/lgparse
-[[ -x $program ]] || { echo 'build the program first: bin/lgparse --build' >&2; exit 1; }
-folder=$(mktemp -d) || exit 70
-trap 'rm -rf -- "$folder"' EXIT
+source "$(dirname -- "$(readlink -f -- "$0")")/begin.sh"
 
 while read -r kind words; do
   ./sentences.py "$kind" "$words" "$folder" || exit

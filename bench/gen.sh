@@ -1,9 +1,7 @@
 #!/usr/bin/env bash
 # Times made sessions by the program that has been built (bin/lgparse --build): so many words and sentences, from a seed. Prints for each
 # the least time of five runs, the most memory, and the program's last line.
-cd -P -- "$(dirname -- "$(readlink -f -- "$0")")" || exit 70
-program=../crates/lgparse/out/lgparse
-[[ -x $program ]] || { echo 'build the program first: bin/lgparse --build' >&2; exit 1; }
+source "$(dirname -- "$(readlink -f -- "$0")")/begin.sh"
 
 while read -r seed words sentences; do
   printf 'gen %s %6d words, %6d sentences: ' "$seed" "$words" "$sentences"

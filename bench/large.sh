@@ -2,11 +2,7 @@
 # Times the program (bin/lgparse --build builds it) on dictionaries at the limits: 64 MiB of one-letter words in one entry, which are
 # refused as duplicates once all are read; 64 MiB of one formula, whose nodes are counted to the end; a formula of 1,000,000
 # nodes, which is accepted; and 200 open brackets.
-cd -P -- "$(dirname -- "$(readlink -f -- "$0")")" || exit 70
-program=../crates/lgparse/out/lgparse
-[[ -x $program ]] || { echo 'build the program first: bin/lgparse --build' >&2; exit 1; }
-folder=$(mktemp -d) || exit 70
-trap 'rm -rf -- "$folder"' EXIT
+source "$(dirname -- "$(readlink -f -- "$0")")/begin.sh"
 
 repeated() { python3 -c 'import sys; sys.stdout.write(sys.argv[1] * int(sys.argv[2]))' "$1" "$2"; }
 { repeated 'a ' 33554429; printf ':A+;'; } >"$folder/letters"

@@ -2,11 +2,7 @@
 # Counts what the best linkages of long sentences take: instructions, processor time and memory, from the start of the process to its
 # end. Where link-parser is installed, it prints as many linkages of the same sentence with the same dictionary; past its limit it
 # draws them at random.
-cd -P -- "$(dirname -- "$(readlink -f -- "$0")")" || exit 70
-program=../crates/lgparse/out/lgparse
-[[ -x $program ]] || { echo 'build the program first: bin/lgparse --build' >&2; exit 1; }
-folder=$(mktemp -d) || exit 70
-trap 'rm -rf -- "$folder"' EXIT
+source "$(dirname -- "$(readlink -f -- "$0")")/begin.sh"
 
 while read -r kind words want; do
   ./sentences.py "$kind" "$words" "$folder" || exit

@@ -2,11 +2,7 @@
 # Times the tokens of one sentence of 10,000, 100,000 and 1,000,000 bytes: words that the dictionary has; one chunk of
 # closing signs; one chunk of capital letters and then as many closing signs. Ten times as many bytes are to take about
 # ten times as long. The program counts the tokens, and says that they are too many to be listed.
-cd -P -- "$(dirname -- "$(readlink -f -- "$0")")" || exit 70
-program=../crates/lgparse/out/lgparse
-[[ -x $program ]] || { echo 'build the program first: bin/lgparse --build' >&2; exit 1; }
-folder=$(mktemp -d) || exit 70
-trap 'rm -rf -- "$folder"' EXIT
+source "$(dirname -- "$(readlink -f -- "$0")")/begin.sh"
 echo 'LEFT-WALL: Wd+; the: D+; cat.n: D- & S+; ran.v: S-; UNKNOWN-WORD: S-;' >"$folder/dict"
 : >"$folder/know"
 

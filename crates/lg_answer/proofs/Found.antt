@@ -35,7 +35,7 @@ only : (w v : List ℕ) → Contains (w ∷ []) v → w ≡ v
 only w v h = elim (Contains-push_cases [] w v h) [ inl none ↦ absurd (let no = none.1 in omega arith) | inr same ↦ same ]
 
 -- disjuncts are in order by their words first
-by_word : (x y : Disjunct) → slice_cmp nat_cmp x.word y.word ≡ Less → disjunct_cmp x y ≡ Less
+pub by_word : (x y : Disjunct) → slice_cmp nat_cmp x.word y.word ≡ Less → disjunct_cmp x y ≡ Less
 by_word x y less = ap (λ o. ordering_then o (ordering_then (slice_cmp connector_cmp x.left y.left) (slice_cmp connector_cmp x.right y.right))) less
 
 module _ (dict : Dictionary) where

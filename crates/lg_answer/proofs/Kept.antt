@@ -9,7 +9,7 @@ use Rattle.lg_answer.specs.Candidates.{IsCandidate, AreFirst, AreAll, IsBehind}
 use Rattle.lg_answer.specs.Pages.{HasLinkagesOf, IsPage}
 use Rattle.lg_answer.specs.declared.options.Nulls.{Nulls}
 
-front_of : {V : Type 0} (cmp : V → V → _) (A B : V → Type 0) (made : List V) → ((v : V) → A v → B v) → ((v : V) → B v → A v) → IsFront cmp A made → IsFront cmp B made
+pub front_of : {V : Type 0} (cmp : V → V → _) (A B : V → Type 0) (made : List V) → ((v : V) → A v → B v) → ((v : V) → B v → A v) → IsFront cmp A made → IsFront cmp B made
 front_of cmp A B made to back front = record {
   rise = front.rise;
   sound = λ i a at. to a (front.sound i a at);

@@ -8,3 +8,6 @@ pub mod Coming
 pub mod Looking
 pub mod Printable
 pub mod Kept
+pub mod Searching
+pub mod Expanded
+pub mod Narrowed

@@ -25,10 +25,10 @@ at_most : (m n : ℕ) → nat_lt m n ≡ false → n ≤ m
 at_most m n h = grind (arith, nat_tests)
 
 module _ (dict : Dictionary) where
-  few_words : (tokens : List Token) → bound_of dict tokens ≡ None → length tokens ≤ POSITIONS
+  pub few_words : (tokens : List Token) → bound_of dict tokens ≡ None → length tokens ≤ POSITIONS
   few_words tokens none = at_most POSITIONS (length tokens) (neither _ _ _ _ none).0
 
-  few_choices : (tokens : List Token) → bound_of dict tokens ≡ None → all_choices dict tokens ≤ LISTED_CHOICES
+  pub few_choices : (tokens : List Token) → bound_of dict tokens ≡ None → all_choices dict tokens ≤ LISTED_CHOICES
   few_choices tokens none = at_most LISTED_CHOICES (all_choices dict tokens) (neither _ _ _ _ none).1
 
   -- a position has no more disjuncts than its token has choices

@@ -1,4 +1,5 @@
 pub mod Problems
 pub mod Candidates
 pub mod Pages
+pub mod Searches
 pub mod Steps

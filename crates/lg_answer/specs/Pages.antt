@@ -1,5 +1,5 @@
 -- Listings of a sentence, and their pages.
-use Rattle.std.specs.Prelude.{◌≡◌, ◌↔◌, ◌⊎◌, ℕ, ◌+◌, ◌<◌, Bool, true, MatchBool, List, length, map, take, drop, All, None, is_none, count_by}
+use Rattle.std.specs.Prelude.{◌≡◌, ◌↔◌, ◌⊎◌, ℕ, ◌+◌, ◌<◌, Bool, true, false, MatchBool, List, length, map, take, drop, All, None, is_none, count_by}
 use Rattle.std.specs.List.{enumerate_from, sum_by}
 use Rattle.lg_gram.specs.Linkages.{Linkage}
 use Rattle.lg_gram.specs.declared.disjunct.Disjunct.{Disjunct}
@@ -25,9 +25,9 @@ use Rattle.lg_answer.specs.declared.refusal.AnswerRefusal.{AnswerRefusal}
 use Rattle.lg_answer.specs.declared.refusal.AnswerRefusal.TheVariants.{NoMemory, Beyond}
 
 -- ten candidates are shown, and a thousand looked at, where nothing else is asked, all good linkages decide how many words may stay
--- unlinked, and disjuncts are pruned
+-- unlinked, and disjuncts are pruned and not counted, by one worker
 abbrev pub default_options : Options
-default_options = record { want = 10; examine = 1000; nulls = First; prune = true }
+default_options = record { want = 10; examine = 1000; nulls = First; prune = true; count = false; workers = 1 }
 
 -- how many of the candidates that were looked at pass
 abbrev pub passed : List PageItem → ℕ
@@ -77,12 +77,13 @@ pub record IsSentenceOf (dict : Dictionary) (text : List ℕ) (tokens : List Tok
   pub unbound : bound_of dict tokens ≡ None
   pub of_tokens : IsProblemOf dict tokens problem
 
--- a listing of a sentence, pruned or not: its tokens, a problem with the linkages of the sentence's, and the numbers of disjuncts
-pub record IsListing (dict : Dictionary) (text : List ℕ) (prune : Bool) (listing : Listing) : Type 0 where
+-- a listing of a sentence, pruned or not: its tokens, a problem with the linkages of the sentence's, and, where they are counted, the
+-- numbers of disjuncts
+pub record IsListing (dict : Dictionary) (text : List ℕ) (options : Options) (listing : Listing) : Type 0 where
   pub problem : List (List Disjunct)
   pub sentence : IsSentenceOf dict text listing.tokens problem
   pub keeps : HasLinkagesOf problem listing.course.problem
-  pub counted : AreStats problem prune listing.stats
+  pub counted : options.count ≡ true → AreStats problem options.prune listing.stats
 
 -- a listing of the same sentence
 pub record IsSameListing (old new : Listing) : Type 0 where

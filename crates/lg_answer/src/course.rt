@@ -3,18 +3,20 @@ ghost use Rattle.std.specs.Prelude.{◌≡◌, ◌+◌, ◌<◌, ◌^◌, ◌||�
 ghost use Rattle.lg_gram.specs.Linkages.{Linkage as Seen, linkage_cmp};
 ghost use Rattle.lg_gram.specs.Rules.{Good};
 ghost use Rattle.lg_region.specs.Parts.{UnderWhole};
+ghost use Rattle.lg_forest.specs.Forests.{AreWorkers};
 ghost use Rattle.lg_rank.specs.Fronts.{IsFront, IsNext};
 ghost use Rattle.lg_rank.specs.Rankings.{given};
 ghost use Rattle.lg_knowread.specs.declared.knowledge.Knowledge.{Knowledge as SeenKnowledge};
 ghost use Rattle.lg_answer.specs.Candidates.{HasCome, StandsFor, IsNextOf, IsSameCourse};
+ghost use Rattle.lg_answer.specs.Pages.{HasLinkagesOf};
 
-use crate::options::Nulls;
-use lg_base::{NoMemory, Own, Steps};
-use lg_forest::{solve, solve_at};
+use crate::options::{Nulls, Options};
+use crate::search::Search;
+use lg_base::NoMemory;
 use lg_gram::{Linkage, Problem};
-use lg_rank::Ranked;
 use std::alloc::Global;
 use std::marker::Model;
+use std::thread::Threads;
 
 /// How far a listing of a problem's candidates has come.
 ///
@@ -23,7 +25,7 @@ use std::marker::Model;
 /// of those behind, decides.
 #[derive(Drop)]
 pub(crate) struct Course {
-    ranked: Ranked,
+    search: Search,
     nulls: Nulls,
     before: u64,
     decided: bool,
@@ -35,32 +37,31 @@ impl Model for Course {
 
     ghost Value = { Seen };
 
-    ghost view = { λ c. record { problem = c.ranked.positions; nulls = c.nulls; level = c.ranked.nulls; before = c.before; position = c.before + c.ranked.position; decided = c.decided } };
+    ghost view = { λ c. record { problem = c.search.positions; nulls = c.nulls; level = c.search.nulls; before = c.before; position = c.before + c.search.position; decided = c.decided } };
 }
 
 impl Course {
-    /// Before the first candidate. It stands for every knowledge.
-    pub fn start(alloc: Global, problem: Problem, nulls: Nulls) -> Result<Course, NoMemory>
-        ensures problem { IfOk result (λ course. course.problem ≡ problem) }
-        ensures nulls { IfOk result (λ course. course.nulls ≡ nulls) }
+    /// Before the first candidate. It stands for every knowledge. Where disjuncts are pruned its problem may have fewer of them.
+    pub fn start<R: Threads + Sync>(
+        rt: &R,
+        alloc: Global,
+        problem: Problem,
+        options: &Options,
+    ) -> Result<Course, NoMemory>
+        requires workers { AreWorkers options.now.workers }
+        ensures keeps { IfOk result (λ course. HasLinkagesOf problem course.problem) }
+        ensures long { IfOk result (λ course. length course.problem ≡ length problem) }
+        ensures nulls { IfOk result (λ course. course.nulls ≡ options.now.nulls) }
         ensures first { IfOk result (λ course. course.position ≡ 0) }
         ensures stands { (know : SeenKnowledge) → IfOk result (StandsFor know) }
     {
-        let forest = solve(alloc, &problem, &mut Steps::<Own>::start())?;
-        let ranked = Ranked::new(alloc, problem, forest)?;
+        let search = Search::start(rt, alloc, problem, options)?;
         Ok(Course {
-            ranked,
-            nulls,
+            search,
+            nulls: options.nulls,
             before: 0,
             decided: false,
         })
-    }
-
-    /// The problem. No memory.
-    pub fn problem(&self) -> &Problem
-        ensures { result.now ≡ self.now.problem }
-    {
-        self.ranked.problem()
     }
 
     /// How many candidates are behind. No memory.
@@ -68,7 +69,7 @@ impl Course {
         requires { self.now.position < 2 ^ 63 }
         ensures { result ≡ self.now.position }
     {
-        self.before + self.ranked.position()
+        self.before + self.search.position()
     }
 
     /// Whether a candidate of the level that is behind decides. No memory.
@@ -120,7 +121,7 @@ impl Course {
         ensures next { (gs : List Seen) → IsFront linkage_cmp (UnderWhole self.old.problem self.old.level) gs → self.old.before + length gs ≡ self.old.position → IfOk result (λ g. IsNext linkage_cmp (UnderWhole self.old.problem self.old.level) gs g) }
         ensures moved { IfOk result (λ g. self.new ≡ record self.old { position = self.old.position + given g }) }
     {
-        self.ranked.next(alloc)
+        self.search.next(alloc)
     }
 
     // Goes on to one more unlinked word.
@@ -129,13 +130,8 @@ impl Course {
         requires level { self.old.level < length self.old.problem }
         ensures { OnOk result (self.new ≡ record self.old { level = self.old.level + 1; before = self.old.position }) }
     {
-        let problem = self.ranked.problem();
-        // the call tells that there are few positions
-        let _positions = problem.positions();
-        let level = self.ranked.nulls() + 1;
-        let forest = solve_at(alloc, problem, level, &mut Steps::<Own>::start())?;
-        let given = self.ranked.position();
-        self.ranked.restart(alloc, forest)?;
+        let given = self.search.position();
+        self.search.rise(alloc)?;
         self.before += given;
         Ok(())
     }

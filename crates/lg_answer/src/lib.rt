@@ -3,10 +3,12 @@
 
 mod course;
 mod listing;
+mod narrow;
 mod options;
 mod page;
 mod problem;
 mod refusal;
+mod search;
 
 pub use listing::Listing;
 pub use options::{Nulls, Options};

@@ -1,24 +1,29 @@
 //! Listings.
-ghost use Rattle.std.specs.Prelude.{◌≡◌, ◌+◌, ◌-◌, ◌<◌, ◌≤◌, ◌^◌, List, length, All, IfOk, IfErr};
+ghost use Rattle.std.specs.Prelude.{◌≡◌, ◌+◌, ◌-◌, ◌<◌, ◌≤◌, ◌^◌, false, None, List, length, All, IfOk, IfErr};
 ghost use Rattle.lg_gram.specs.declared.disjunct.Disjunct.{Disjunct};
 ghost use Rattle.std.specs.List.{sum_by};
+ghost use Rattle.lg_forest.specs.Forests.{AreWorkers};
 ghost use Rattle.lg_knowread.specs.declared.knowledge.Knowledge.{Knowledge as SeenKnowledge};
+ghost use Rattle.lg_token.specs.Bounds.{bound_of};
 ghost use Rattle.lg_answer.specs.Candidates.{StandsFor};
 ghost use Rattle.lg_answer.specs.Pages.{IsOpen, HasLinkagesOf, AreStats, IsListing, IsSameListing, HasSkipped, IsRefused, IsPage, IsLinkageFor};
+ghost use Rattle.lg_answer.specs.Steps.{HaveOrder, IsSearched};
 
 use crate::course::Course;
+use crate::narrow::narrowed;
 use crate::options::{Nulls, Options};
 use crate::page::{page_of, skip};
 use crate::problem::problem_of;
 use crate::refusal::AnswerRefusal;
 use lg_base::NoMemory;
 use lg_dict::View;
-use lg_gram::{Page, Problem, Stats, Tokens};
+use lg_gram::{Page, Problem, Stats, Token, Tokens};
 use lg_knowread::Knowledge;
 use lg_pprune::{pprune, pruning_keeps_linkages};
 use lg_token::{bound_of, tokens};
 use std::alloc::Global;
 use std::marker::Model;
+use std::thread::Threads;
 
 /// A listing of a sentence: its tokens, and how far the listing of its candidates has come. A candidate is made when a page
 /// looks at it or when it is passed over.
@@ -46,16 +51,19 @@ impl Listing {
     /// The listing of a sentence at its start, before its first candidate. It stands for every knowledge.
     ///
     /// The text has fewer than 2^32 bytes. A sentence is `Beyond` a bound where it has more than 252 tokens, and else where
-    /// their words have more than 4,000,000 choices together, whose counting stops at 2^60. The forest of the sentence is made
-    /// here; its candidates are made one by one by `page` and `skip`.
-    pub fn start(
+    /// their words have more than 4,000,000 choices together, whose counting stops at 2^60. Where disjuncts are pruned and not
+    /// counted, formulas are pruned before they are expanded, and the numbers of disjuncts are zeros. The forest of the sentence
+    /// is made here, by 1 to 16 workers; its candidates are made one by one by `page` and `skip`.
+    pub fn start<R: Threads + Sync>(
+        rt: &R,
         alloc: Global,
         view: &View,
         text: &str,
         options: &Options,
     ) -> Result<Listing, AnswerRefusal>
-        requires { length text.now < 2 ^ 32 }
-        ensures listing { IfOk result (IsListing view.now text.now options.now.prune) }
+        requires short { length text.now < 2 ^ 32 }
+        requires workers { AreWorkers options.now.workers }
+        ensures listing { IfOk result (IsListing view.now text.now options.now) }
         ensures nulls { IfOk result (λ listing. listing.course.nulls ≡ options.now.nulls) }
         ensures first { IfOk result (λ listing. listing.course.position ≡ 0) }
         ensures stands { (know : SeenKnowledge) → IfOk result (λ listing. StandsFor know listing.course) }
@@ -65,9 +73,8 @@ impl Listing {
         if let Some(bound) = bound_of(view, tokens.items()) {
             return Err(AnswerRefusal::Beyond(bound));
         }
-        let problem = problem_of(alloc, view, tokens.items())?;
-        let (problem, stats) = pruned(alloc, problem, options.prune)?;
-        let course = Course::start(alloc, problem, options.nulls)?;
+        let (problem, stats) = searched(alloc, view, tokens.items(), options)?;
+        let course = Course::start(rt, alloc, problem, options)?;
         Ok(Listing {
             tokens,
             course,
@@ -152,7 +159,7 @@ impl Listing {
     }
 
     /// How many disjuncts the sentence's problem has, and how many are kept: those that are alive where it is pruned, and else all.
-    /// No memory.
+    /// Only where the options ask for them are they counted. No memory.
     pub fn stats(&self) -> Stats
         ensures { result ≡ self.now.stats }
     {
@@ -160,7 +167,63 @@ impl Listing {
     }
 }
 
-// The problem that is searched, with the numbers of its disjuncts: what pruning leaves, where it is asked for.
+// The problem that is searched, with the numbers of its disjuncts.
+fn searched(
+    alloc: Global,
+    view: &View,
+    tokens: &[Token],
+    options: &Options,
+) -> Result<(Problem, Stats), NoMemory>
+    requires order { HaveOrder tokens.now }
+    requires unbound { bound_of view.now tokens.now ≡ None }
+    ensures { IfOk result (λ both. IsSearched view.now tokens.now options.now both.0 both.1) }
+{
+    if options.prune && !options.count {
+        uncounted(alloc, view, tokens, options)
+    } else {
+        counted(alloc, view, tokens, options)
+    }
+}
+
+// What is left where formulas are pruned, expanded, and their disjuncts pruned.
+fn uncounted(
+    alloc: Global,
+    view: &View,
+    tokens: &[Token],
+    options: &Options,
+) -> Result<(Problem, Stats), NoMemory>
+    requires order { HaveOrder tokens.now }
+    requires unbound { bound_of view.now tokens.now ≡ None }
+    requires uncounted { options.now.count ≡ false }
+    ensures { IfOk result (λ both. IsSearched view.now tokens.now options.now both.0 both.1) }
+{
+    pruning_keeps_linkages();
+    let problem = narrowed(alloc, view, tokens)?;
+    let alive = pprune(alloc, problem)?;
+    let stats = Stats {
+        disjuncts: 0,
+        kept: 0,
+    };
+    Ok((alive, stats))
+}
+
+// All disjuncts, or what pruning leaves of them.
+fn counted(
+    alloc: Global,
+    view: &View,
+    tokens: &[Token],
+    options: &Options,
+) -> Result<(Problem, Stats), NoMemory>
+    requires order { HaveOrder tokens.now }
+    requires unbound { bound_of view.now tokens.now ≡ None }
+    ensures { IfOk result (λ both. IsSearched view.now tokens.now options.now both.0 both.1) }
+{
+    let problem = problem_of(alloc, view, tokens)?;
+    let (kept, stats) = pruned(alloc, problem, options.prune)?;
+    Ok((kept, stats))
+}
+
+// What pruning leaves of a problem, where it is asked for, with the numbers of the disjuncts.
 fn pruned(alloc: Global, problem: Problem, prune: bool) -> Result<(Problem, Stats), NoMemory>
     ensures keeps { IfOk result (λ both. HasLinkagesOf problem both.0) }
     ensures counted { IfOk result (λ both. AreStats problem prune both.1) }

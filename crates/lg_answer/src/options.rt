@@ -20,6 +20,10 @@ pub struct Options {
     pub nulls: Nulls,
     /// Only disjuncts that are alive are searched. That changes no page, but the second of the numbers of disjuncts.
     pub prune: bool,
+    /// The numbers of disjuncts are counted, for which all of them are made.
+    pub count: bool,
+    /// So many threads, from 1 to 16, may look for the linkages of a sentence. That changes no page.
+    pub workers: u32,
 }
 
 impl Default for Options {
@@ -34,6 +38,8 @@ impl Default for Options {
             examine: 1000,
             nulls: Nulls::First,
             prune: true,
+            count: false,
+            workers: 1,
         }
     }
 }

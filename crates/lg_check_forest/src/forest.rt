@@ -10,7 +10,7 @@ fn mary_ran(rt: HostRuntime) -> Result<(), Fail> {
     let alloc = rt.alloc();
     let problem = problem(alloc, &["S|o", "s"])?;
     let mut steps = Steps::start();
-    let forest = solve(alloc, &problem, &mut steps)?;
+    let forest = solve(&rt, alloc, &problem, 1, &mut steps)?;
     assert_eq!(rt; forest.unused(), 0);
     assert_eq!(rt; forest.nodes(), 4);
     assert_eq!(rt; steps.count(), 4);

@@ -8,23 +8,31 @@ use lg_gram::{Connector, Connectors, Disjunct, Disjuncts, Linkage, Positions, Pr
 use std::alloc::Global;
 use std::test::Fail;
 
-fn disjunct(alloc: Global, letters: &[u8]) -> Result<Disjunct, Fail> {
-    let mut left = Vec::new(alloc);
-    let mut right = Vec::new(alloc);
+/// The connectors that the letters stand for, in their order.
+pub fn connectors(alloc: Global, letters: &[u8]) -> Result<Vec<Connector>, Fail> {
+    let mut all = Vec::new(alloc);
     let mut multi = false;
     for letter in letters {
         if *letter == b'@' {
             multi = true;
         } else {
-            let is_right = letter.is_ascii_uppercase();
             let caps = [letter.to_ascii_uppercase()];
-            let connector = Connector::of(&caps, &[], multi, is_right).ok_or("no connector")?;
-            if is_right {
-                right.push(connector)?;
-            } else {
-                left.push(connector)?;
-            }
+            let right = letter.is_ascii_uppercase();
+            all.push(Connector::of(&caps, &[], multi, right).ok_or("no connector")?)?;
             multi = false;
+        }
+    }
+    Ok(all)
+}
+
+fn disjunct(alloc: Global, letters: &[u8]) -> Result<Disjunct, Fail> {
+    let mut left = Vec::new(alloc);
+    let mut right = Vec::new(alloc);
+    for connector in connectors(alloc, letters)? {
+        if connector.is_right() {
+            right.push(connector)?;
+        } else {
+            left.push(connector)?;
         }
     }
     Ok(Disjunct {
@@ -39,6 +47,16 @@ fn position(alloc: Global, word: &str) -> Result<Disjuncts, Fail> {
     let mut disjuncts = Vec::new(alloc);
     for letters in word.as_bytes().split(|byte| *byte == b'|') {
         disjuncts.push(disjunct(alloc, letters)?)?;
+    }
+    Ok(Disjuncts::of(disjuncts))
+}
+
+// A first position with 200 more disjuncts, which have no partner. It makes a problem large, and adds no linkage.
+fn padded_position(alloc: Global, word: &str) -> Result<Disjuncts, Fail> {
+    let mut disjuncts = position(alloc, word)?.into_items();
+    for number in 0..200u8 {
+        let letters = [b'z', b'a' + number / 26, b'a' + number % 26];
+        disjuncts.push(disjunct(alloc, &letters)?)?;
     }
     Ok(Disjuncts::of(disjuncts))
 }
@@ -71,21 +89,62 @@ const WORDS: [&str; 12] = [
 // Words with few disjuncts, for longer problems.
 const SHORT: [&str; 6] = ["A|a", "aA", "AB|b", "@a|B", "A", "a|bA"];
 
+// The word at a position of the problem of a seed.
+fn word_of(count: u32, rest: u32) -> &'static str {
+    if count < 6 {
+        WORDS[rest as usize % WORDS.len()]
+    } else {
+        SHORT[rest as usize % SHORT.len()]
+    }
+}
+
 /// One of a family of problems of two to eight positions, of which many have linkages of one cost and one length.
 pub fn made(alloc: Global, seed: u32) -> Result<Problem, Fail> {
     let mut rest = seed;
     let mut positions = Vec::new(alloc);
     let count = 2 + seed % 7;
     for _ in 0..count {
-        let word = if count < 6 {
-            WORDS[rest as usize % WORDS.len()]
-        } else {
-            SHORT[rest as usize % SHORT.len()]
-        };
-        positions.push(position(alloc, word)?)?;
+        positions.push(position(alloc, word_of(count, rest))?)?;
         rest = rest / 5 + seed % 11;
     }
     Ok(Problem::of(Positions::of(positions)).ok_or("no problem")?)
+}
+
+/// The same problem with 200 disjuncts more, which have no partner.
+pub fn padded(alloc: Global, seed: u32) -> Result<Problem, Fail> {
+    let mut rest = seed;
+    let mut positions = Vec::new(alloc);
+    let count = 2 + seed % 7;
+    positions.push(padded_position(alloc, word_of(count, rest))?)?;
+    for _ in 1..count {
+        rest = rest / 5 + seed % 11;
+        positions.push(position(alloc, word_of(count, rest))?)?;
+    }
+    Ok(Problem::of(Positions::of(positions)).ok_or("no problem")?)
+}
+
+/// The problem with these positions, and with 200 disjuncts more at the first, which have no partner.
+pub fn padded_problem(alloc: Global, first: &str, words: &[&str]) -> Result<Problem, Fail> {
+    let mut positions = Vec::new(alloc);
+    positions.push(padded_position(alloc, first)?)?;
+    for word in words {
+        positions.push(position(alloc, *word)?)?;
+    }
+    Ok(Problem::of(Positions::of(positions)).ok_or("no problem")?)
+}
+
+/// Two words of the family, of which a word of a longer sentence is made.
+pub fn pair(seed: u32) -> (&'static str, &'static str) {
+    let first = WORDS[seed as usize % WORDS.len()];
+    let second = SHORT[(seed / 12) as usize % SHORT.len()];
+    (first, second)
+}
+
+/// Whether both have the same disjuncts.
+pub fn are_equal(a: &Problem, b: &Problem) -> bool {
+    let a = a.positions();
+    let b = b.positions();
+    a.len() == b.len() && a.iter().zip(b).all(|(x, y)| x.items() == y.items())
 }
 
 /// Whether the two lists have the same linkages in the same order.

@@ -1,7 +1,7 @@
 //! Power pruning beside a body that is its definition, and the linkages of what it leaves.
 ghost use Rattle.std.specs.Prelude.{◌<◌, length};
 
-use crate::problems::{are_same, made, problem};
+use crate::problems::{are_equal, are_same, made, problem};
 use lg_base::Steps;
 use lg_forest::{solve, spell_all};
 use lg_gram::{Connector, Disjunct, Disjuncts, Positions, Problem, matches};
@@ -9,6 +9,7 @@ use lg_pprune::pprune;
 use lg_rules::{PLAIN_POSITIONS, plain_list};
 use std::alloc::Global;
 use std::test::Fail;
+use std::thread::Threads;
 
 // A connector with its position, its place on its side, and how many connectors the side has from it on.
 #[derive(Clone, Copy)]
@@ -19,10 +20,28 @@ struct Site<'a> {
     connector: &'a Connector,
 }
 
+// Which set of disjuncts is wanted.
+#[derive(Clone, Copy)]
+pub enum Prune {
+    /// That of expression pruning: partners stand on the side that a connector points to.
+    Expressions,
+    /// That of power pruning: there is room between partners and beside them for the links of the connectors before and behind them.
+    Power,
+}
+
 // Whether one to the right and one to the left can be linked, among so many positions.
-fn are_partners(positions: usize, right: Site<'_>, left: Site<'_>) -> bool {
-    matches(right.connector, left.connector)
-        && left.position.saturating_sub(right.position) > right.place.max(left.place)
+fn are_partners(prune: Prune, positions: usize, right: Site<'_>, left: Site<'_>) -> bool {
+    if !matches(right.connector, left.connector) {
+        return false;
+    }
+    match prune {
+        Prune::Expressions => right.position < left.position,
+        Prune::Power => have_room(positions, right, left),
+    }
+}
+
+fn have_room(positions: usize, right: Site<'_>, left: Site<'_>) -> bool {
+    left.position.saturating_sub(right.position) > right.place.max(left.place)
         && right.rest <= positions.saturating_sub(left.position)
         && left.rest <= right.position.saturating_add(1)
 }
@@ -38,14 +57,14 @@ fn site_at(position: usize, place: usize, connectors: &[Connector]) -> Option<Si
 }
 
 // Whether some disjunct has a partner on its left side of this connector to the right.
-fn has_left_partner(problem: &Problem, right: Site<'_>) -> bool {
+fn has_left_partner(prune: Prune, problem: &Problem, right: Site<'_>) -> bool {
     let positions = problem.positions();
     for j in 0..positions.len() {
         for disjunct in positions[j].items() {
             let connectors = disjunct.left.items();
             for q in 0..connectors.len() {
                 if let Some(left) = site_at(j, q, connectors) {
-                    if are_partners(positions.len(), right, left) {
+                    if are_partners(prune, positions.len(), right, left) {
                         return true;
                     }
                 }
@@ -55,14 +74,14 @@ fn has_left_partner(problem: &Problem, right: Site<'_>) -> bool {
     false
 }
 
-fn has_right_partner(problem: &Problem, left: Site<'_>) -> bool {
+fn has_right_partner(prune: Prune, problem: &Problem, left: Site<'_>) -> bool {
     let positions = problem.positions();
     for i in 0..positions.len() {
         for disjunct in positions[i].items() {
             let connectors = disjunct.right.items();
             for p in 0..connectors.len() {
                 if let Some(right) = site_at(i, p, connectors) {
-                    if are_partners(positions.len(), right, left) {
+                    if are_partners(prune, positions.len(), right, left) {
                         return true;
                     }
                 }
@@ -73,11 +92,11 @@ fn has_right_partner(problem: &Problem, left: Site<'_>) -> bool {
 }
 
 // Whether each connector of the disjunct has a partner.
-fn is_supported(problem: &Problem, position: usize, disjunct: &Disjunct) -> bool {
+fn is_supported(prune: Prune, problem: &Problem, position: usize, disjunct: &Disjunct) -> bool {
     let right = disjunct.right.items();
     for p in 0..right.len() {
         if let Some(site) = site_at(position, p, right) {
-            if !has_left_partner(problem, site) {
+            if !has_left_partner(prune, problem, site) {
                 return false;
             }
         }
@@ -85,7 +104,7 @@ fn is_supported(problem: &Problem, position: usize, disjunct: &Disjunct) -> bool
     let left = disjunct.left.items();
     for q in 0..left.len() {
         if let Some(site) = site_at(position, q, left) {
-            if !has_right_partner(problem, site) {
+            if !has_right_partner(prune, problem, site) {
                 return false;
             }
         }
@@ -94,37 +113,31 @@ fn is_supported(problem: &Problem, position: usize, disjunct: &Disjunct) -> bool
 }
 
 // The disjuncts of a position that are supported.
-fn supported(alloc: Global, problem: &Problem, position: usize) -> Result<Disjuncts, Fail>
+fn supported(alloc: Global, prune: Prune, problem: &Problem, position: usize) -> Result<Disjuncts, Fail>
     requires { position < length problem.now }
 {
     let mut kept = Vec::new(alloc);
     for disjunct in problem.positions()[position].items() {
-        if is_supported(problem, position, disjunct) {
+        if is_supported(prune, problem, position, disjunct) {
             kept.push(disjunct.clone()?)?;
         }
     }
     Ok(Disjuncts::of(kept))
 }
 
-fn round(alloc: Global, problem: &Problem) -> Result<Problem, Fail> {
+fn round(alloc: Global, prune: Prune, problem: &Problem) -> Result<Problem, Fail> {
     let mut positions = Vec::new(alloc);
     for i in 0..problem.positions().len() {
-        positions.push(supported(alloc, problem, i)?)?;
+        positions.push(supported(alloc, prune, problem, i)?)?;
     }
     Ok(Problem::of(Positions::of(positions)).ok_or("no problem")?)
 }
 
-fn are_equal(a: &Problem, b: &Problem) -> bool {
-    let a = a.positions();
-    let b = b.positions();
-    a.len() == b.len() && a.iter().zip(b).all(|(x, y)| x.items() == y.items())
-}
-
-// Rounds of taking away what is not supported, until nothing is taken away.
-fn slowly(alloc: Global, problem: &Problem) -> Result<Problem, Fail> {
-    let mut last = round(alloc, problem)?;
+/// Rounds of taking away what is not supported, until nothing is taken away.
+pub fn slowly(alloc: Global, prune: Prune, problem: &Problem) -> Result<Problem, Fail> {
+    let mut last = round(alloc, prune, problem)?;
     for _ in 0..1000 {
-        let next = round(alloc, &last)?;
+        let next = round(alloc, prune, &last)?;
         if are_equal(&next, &last) {
             return Ok(next);
         }
@@ -134,25 +147,30 @@ fn slowly(alloc: Global, problem: &Problem) -> Result<Problem, Fail> {
 }
 
 // Whether pruning leaves what its definition says, with the linkages of the whole problem.
-fn agrees(alloc: Global, seed: u32) -> Result<bool, Fail> {
+fn agrees<R: Threads + Sync>(rt: &R, alloc: Global, seed: u32) -> Result<bool, Fail> {
     let whole = made(alloc, seed)?;
     if whole.positions().len() > PLAIN_POSITIONS {
         return Err("too many positions")?;
     }
     let plain = plain_list(alloc, &whole)?;
-    let slow = slowly(alloc, &whole)?;
+    let slow = slowly(alloc, Prune::Power, &whole)?;
     let pruned = pprune(alloc, whole)?;
     if !are_equal(&pruned, &slow) {
         return Ok(false);
     }
-    let forest = solve(alloc, &pruned, &mut Steps::start())?;
+    let forest = solve(rt, alloc, &pruned, 1, &mut Steps::start())?;
     let all = spell_all(alloc, &pruned, &forest)?;
     Ok(are_same(all.as_slice(), plain.as_slice()))
 }
 
-fn all_agree(alloc: Global, from: u32, to: u32) -> Result<bool, Fail> {
+fn all_agree<R: Threads + Sync>(
+    rt: &R,
+    alloc: Global,
+    from: u32,
+    to: u32,
+) -> Result<bool, Fail> {
     for seed in from..to {
-        if !agrees(alloc, seed)? {
+        if !agrees(rt, alloc, seed)? {
             return Ok(false);
         }
     }
@@ -162,31 +180,31 @@ fn all_agree(alloc: Global, from: u32, to: u32) -> Result<bool, Fail> {
 // 500 problems, in five tests for the time that a test may take.
 #[test]
 fn as_its_definition(rt: HostRuntime) -> Result<(), Fail> {
-    assert!(rt; all_agree(rt.alloc(), 0, 100)?);
+    assert!(rt; all_agree(&rt, rt.alloc(), 0, 100)?);
     Ok(())
 }
 
 #[test]
 fn as_its_definition_from_100(rt: HostRuntime) -> Result<(), Fail> {
-    assert!(rt; all_agree(rt.alloc(), 100, 200)?);
+    assert!(rt; all_agree(&rt, rt.alloc(), 100, 200)?);
     Ok(())
 }
 
 #[test]
 fn as_its_definition_from_200(rt: HostRuntime) -> Result<(), Fail> {
-    assert!(rt; all_agree(rt.alloc(), 200, 300)?);
+    assert!(rt; all_agree(&rt, rt.alloc(), 200, 300)?);
     Ok(())
 }
 
 #[test]
 fn as_its_definition_from_300(rt: HostRuntime) -> Result<(), Fail> {
-    assert!(rt; all_agree(rt.alloc(), 300, 400)?);
+    assert!(rt; all_agree(&rt, rt.alloc(), 300, 400)?);
     Ok(())
 }
 
 #[test]
 fn as_its_definition_from_400(rt: HostRuntime) -> Result<(), Fail> {
-    assert!(rt; all_agree(rt.alloc(), 400, 500)?);
+    assert!(rt; all_agree(&rt, rt.alloc(), 400, 500)?);
     Ok(())
 }
 

@@ -10,6 +10,7 @@ use lg_rank::Ranked;
 use lg_rules::{PLAIN_POSITIONS, plain_list};
 use std::alloc::Global;
 use std::test::Fail;
+use std::thread::Threads;
 
 // More linkages than a problem of the tests has.
 const MOST: usize = 1_000_000;
@@ -29,21 +30,26 @@ fn listed(alloc: Global, problem: Problem, forest: Forest) -> Result<Vec<Linkage
 }
 
 // Whether the slow lister, the forest and the ranked listing have the same linkages in the same order.
-fn agrees(alloc: Global, seed: u32) -> Result<bool, Fail> {
+fn agrees<R: Threads + Sync>(rt: &R, alloc: Global, seed: u32) -> Result<bool, Fail> {
     let problem = made(alloc, seed)?;
     if problem.positions().len() > PLAIN_POSITIONS {
         return Err("too many positions")?;
     }
     let plain = plain_list(alloc, &problem)?;
-    let forest = solve(alloc, &problem, &mut Steps::start())?;
+    let forest = solve(rt, alloc, &problem, 1, &mut Steps::start())?;
     let all = spell_all(alloc, &problem, &forest)?;
     let list = listed(alloc, problem, forest)?;
     Ok(are_same(all.as_slice(), plain.as_slice()) && are_same(list.as_slice(), plain.as_slice()))
 }
 
-fn all_agree(alloc: Global, from: u32, to: u32) -> Result<bool, Fail> {
+fn all_agree<R: Threads + Sync>(
+    rt: &R,
+    alloc: Global,
+    from: u32,
+    to: u32,
+) -> Result<bool, Fail> {
     for seed in from..to {
-        if !agrees(alloc, seed)? {
+        if !agrees(rt, alloc, seed)? {
             return Ok(false);
         }
     }
@@ -53,31 +59,31 @@ fn all_agree(alloc: Global, from: u32, to: u32) -> Result<bool, Fail> {
 // 500 problems, in five tests for the time that a test may take.
 #[test]
 fn as_the_slow_lister(rt: HostRuntime) -> Result<(), Fail> {
-    assert!(rt; all_agree(rt.alloc(), 0, 100)?);
+    assert!(rt; all_agree(&rt, rt.alloc(), 0, 100)?);
     Ok(())
 }
 
 #[test]
 fn as_the_slow_lister_from_100(rt: HostRuntime) -> Result<(), Fail> {
-    assert!(rt; all_agree(rt.alloc(), 100, 200)?);
+    assert!(rt; all_agree(&rt, rt.alloc(), 100, 200)?);
     Ok(())
 }
 
 #[test]
 fn as_the_slow_lister_from_200(rt: HostRuntime) -> Result<(), Fail> {
-    assert!(rt; all_agree(rt.alloc(), 200, 300)?);
+    assert!(rt; all_agree(&rt, rt.alloc(), 200, 300)?);
     Ok(())
 }
 
 #[test]
 fn as_the_slow_lister_from_300(rt: HostRuntime) -> Result<(), Fail> {
-    assert!(rt; all_agree(rt.alloc(), 300, 400)?);
+    assert!(rt; all_agree(&rt, rt.alloc(), 300, 400)?);
     Ok(())
 }
 
 #[test]
 fn as_the_slow_lister_from_400(rt: HostRuntime) -> Result<(), Fail> {
-    assert!(rt; all_agree(rt.alloc(), 400, 500)?);
+    assert!(rt; all_agree(&rt, rt.alloc(), 400, 500)?);
     Ok(())
 }
 

@@ -14,6 +14,7 @@ use lg_knowread::{Knowledge, Pattern, Patterns, Rule, Rules, Starts};
 use std::alloc::Global;
 use std::process::Abort;
 use std::test::Fail;
+use std::thread::Threads;
 
 fn entry(alloc: Global, word: &[u8], expr: Expr) -> Result<Entry, Fail>
     ensures words { IfOk result (λ entry. entry.words ≡ word.now ∷ []) }
@@ -113,7 +114,13 @@ fn expect_count<R: Abort>(rt: &R, page: &Page, count: usize, next: u64, end: boo
 }
 
 // The listing of a sentence at its start.
-fn started(alloc: Global, entries: Vec<Entry>, text: &str, nulls: Nulls) -> Result<Listing, Fail>
+fn started<R: Threads + Sync>(
+    rt: &R,
+    alloc: Global,
+    entries: Vec<Entry>,
+    text: &str,
+    nulls: Nulls,
+) -> Result<Listing, Fail>
     requires entries { AreEntries entries.items }
     requires short { length text.now < 2 ^ 32 }
     ensures first { IfOk result (λ listing. listing.course.position ≡ 0) }
@@ -125,8 +132,10 @@ fn started(alloc: Global, entries: Vec<Entry>, text: &str, nulls: Nulls) -> Resu
         examine: 1000,
         nulls,
         prune: true,
+        count: true,
+        workers: 2,
     };
-    Ok(Listing::start(alloc, &View::of(alloc, &dict), text, &options)?)
+    Ok(Listing::start(rt, alloc, &View::of(alloc, &dict), text, &options)?)
 }
 
 // The next page, of at most so many candidates that pass.
@@ -169,7 +178,7 @@ fn expect_next<R: Abort>(
 fn pages_of_one(rt: HostRuntime) -> Result<(), Fail> {
     let alloc = rt.alloc();
     let know = knowledge(alloc, false)?;
-    let listing = started(alloc, entries(alloc)?, "x run", Nulls::First)?;
+    let listing = started(&rt, alloc, entries(alloc)?, "x run", Nulls::First)?;
     let listing = expect_next(&rt, alloc, listing, &know, 1, b"run.n")?;
     let listing = expect_next(&rt, alloc, listing, &know, 2, b"run.v")?;
     expect_next(&rt, alloc, listing, &know, 3, b"run.n")?;
@@ -180,7 +189,7 @@ fn pages_of_one(rt: HostRuntime) -> Result<(), Fail> {
 fn skips_one(rt: HostRuntime) -> Result<(), Fail> {
     let alloc = rt.alloc();
     let know = knowledge(alloc, false)?;
-    let listing = started(alloc, entries(alloc)?, "x run", Nulls::First)?;
+    let listing = started(&rt, alloc, entries(alloc)?, "x run", Nulls::First)?;
     assert!(rt; listing.tokens().items().len() == 2);
     assert!(rt; listing.stats().disjuncts == 6 && listing.stats().kept == 6);
     let listing = listing.skip(alloc, &know, 1)?;
@@ -193,7 +202,7 @@ fn skips_one(rt: HostRuntime) -> Result<(), Fail> {
 fn skips_all(rt: HostRuntime) -> Result<(), Fail> {
     let alloc = rt.alloc();
     let know = knowledge(alloc, false)?;
-    let listing = started(alloc, entries(alloc)?, "x run", Nulls::First)?;
+    let listing = started(&rt, alloc, entries(alloc)?, "x run", Nulls::First)?;
     let listing = listing.skip(alloc, &know, 1000)?;
     let (_, last) = listing.page(alloc, &know, 10, 1000)?;
     expect_count(&rt, &last, 0, 4, true);
@@ -204,7 +213,7 @@ fn skips_all(rt: HostRuntime) -> Result<(), Fail> {
 fn first_is_broken(rt: HostRuntime) -> Result<(), Fail> {
     let alloc = rt.alloc();
     let know = knowledge(alloc, true)?;
-    let listing = started(alloc, entries(alloc)?, "x run", Nulls::First)?;
+    let listing = started(&rt, alloc, entries(alloc)?, "x run", Nulls::First)?;
     let (listing, page) = turned(alloc, listing, &know, 1)?;
     expect_count(&rt, &page, 2, 3, false);
     let broken = Violation {
@@ -229,9 +238,14 @@ fn broken_entries(alloc: Global) -> Result<Vec<Entry>, Fail>
 }
 
 // The link alone breaks the strict rule: this many candidates are listed.
-fn expect_listed<R: Abort>(rt: &R, alloc: Global, nulls: Nulls, count: u32) -> Result<(), Fail> {
+fn expect_listed<R: Abort + Threads + Sync>(
+    rt: &R,
+    alloc: Global,
+    nulls: Nulls,
+    count: u32,
+) -> Result<(), Fail> {
     let know = knowledge(alloc, true)?;
-    let listing = started(alloc, broken_entries(alloc)?, "x run", nulls)?;
+    let listing = started(rt, alloc, broken_entries(alloc)?, "x run", nulls)?;
     let (_, page) = turned(alloc, listing, &know, 10)?;
     expect_count(rt, &page, count as usize, u64::from(count) + 1, true);
     Ok(())

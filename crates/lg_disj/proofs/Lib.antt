@@ -9,3 +9,4 @@ pub mod Runs
 pub mod Kept
 pub mod One_list
 pub mod Disjuncts
+pub mod Exist

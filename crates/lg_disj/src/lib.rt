@@ -13,13 +13,16 @@ mod cheapest;
 mod choice;
 mod choices;
 pub mod law;
+mod names;
 mod product;
 
 use crate::cheapest::{cheapest, disjuncts_of};
 use crate::choices::choices_of;
+pub use law::expressions_have_disjuncts;
 use lg_base::{NoMemory, Text};
 use lg_gram::law::choices_are_counted;
 use lg_gram::{Disjuncts, Formula};
+pub use names::see_names;
 use std::alloc::Global;
 
 /// The disjuncts of a word: the distinct pairs of lists among the choices of its formula, each at its least cost,

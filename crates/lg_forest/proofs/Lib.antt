@@ -5,6 +5,8 @@ pub mod Tables
 pub mod Asked
 pub mod Flags
 pub mod FirstMet
+pub mod Kept
+pub mod Back
 pub mod Solved
 pub mod Drafted
 pub mod Spelled

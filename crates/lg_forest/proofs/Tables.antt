@@ -1,12 +1,12 @@
 -- What a hash table tells of its entries, where `==` at the keys tells whether they are the same.
-use Rattle.std.proofs.Common.{◌≡◌, ◌≢◌, ◌↔◌, ℕ, refl, sym, ap, ◌∙◌, subst, Bool, true, false, true≢false, List, [], ◌∷◌, ◌++◌, Option, Some, None, IsSome, MatchOption, Contains, Bor, rules}
+use Rattle.std.proofs.Common.{◌≡◌, ◌≢◌, ◌↔◌, ℕ, refl, sym, ap, ◌∙◌, subst, Bool, true, false, true≢false, List, [], ◌∷◌, ◌++◌, Option, Some, None, IsSome, MatchOption, ◌⊎◌, inl, inr, cond, if◌then◌else◌, is_some, ◌+◌, length, Contains, Bor, arith, rules}
 use Rattle.std.specs.List.{filter}
 use Rattle.std.specs.Cmp.{IsEquivalence}
 use Rattle.std.specs.Bool.{Decides}
 use Rattle.std.specs.Map.{keys_of, lookup}
 use Rattle.std.specs.Option.{option_copied}
-use Rattle.std.proofs.lemmas.Map.Views.{Contains-from_lookup, Contains-keys_from_lookup, IsSome-lookup_from_Contains}
-use Rattle.indexmap.specs.IndexMap.{IndexMap, keys, get, insert_entry}
+use Rattle.std.proofs.lemmas.Map.Views.{Contains-from_lookup, Contains-keys_from_lookup, IsSome-lookup_from_Contains, lookup-from_Contains}
+use Rattle.indexmap.specs.IndexMap.{IndexMap, IsUnique, keys, get, insert_entry}
 use Rattle.indexmap.proofs.CallerLemmas.{insert_entry-new}
 use Rattle.lg_region.specs.declared.key.Key.{Key}
 use Rattle.lg_forest.proofs.Once.{filter_in, filter_out}
@@ -38,6 +38,35 @@ module _ {X : Type 0} where
   -- a key that is not there is added last
   pub added : {S : Type 0} (m : IndexMap Key X S) (k : Key) (v : X) → (Contains (keys m) k → ⊥) → insert_entry key_eq m.entries k v ≡ m.entries ++ (k, v) ∷ []
   added m k v new = insert_entry-new key_eq m k v (missing m.entries k new)
+
+  -- what is in a table after a change at one key
+  pub changed : {S : Type 0} (old new : IndexMap Key X S) (k : Key) (w : Option X) → IsUnique key_eq new → ((q : Key) → get key_eq new q ≡ cond (key_eq k q) w (get key_eq old q)) → (q : Key) (v : X) → Contains new.entries (q, v) → Contains old.entries (q, v) ⊎ ((k ≡ q) × (w ≡ Some v))
+  changed old new k w unique after q v has = by (key_eq k q) refl
+    where
+      now : get key_eq new q ≡ Some v
+      now = lookup-from_Contains keys_laws q v new.entries unique has
+
+      by : (b : Bool) → key_eq k q ≡ b → Contains old.entries (q, v) ⊎ ((k ≡ q) × (w ≡ Some v))
+      by true e = inr ((keys_same k q).0 e, sym (after q ∙ ap (λ z. cond z w (get key_eq old q)) e) ∙ now)
+      by false e = inl (Contains-from_lookup (λ x y. (keys_same x y).0) q v old.entries (sym (after q ∙ ap (λ z. cond z w (get key_eq old q)) e) ∙ now))
+
+  -- what is taken out of a table, and what is left in it
+  pub taken : {S : Type 0} (old new : IndexMap Key X S) (k : Key) (r : Option X) → r ≡ lookup (key_eq k) old.entries → length new.entries + (if is_some r then 1 else 0) ≡ length old.entries
+      → MatchOption r (length new.entries ≡ length old.entries) (λ v. Contains old.entries (k, v) × (length new.entries + 1 ≡ length old.entries))
+  taken old new k (Some v) is len = (Contains-from_lookup (λ x y. (keys_same x y).0) k v old.entries (sym is), len)
+  taken old new k None is len = omega (arith, len)
+
+  pub left_in : {S : Type 0} (old new : IndexMap Key X S) (k : Key) → IsUnique key_eq new → ((q : Key) → get key_eq new q ≡ cond (key_eq k q) None (get key_eq old q)) → (q : Key) (v : X) → Contains new.entries (q, v) → Contains old.entries (q, v)
+  left_in old new k unique after q v has = elim (changed old new k None unique after q v has) [ inl old_one ↦ old_one | inr r ↦ absurd (none_some r.1) ]
+    where
+      none_some : None ≡ Some v → ⊥
+      none_some e = cc
+
+  pub put_in : {S : Type 0} (old new : IndexMap Key X S) (k : Key) (w : X) → IsUnique key_eq new → ((q : Key) → get key_eq new q ≡ cond (key_eq k q) (Some w) (get key_eq old q)) → (q : Key) (v : X) → Contains new.entries (q, v) → Contains old.entries (q, v) ⊎ ((q ≡ k) × (v ≡ w))
+  put_in old new k w unique after q v has = elim (changed old new k (Some w) unique after q v has) [ inl was ↦ inl was | inr r ↦ inr (sym r.0, same r.1) ]
+    where
+      same : Some w ≡ Some v → v ≡ w
+      same e = cc
 
 -- some alternative is there
 abbrev pub is_live : {X : Type 0} → List X → Bool

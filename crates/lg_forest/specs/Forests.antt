@@ -1,5 +1,5 @@
 -- Forests: the demanded keys that have a linkage, and of each the alternatives whose keys have one.
-use Rattle.std.specs.Prelude.{◌≡◌, ◌↔◌, ℕ, ◌≤◌, List, length, IfSome}
+use Rattle.std.specs.Prelude.{◌≡◌, ◌↔◌, ℕ, ◌+◌, ◌≤◌, List, length, IfSome}
 use Rattle.std.specs.List.{Contains}
 use Rattle.std.specs.Map.{keys_of}
 use Rattle.lg_gram.specs.Connectors.{Connector}
@@ -42,3 +42,12 @@ pub record CountsKeys (P : Key → Type 0) (n : ℕ) : Type 0 where
   pub exactly : (k : Key) → Contains keys k ↔ P k
   pub once : AreOnce keys
   pub count : n ≡ length keys
+
+-- so many may look for a forest
+abbrev pub AreWorkers : ℕ → Type 0
+AreWorkers workers = (1 ≤ workers) × (workers ≤ 16)
+
+-- at most so many steps were counted, and exactly so many where one worked alone
+pub record HasStepped (workers before after n : ℕ) : Type 0 where
+  pub at_most : after ≤ before + n
+  pub alone : workers ≡ 1 → after ≡ before + n

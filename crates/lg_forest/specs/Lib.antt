@@ -1,4 +1,5 @@
 pub mod Demands
 pub mod Forests
+pub mod Known
 pub mod Search
 pub mod Drafts

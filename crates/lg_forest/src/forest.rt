@@ -9,17 +9,21 @@ ghost use Rattle.lg_region.specs.Fronts.{AreListsOf, AreOnce};
 ghost use Rattle.lg_region.specs.declared.key.Key.{Key};
 ghost use Rattle.lg_region.specs.declared.alternative.Alt.{Alt};
 ghost use Rattle.lg_forest.specs.Demands.{IsDemanded, HasLinkageUnder};
-ghost use Rattle.lg_forest.specs.Forests.{IsForest, CountsKeys};
+ghost use Rattle.lg_forest.specs.Forests.{AreWorkers, IsForest, CountsKeys, HasStepped};
+ghost use Rattle.lg_forest.specs.Known.{AreKnown, IsLeft};
 ghost use Rattle.lg_forest.specs.Search.{KeysAreDecided, Asked, IsWholeFrom, IsCounted};
 
+use crate::known::Known;
 use crate::law::keys_are_decided;
 use crate::search::visit;
 use crate::table::Table;
+use crate::workers::known_of;
 use lg_base::{NoMemory, Steps};
 use lg_gram::Problem;
 use lg_region::{Alts, Key, Lists};
 use std::alloc::Global;
 use std::marker::Model;
+use std::thread::Threads;
 
 /// The packed forest of a problem: the demanded keys that have a linkage, each with the alternatives all of whose keys have
 /// one.
@@ -79,18 +83,28 @@ impl Forest {
 
 /// The forest of a problem with as few unlinked words as a linkage can have.
 ///
-/// Each demanded key is one step: those of the whole sentence with no unlinked word, with one, and so on up to that number.
-pub fn solve<L>(alloc: Global, problem: &Problem, steps: &mut Steps<L>) -> Result<Forest, NoMemory>
+/// From 1 to 16 workers look for it; where there are more than one, they first share what they find in a memo. Then the caller walks
+/// alone, and what is not in the memo it finds itself: those are its steps. So they are at most the demanded keys: those of the whole
+/// sentence with no unlinked word, with one, and so on up to that number. With one worker each demanded key is one step.
+pub fn solve<R: Threads + Sync, L>(
+    rt: &R,
+    alloc: Global,
+    problem: &Problem,
+    workers: u32,
+    steps: &mut Steps<L>,
+) -> Result<Forest, NoMemory>
+    requires workers { AreWorkers workers }
     requires room { steps.old < 2 ^ 126 }
     ensures forest { IfOk result (IsForest problem.now 0) }
     ensures fewest { IfOk result (λ forest. IsFewest problem.now forest.unused) }
-    ensures steps { IfOk result (λ forest. (lists : List (List Connector)) → AreListsOf problem.now lists → (n : ℕ) × CountsKeys (IsDemanded problem.now lists 0 forest.unused) n × (steps.new ≡ steps.old + n)) }
+    ensures steps { IfOk result (λ forest. (lists : List (List Connector)) → AreListsOf problem.now lists → (n : ℕ) × CountsKeys (IsDemanded problem.now lists 0 forest.unused) n × HasStepped workers steps.old steps.new n) }
 {
     keys_are_decided();
     let last = problem.positions().len() as u32;
     let lists = Lists::of(alloc, problem)?;
+    let mut known = known_of(rt, alloc, problem, &lists, workers)?;
     let mut table = Table::new(alloc);
-    let unused = fewest(alloc, &lists, last, &mut table, steps)?;
+    let unused = fewest(alloc, &lists, last, &mut table, &mut known, steps)?;
     Ok(Forest::of(unused, table))
 }
 
@@ -111,8 +125,10 @@ pub fn solve_at<L>(
     // the call tells that there are few positions
     let _positions = problem.positions();
     let lists = Lists::of(alloc, problem)?;
+    let mut known = Known::nothing(alloc);
     let mut table = Table::new(alloc);
-    visit(alloc, &lists, &mut table, Key::Whole { nulls }, steps)?;
+    let key = Key::Whole { nulls };
+    visit(alloc, &lists, &mut table, &mut known, key, steps)?;
     Ok(Forest::of(nulls, table))
 }
 
@@ -122,22 +138,26 @@ fn fewest<L>(
     lists: &Lists<'_>,
     last: u32,
     table: &mut Table,
+    known: &mut Known,
     steps: &mut Steps<L>,
 ) -> Result<u32, NoMemory>
     requires decided { KeysAreDecided lists.now }
     requires last { last ≡ length lists.now.positions }
     requires few { last ≤ POSITIONS }
     requires empty { table.old ≡ [] }
+    requires known { AreKnown lists.now known.old }
     requires room { steps.old < 2 ^ 126 }
     ensures fewest { let n = lists.entry.now in IfOk result (IsFewest n.positions) }
     ensures asked { let n = lists.entry.now in IfOk result (λ nulls. Asked n (IsWholeFrom 0 (suc nulls)) table.old table.new) }
-    ensures steps { OnOk result (IsCounted 0 steps.old table.old steps.new table.new) }
+    ensures left { OnOk result (IsLeft lists.entry.now known.old known.new) }
+    ensures steps { OnOk result (IsCounted 0 (steps.old + length known.new) table.old (steps.new + length known.old) table.new) }
 {
     for nulls in 0..last {
-        if visit(alloc, lists, table, Key::Whole { nulls }, steps)? {
+        if visit(alloc, lists, table, known, Key::Whole { nulls }, steps)? {
             return Ok(nulls);
         }
     }
-    visit(alloc, lists, table, Key::Whole { nulls: last }, steps)?;
+    let key = Key::Whole { nulls: last };
+    visit(alloc, lists, table, known, key, steps)?;
     Ok(last)
 }

@@ -2,12 +2,16 @@
 #![tactic(auto)]
 
 mod draft;
+mod fact;
 pub mod forest;
+mod known;
 mod law;
 mod linkages;
 mod search;
 pub mod spell;
 mod table;
+mod worker;
+mod workers;
 
 pub use forest::{Forest, solve, solve_at};
 pub use spell::spell_all;

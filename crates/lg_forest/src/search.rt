@@ -1,10 +1,12 @@
 //! The search: each key that is asked for is expanded once, depth first.
-ghost use Rattle.std.specs.Prelude.{◌≡◌, ◌↔◌, suc, Some, IsTrue, IfOk, OnOk, IfSome};
+ghost use Rattle.std.specs.Prelude.{◌≡◌, ◌↔◌, ◌+◌, ◌<◌, ◌^◌, suc, Some, length, IsTrue, IfOk, OnOk, IfSome};
 ghost use Rattle.lg_region.specs.Keys.{IsValidKey};
 ghost use Rattle.lg_forest.specs.Demands.{HasLinkageUnder, AsksNext};
 ghost use Rattle.lg_forest.specs.Forests.{IsLive, AreLive};
+ghost use Rattle.lg_forest.specs.Known.{AreAltsOf, AreKnown, IsLeft};
 ghost use Rattle.lg_forest.specs.Search.{KeysAreDecided, IsTable, HasValidKeys, IsLast, Asked, AsksOf, key_width, part_bound, alt_bound, HasRoom, IsCounted};
 
+use crate::known::Known;
 use crate::table::Table;
 use lg_base::{NoMemory, Steps};
 use lg_region::{Alt, Alts, Key, Lists, expand_key};
@@ -23,21 +25,24 @@ pub(crate) fn visit<L>(
     alloc: Global,
     lists: &Lists<'_>,
     table: &mut Table,
+    known: &mut Known,
     key: Key,
     steps: &mut Steps<L>,
 ) -> Result<bool, NoMemory>
     requires decided { KeysAreDecided lists.now }
     requires key { IsValidKey lists.now.positions lists.now.lists key }
     requires table { IsTable lists.now table.old }
+    requires known { AreKnown lists.now known.old }
     requires room { HasRoom (suc (key_width lists.now.positions key)) steps.old table.old }
     ensures found { let n = lists.entry.now in IfOk result (λ found. IsTrue found ↔ HasLinkageUnder n.positions n.lists key) }
     ensures asked { OnOk result (Asked lists.entry.now (λ k. k ≡ key) table.old table.new) }
-    ensures steps { OnOk result (IsCounted 0 steps.old table.old steps.new table.new) }
+    ensures left { OnOk result (IsLeft lists.entry.now known.old known.new) }
+    ensures steps { OnOk result (IsCounted 0 (steps.old + length known.new) table.old (steps.new + length known.old) table.new) }
 {
     if let Some(alts) = table.get(&key) {
         return Ok(!alts.is_empty());
     }
-    let live = explore(alloc, lists, table, key, steps)?;
+    let live = explore(alloc, lists, table, known, key, steps)?;
     let found = !live.is_empty();
     table.add(key, live)?;
     Ok(found)
@@ -49,30 +54,62 @@ fn explore<L>(
     alloc: Global,
     lists: &Lists<'_>,
     table: &mut Table,
+    known: &mut Known,
     key: Key,
     steps: &mut Steps<L>,
 ) -> Result<Alts, NoMemory>
     requires decided { KeysAreDecided lists.now }
     requires key { IsValidKey lists.now.positions lists.now.lists key }
     requires table { IsTable lists.now table.old }
+    requires known { AreKnown lists.now known.old }
     requires room { HasRoom (suc (key_width lists.now.positions key)) steps.old table.old }
     ensures live { let n = lists.entry.now in IfOk result (AreLive n.positions n.lists key) }
     ensures asked { let n = lists.entry.now in OnOk result (Asked n (AsksNext n.positions n.lists key) table.old table.new) }
-    ensures steps { OnOk result (IsCounted 1 steps.old table.old steps.new table.new) }
+    ensures left { OnOk result (IsLeft lists.entry.now known.old known.new) }
+    ensures steps { OnOk result (IsCounted 1 (steps.old + length known.new) table.old (steps.new + length known.old) table.new) }
 {
     // the call tells that the table is short
-    let _known = table.len();
-    let alts = expand_key(alloc, lists, key, steps)?;
+    let _size = table.len();
+    let alts = alts_of(alloc, lists, known, key, steps)?;
     let mut flags = Vec::new(alloc);
     let mut last = Last {
         key: None,
         live: true,
     };
     for index in 0..alts.len() {
-        let live = is_live(alloc, lists, table, alts.get(index), &mut last, steps)?;
+        let live = is_live(
+            alloc,
+            lists,
+            table,
+            known,
+            alts.get(index),
+            &mut last,
+            steps,
+        )?;
         flags.push(live)?;
     }
     Ok(alts.keep(flags.as_slice()))
+}
+
+// The alternatives of a key. Where they are known, they are taken, and that is no step.
+fn alts_of<L>(
+    alloc: Global,
+    lists: &Lists<'_>,
+    known: &mut Known,
+    key: Key,
+    steps: &mut Steps<L>,
+) -> Result<Alts, NoMemory>
+    requires key { IsValidKey lists.now.positions lists.now.lists key }
+    requires known { AreKnown lists.now known.old }
+    requires room { steps.old < 2 ^ 127 }
+    ensures alts { let n = lists.entry.now in IfOk result (AreAltsOf n.positions n.lists key) }
+    ensures left { IsLeft lists.entry.now known.old known.new }
+    ensures steps { steps.new + length known.old ≡ 1 + steps.old + length known.new }
+{
+    if let Some(alts) = known.take(&key) {
+        return Ok(alts);
+    }
+    expand_key(alloc, lists, key, steps)
 }
 
 // Whether each key of an alternative has a linkage. The right key is asked for only where the left one has one.
@@ -81,6 +118,7 @@ fn is_live<L>(
     alloc: Global,
     lists: &Lists<'_>,
     table: &mut Table,
+    known: &mut Known,
     alt: Alt,
     last: &mut Last,
     steps: &mut Steps<L>,
@@ -88,18 +126,20 @@ fn is_live<L>(
     requires decided { KeysAreDecided lists.now }
     requires keys { HasValidKeys lists.now alt }
     requires table { IsTable lists.now table.old }
+    requires known { AreKnown lists.now known.old }
     requires last { IsLast lists.now table.old last.old }
     requires room { HasRoom (alt_bound lists.now.positions alt) steps.old table.old }
     ensures live { let n = lists.entry.now in IfOk result (λ live. IsTrue live ↔ IsLive n.positions n.lists alt) }
     ensures asked { OnOk result (Asked lists.entry.now (AsksOf lists.entry.now alt) table.old table.new) }
     ensures last { OnOk result (IsLast lists.entry.now table.new last.new) }
-    ensures steps { OnOk result (IsCounted 0 steps.old table.old steps.new table.new) }
+    ensures left { OnOk result (IsLeft lists.entry.now known.old known.new) }
+    ensures steps { OnOk result (IsCounted 0 (steps.old + length known.new) table.old (steps.new + length known.old) table.new) }
 {
     match alt {
         Alt::AllNull => Ok(true),
         Alt::Split { lkey, rkey, .. } => {
-            if visit_left(alloc, lists, table, lkey, last, steps)? {
-                visit_part(alloc, lists, table, rkey, steps)
+            if visit_left(alloc, lists, table, known, lkey, last, steps)? {
+                visit_part(alloc, lists, table, known, rkey, steps)
             } else {
                 Ok(false)
             }
@@ -113,6 +153,7 @@ fn visit_left<L>(
     alloc: Global,
     lists: &Lists<'_>,
     table: &mut Table,
+    known: &mut Known,
     key: Option<Key>,
     last: &mut Last,
     steps: &mut Steps<L>,
@@ -120,17 +161,19 @@ fn visit_left<L>(
     requires decided { KeysAreDecided lists.now }
     requires key { IfSome key (IsValidKey lists.now.positions lists.now.lists) }
     requires table { IsTable lists.now table.old }
+    requires known { AreKnown lists.now known.old }
     requires last { IsLast lists.now table.old last.old }
     requires room { HasRoom (part_bound lists.now.positions key) steps.old table.old }
     ensures found { let n = lists.entry.now in IfOk result (λ found. IsTrue found ↔ IfSome key (HasLinkageUnder n.positions n.lists)) }
     ensures asked { OnOk result (Asked lists.entry.now (λ k. key ≡ Some k) table.old table.new) }
     ensures last { OnOk result (IsLast lists.entry.now table.new last.new) }
-    ensures steps { OnOk result (IsCounted 0 steps.old table.old steps.new table.new) }
+    ensures left { OnOk result (IsLeft lists.entry.now known.old known.new) }
+    ensures steps { OnOk result (IsCounted 0 (steps.old + length known.new) table.old (steps.new + length known.old) table.new) }
 {
     if last.key == key {
         return Ok(last.live);
     }
-    let live = visit_part(alloc, lists, table, key, steps)?;
+    let live = visit_part(alloc, lists, table, known, key, steps)?;
     *last = Last { key, live };
     Ok(live)
 }
@@ -141,19 +184,22 @@ fn visit_part<L>(
     alloc: Global,
     lists: &Lists<'_>,
     table: &mut Table,
+    known: &mut Known,
     key: Option<Key>,
     steps: &mut Steps<L>,
 ) -> Result<bool, NoMemory>
     requires decided { KeysAreDecided lists.now }
     requires key { IfSome key (IsValidKey lists.now.positions lists.now.lists) }
     requires table { IsTable lists.now table.old }
+    requires known { AreKnown lists.now known.old }
     requires room { HasRoom (part_bound lists.now.positions key) steps.old table.old }
     ensures found { let n = lists.entry.now in IfOk result (λ found. IsTrue found ↔ IfSome key (HasLinkageUnder n.positions n.lists)) }
     ensures asked { OnOk result (Asked lists.entry.now (λ k. key ≡ Some k) table.old table.new) }
-    ensures steps { OnOk result (IsCounted 0 steps.old table.old steps.new table.new) }
+    ensures left { OnOk result (IsLeft lists.entry.now known.old known.new) }
+    ensures steps { OnOk result (IsCounted 0 (steps.old + length known.new) table.old (steps.new + length known.old) table.new) }
 {
     match key {
         None => Ok(true),
-        Some(key) => visit(alloc, lists, table, key, steps),
+        Some(key) => visit(alloc, lists, table, known, key, steps),
     }
 }

@@ -27,6 +27,7 @@ pub mod Ordered
 pub mod Unpacking
 pub mod Listing
 pub mod Keyed
+pub mod Short
 pub mod Walking
 pub mod Building
 pub mod Numbers

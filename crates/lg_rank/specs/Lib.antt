@@ -9,3 +9,4 @@ pub mod Tables
 pub mod Meanings
 pub mod Rankings
 pub mod Keyed
+pub mod Small

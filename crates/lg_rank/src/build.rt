@@ -1,20 +1,23 @@
 //! The nodes of a forest: one for each key under which something is linked, parts before wholes.
-ghost use Rattle.std.specs.Prelude.{◌≡◌, ◌↔◌, ◌+◌, ◌<◌, ◌^◌, ◌⊎◌, ℕ, List, [], length, Some, slice_get, slice_index_or, IsTrue, IfOk, OnOk, IfSome};
+ghost use Rattle.std.specs.Prelude.{◌≡◌, ◌↔◌, ◌<◌, ◌⊎◌, ℕ, List, [], length, Some, slice_get, slice_index_or, IsTrue, IfOk, OnOk, IfSome};
 ghost use Rattle.lg_gram.specs.Connectors.{Connector};
 ghost use Rattle.lg_gram.specs.declared.disjunct.Disjunct.{Disjunct};
 ghost use Rattle.lg_region.specs.Keys.{IsDisjunctAt};
 ghost use Rattle.lg_region.specs.Laws.{HasKey};
+ghost use Rattle.lg_region.specs.Small.{IsSmall};
 ghost use Rattle.lg_region.specs.declared.key.Key.{Key as SeenKey};
 ghost use Rattle.lg_forest.specs.Forests.{IsForest};
 ghost use Rattle.lg_rank.specs.Fronts.{IsIn, Extends};
 ghost use Rattle.lg_rank.specs.Keyed.{subject_of, subjects_of, IsNothing, IsBefore, IsNumberFor, GetsNode, EachPart, ArePlaced, IsRootKey, near_link, far_link, IsAltFor, HasPartsBelow, AreWaysOf, AreNodesOf};
-ghost use Rattle.lg_rank.specs.Meanings.{joint_link, length_of, IsWord, Cutting, IsWayFor, IsCutting};
+ghost use Rattle.lg_rank.specs.Meanings.{joint_link, IsWord, Cutting, IsWayFor, IsCutting};
 ghost use Rattle.lg_rank.specs.Rankings.{IsListing};
+ghost use Rattle.lg_rank.specs.Small.{IsShort, HasShortEnds};
 ghost use Rattle.lg_rank.specs.Values.{value_of, nothing_of};
 
 use crate::keys::Keys;
 use crate::node::Node;
-use crate::part::{Part, Way};
+use crate::part::Part;
+use crate::small::SmallWay;
 use crate::table::Table;
 use lg_base::NoMemory;
 use lg_forest::Forest;
@@ -173,16 +176,6 @@ fn far_of(key: Key, word: u32, joint: Option<Joint>) -> Option<Link>
     }
 }
 
-fn span_of(link: Option<Link>) -> u64
-    ensures value { result ≡ length_of link }
-    ensures small { result < 2 ^ 32 }
-{
-    match link {
-        None => 0,
-        Some(link) => u64::from(link.right.saturating_sub(link.left)),
-    }
-}
-
 // The way of a word and its disjunct with these links and parts.
 fn word_way(
     problem: &Problem,
@@ -192,23 +185,18 @@ fn word_way(
     far: Option<Link>,
     left: Option<usize>,
     right: Option<usize>,
-) -> Way
-    requires { disjunct < length (slice_index_or problem.now word []) }
-    ensures word { (d : Disjunct) → IsDisjunctAt problem.now word disjunct d → IsWord problem.now result word d near far }
-    ensures left { result.left ≡ left }
-    ensures right { result.right ≡ right }
+) -> Result<SmallWay, NoMemory>
+    requires disjunct { disjunct < length (slice_index_or problem.now word []) }
+    requires near { IsShort near }
+    requires far { IsShort far }
+    ensures word { IfOk result (λ w. (d : Disjunct) → IsDisjunctAt problem.now word disjunct d → IsWord problem.now w word d near far) }
+    ensures left { IfOk result (λ w. w.left ≡ left) }
+    ensures right { IfOk result (λ w. w.right ≡ right) }
 {
     let disjuncts = problem.positions()[word as usize].items();
-    Way {
-        word: word as usize,
-        choice: disjunct + 1,
-        cost: disjuncts[disjunct as usize].cost.thousandths(),
-        span: span_of(near) + span_of(far),
-        near,
-        far,
-        left,
-        right,
-    }
+    let cost = disjuncts[disjunct as usize].cost.thousandths();
+    let way = SmallWay::of(word, disjunct + 1, cost, near, far, left, right)?;
+    Ok(way)
 }
 
 // The number of the key of a part; none where there is no key, or nothing can be linked.
@@ -228,9 +216,11 @@ fn part_number(keys: &Keys, key: Option<Key>) -> Option<usize>
 }
 
 // The way of an alternative in which a word is linked.
-fn way_of(problem: &Problem, keys: &Keys, key: Key, alt: Alt) -> Way
-    requires { (lists : List (List Connector)) × (c : Cutting) × IsAltFor problem.now lists key c alt }
-    ensures { (lists : List (List Connector)) (k : ℕ) (c : Cutting) → IsAltFor problem.now lists key c alt → IsCutting problem.now (subject_of lists key) c → HasPartsBelow keys.now k alt → IsWayFor problem.now (subjects_of lists keys.now) k (subject_of lists key) result c }
+fn way_of(problem: &Problem, keys: &Keys, key: Key, alt: Alt) -> Result<SmallWay, NoMemory>
+    requires cut { (lists : List (List Connector)) × (c : Cutting) × IsAltFor problem.now lists key c alt }
+    requires key { HasShortEnds key }
+    requires alt { IsSmall alt }
+    ensures { IfOk result (λ w. (lists : List (List Connector)) (k : ℕ) (c : Cutting) → IsAltFor problem.now lists key c alt → IsCutting problem.now (subject_of lists key) c → HasPartsBelow keys.now k alt → IsWayFor problem.now (subjects_of lists keys.now) k (subject_of lists key) w c) }
 {
     regions_are_cut_once();
     let Alt::Split {
@@ -248,7 +238,8 @@ fn way_of(problem: &Problem, keys: &Keys, key: Key, alt: Alt) -> Way
     let far = far_of(key, word, to_right);
     let left = part_number(keys, lkey);
     let right = part_number(keys, rkey);
-    word_way(problem, word, disjunct, near, far, left, right)
+    let way = word_way(problem, word, disjunct, near, far, left, right)?;
+    Ok(way)
 }
 
 // The ways of node `k`: one for each alternative of its key.
@@ -258,7 +249,7 @@ fn ways_of(
     forest: &Forest,
     keys: &Keys,
     k: usize,
-) -> Result<Vec<Way>, NoMemory>
+) -> Result<Vec<SmallWay>, NoMemory>
     requires forest { (from : ℕ) × IsForest problem.now from forest.now }
     requires placed { ArePlaced problem.now forest.now keys.now }
     requires within { k < length keys.now }
@@ -275,7 +266,8 @@ fn ways_of(
     };
     let mut ways = Vec::with_capacity(alloc, alts.len())?;
     for index in 0..alts.len() {
-        ways.push(way_of(problem, keys, key, alts.get(index)))?;
+        let way = way_of(problem, keys, key, alts.get(index))?;
+        ways.push(way)?;
     }
     Ok(ways)
 }

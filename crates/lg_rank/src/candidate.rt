@@ -4,8 +4,8 @@ ghost use Rattle.lg_rank.specs.Values.{value_of};
 ghost use Rattle.lg_rank.specs.Candidates.{made_by, IsSound};
 
 use crate::part::{Part, Way, push_links};
+use crate::small::SmallLink;
 use lg_base::NoMemory;
-use lg_gram::Link;
 use std::alloc::Global;
 
 /// A way with a part on its left and a part on its right.
@@ -43,7 +43,7 @@ impl Candidate<'_> {
         Ok(choices)
     }
 
-    fn links(&self, alloc: Global) -> Result<Vec<Link>, NoMemory>
+    fn links(&self, alloc: Global) -> Result<Vec<SmallLink>, NoMemory>
         ensures { IfOk result (λ links. links.items ≡ (made_by self.now).links) }
     {
         let joints = self.way.near.is_some() as usize + self.way.far.is_some() as usize;

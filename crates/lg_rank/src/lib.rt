@@ -9,6 +9,7 @@ pub mod node;
 pub mod part;
 pub mod queue;
 mod ranked;
+pub mod small;
 pub mod table;
 pub mod unpack;
 

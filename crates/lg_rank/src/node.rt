@@ -13,6 +13,7 @@ ghost use Rattle.lg_rank.specs.Tables.{forest_of, parts, made_at, IsTable, IsBeg
 use crate::candidate::Candidate;
 use crate::part::{Part, Way};
 use crate::queue::{Waiting, first_place, put_in, take_first};
+use crate::small::SmallWay;
 use lg_base::NoMemory;
 use std::alloc::Global;
 use std::collections::BinaryHeap;
@@ -30,7 +31,7 @@ pub struct Row {
 /// A node, with the parts that were made. A live row waits in the queue with the part that it makes next.
 #[derive(Debug, Drop)]
 pub struct Node {
-    pub ways: Vec<Way>,
+    pub ways: Vec<SmallWay>,
     pub made: Vec<Part>,
     pub rows: Vec<Row>,
     pub queue: BinaryHeap<Waiting>,
@@ -39,7 +40,7 @@ pub struct Node {
 
 impl Node {
     /// A node with these ways, of which nothing was made.
-    pub fn idle(alloc: Global, ways: Vec<Way>) -> Node
+    pub fn idle(alloc: Global, ways: Vec<SmallWay>) -> Node
         ensures ways { result.ways ≡ ways }
         ensures made { result.made.items ≡ [] }
         ensures idle { result.begun ≡ false }
@@ -94,7 +95,7 @@ pub fn way_of(nothing: &Part, nodes: &[Node], k: usize, p: usize) -> Way
     requires p_in { p < length (ways_of (forest_of nodes.now) k) }
     ensures { IsWayOf nodes.now k p result }
 {
-    nodes[k].ways[p]
+    nodes[k].ways[p].full()
 }
 
 /// How many values of a part were made.

@@ -6,6 +6,7 @@ ghost use Rattle.lg_rank.specs.Meanings.{IsCodeOf, IsPacked, AreCodesOf};
 ghost use Rattle.lg_rank.specs.Values.{value_of};
 
 use crate::part::Part;
+use crate::small::SmallLink;
 use lg_base::NoMemory;
 use lg_gram::{Chosen, Disjunct, Link, Linkage, Links, Problem};
 use std::alloc::Global;
@@ -17,10 +18,13 @@ fn copy_of(disjunct: &Disjunct) -> Result<Disjunct, NoMemory>
     Ok(copy)
 }
 
-fn links_of(alloc: Global, links: &[Link]) -> Result<Vec<Link>, NoMemory>
+fn links_of(alloc: Global, links: &[SmallLink]) -> Result<Vec<Link>, NoMemory>
     ensures { IfOk result (λ copy. copy.items ≡ links.now) }
 {
-    let copy = Vec::from_slice(alloc, links)?;
+    let mut copy = Vec::with_capacity(alloc, links.len())?;
+    for link in links {
+        copy.push(link.full())?;
+    }
     Ok(copy)
 }
 

@@ -12,7 +12,8 @@ use Rattle.lg_region.specs.Fronts.{AreListsOf, Numbering, list_of}
 use Rattle.lg_region.specs.Keys.{region_of_numbers, IsDisjunctAt, IsAltOfRegion, IsAltOfWhole}
 use Rattle.lg_region.specs.Numbered.{HasSides}
 use Rattle.lg_region.specs.Ways.{AreExactly, AddsExactly}
-use Rattle.lg_region.specs.Groups.{region_of_gap, StandsIn, StandsBefore, AddsFirst, HaveLeft, IsGroup}
+use Rattle.lg_region.specs.Groups.{region_of_gap, StandsIn, StandsBefore, AddsIn, AddsFirst, HaveLeft, IsGroup, IsNextLed, Leads}
+use Rattle.lg_region.specs.Chains.{class_of, list_on, IsNext}
 use Rattle.lg_region.specs.declared.key.Joint.{Joint}
 use Rattle.lg_region.specs.declared.key.Key.{Key}
 use Rattle.lg_region.specs.declared.key.Key.TheVariants.{Region as Between}
@@ -20,9 +21,12 @@ use Rattle.lg_region.specs.declared.alternative.Alt.{Alt}
 use Rattle.lg_region.specs.declared.alternative.Alt.TheVariants.{AllNull, Split as At}
 use Rattle.lg_region.specs.declared.numbering.Sides.{Sides}
 use Rattle.lg_region.specs.declared.group.Gap.{Gap}
+use Rattle.lg_region.specs.declared.group.Lead.{Lead}
+use Rattle.lg_region.specs.declared.chains.Side.TheVariants.{Left, Right}
 use Rattle.lg_region.proofs.Numbers.{apart, one_key, get_contains}
 use Rattle.lg_region.proofs.Once.{exactly_as, exactly_none, exactly_one, exactly_append, adds_none}
-use Rattle.lg_region.proofs.Splitting.{some_number}
+use Rattle.lg_region.proofs.Splitting.{led_itself, led_next, some_number}
+use Rattle.lg_region.proofs.Chaining.{joint_class}
 
 -- one more number of a range
 pub range_step : {X : Type 0} (f : ℕ → List X) (out out' all : List X) (n to : ℕ) → n < to → out' ≡ out ++ f n → out ++ flat_map f (range_with_len n (to - n)) ≡ all → out' ++ flat_map f (range_with_len (n + 1) (to - (n + 1))) ≡ all
@@ -191,22 +195,72 @@ gap_start positions lists gap out are l r some e =
     start_none (gap.left + 1) gap.right (IsAltOfRegion positions lists k) out (region_lies positions lists k)
     (λ (a, b, c). some (apart positions lists are gap.llist 0 l (omega arith) a, apart positions lists are gap.rlist 0 r (omega arith) b)) e
 
--- the first disjunct of a run, and one more
-pub left_first : (numbers : Numbering) (word number : ℕ) (s : Sides) → ((d : Disjunct) → IsDisjunctAt numbers.positions word number d → HasSides numbers.lists d s) → HaveLeft numbers word s.left number (number + 1)
-left_first numbers word number s sides n d from to at = let q : n ≡ number = omega arith in (sides d (subst (λ z. IsDisjunctAt numbers.positions word z d) q at)).left.list
+-- which disjuncts cut a region with a left list, and with none
+pub led_left : (positions : List (List Disjunct)) (lists : List (List Connector)) (llist class : ℕ) (k : Region) → AreListsOf positions lists → llist ≤ length lists → llist ≢ 0 → class ≡ class_of (list_of lists llist) → k.llist ≡ list_of lists llist
+    → Leads (record { side = Left; class = class }) positions k
+led_left positions lists llist class k are known some e l c cut =
+    let n : k.llist ≢ [] = λ x. some (apart positions lists are llist 0 known (omega arith) (sym l ∙ x)) in
+    sym (joint_class c.to_left k.llist c.disjunct.left c.lkey.llist c.lkey.rlist cut.at_left (cut.by_llist n)) ∙ ap class_of l ∙ sym e
 
-pub left_more : (numbers : Numbering) (word left from to : ℕ) (s : Sides) → HaveLeft numbers word left from to → s.left ≡ left → ((d : Disjunct) → IsDisjunctAt numbers.positions word to d → HasSides numbers.lists d s) → HaveLeft numbers word left from (to + 1)
-left_more numbers word left from to s so e sides n d f t at =
+pub led_right : (positions : List (List Disjunct)) (lists : List (List Connector)) (llist rlist class : ℕ) (k : Region) → llist ≡ 0 → class ≡ class_of (list_of lists rlist) → k.llist ≡ list_of lists llist → k.rlist ≡ list_of lists rlist
+    → Leads (record { side = Right; class = class }) positions k
+led_right positions lists llist rlist class k none e l r c cut =
+    joint_class c.to_right c.disjunct.right k.rlist c.rkey.llist c.rkey.rlist cut.at_right (cut.by_rlist (l ∙ ap (list_of lists) none)) ∙ ap class_of r ∙ sym e
+
+-- up to the next disjunct of the class there is no alternative
+pub adds_skip : (positions : List (List Disjunct)) (lists : List (List Connector)) (gap : Gap) (word start next : ℕ) (out : List Alt) → Leads gap.lead positions (region_of_gap lists gap) → IsNextLed (record { positions = positions; lists = lists }) gap.lead word start next
+    → AddsIn (record { positions = positions; lists = lists }) gap word start next out out
+adds_skip positions lists gap word start next out led is =
+    adds_none out (λ a. IsAltOfRegion positions lists (region_of_gap lists gap) a × StandsIn word start next a) (λ a (i, s). none_at a i s)
+  where
+    none_at : (a : Alt) → IsAltOfRegion positions lists (region_of_gap lists gap) a → StandsIn word start next a → ⊥
+    none_at AllNull i s = absurd s
+    none_at (At w number tl tr None rk) i s = absurd i
+    none_at (At w number tl tr (Some lk) None) i s = absurd i
+    none_at (At w number tl tr (Some lk) (Some rk)) (c, i) s = is.others number c.disjunct s.1 s.2 (subst (λ z. IsDisjunctAt positions z number c.disjunct) s.0 i.chosen) (led c i.cut)
+
+-- the first disjunct of a run, and one more
+pub left_first : (numbers : Numbering) (lead : Lead) (word number : ℕ) (s : Sides) → ((d : Disjunct) → IsDisjunctAt numbers.positions word number d → HasSides numbers.lists d s) → HaveLeft numbers lead word s.left number (number + 1)
+left_first numbers lead word number s sides n d from to at led = let q : n ≡ number = omega arith in (sides d (subst (λ z. IsDisjunctAt numbers.positions word z d) q at)).left.list
+
+pub left_more : (numbers : Numbering) (lead : Lead) (word left from to : ℕ) (s : Sides) → HaveLeft numbers lead word left from to → s.left ≡ left → ((d : Disjunct) → IsDisjunctAt numbers.positions word to d → HasSides numbers.lists d s) → HaveLeft numbers lead word left from (to + 1)
+left_more numbers lead word left from to s so e sides n d f t at led =
     elim (cases_lt n to) [
-      | inl h ↦ so n d f h at
+      | inl h ↦ so n d f h at led
       | inr h ↦ (let q : n ≡ to = omega arith in ap (list_of numbers.lists) (sym e) ∙ (sides d (subst (λ z. IsDisjunctAt numbers.positions word z d) q at)).left.list)
     ]
 
-pub run_group : (numbers : Numbering) (gap : Gap) (word from to : ℕ) (s : Sides) → gap.left < word → word < gap.right → from < length (get_or numbers.positions word []) → to ≤ length (get_or numbers.positions word []) → ((d : Disjunct) → IsDisjunctAt numbers.positions word from d → HasSides numbers.lists d s)
-    → HaveLeft numbers word s.left from to → IsGroup numbers gap (record { word = word; left = s.left; from = from; to = to })
-run_group numbers gap word from to s after before l listed sides same =
+-- the disjuncts up to the next one of the class may have any left list
+pub left_skip : (numbers : Numbering) (lead : Lead) (word left from start next : ℕ) → HaveLeft numbers lead word left from start → IsNextLed numbers lead word start next → HaveLeft numbers lead word left from next
+left_skip numbers lead word left from start next so is n d f t at led =
+    elim (cases_lt n start) [ inl h ↦ so n d f h at led | inr h ↦ absurd (is.others n d h t at led) ]
+
+-- a run up to the next disjunct of the class
+pub record IsRun (numbers : Numbering) (lead : Lead) (word left start end : ℕ) : Type 0 where
+  pub later : start < end
+  pub led : IsNextLed numbers lead word end end
+  pub same : HaveLeft numbers lead word left start end
+
+pub run_first : (numbers : Numbering) (lead : Lead) (word left from next : ℕ) → from < length (get_or numbers.positions word []) → IsNextLed numbers lead word from from → HaveLeft numbers lead word left from (from + 1)
+    → ((d : Disjunct) → IsDisjunctAt numbers.positions word from d → IsNext lead.side (get_or numbers.positions word []) (class_of (list_on lead.side d)) (from + 1) next) → IsRun numbers lead word left from next
+run_first numbers lead word left from next l led so h =
+    let is = led_next numbers lead word from next l led h in
+    let later = is.later in
+    record { later = omega arith; led = led_itself numbers lead word (from + 1) next is; same = left_skip numbers lead word left from (from + 1) next so is }
+
+pub run_more : (numbers : Numbering) (lead : Lead) (word left from to next : ℕ) (s : Sides) → to < length (get_or numbers.positions word []) → s.left ≡ left → ((d : Disjunct) → IsDisjunctAt numbers.positions word to d → HasSides numbers.lists d s) → IsRun numbers lead word left from to
+    → ((d : Disjunct) → IsDisjunctAt numbers.positions word to d → IsNext lead.side (get_or numbers.positions word []) (class_of (list_on lead.side d)) (to + 1) next) → (to < next) × IsRun numbers lead word left from next
+run_more numbers lead word left from to next s l e sides so h =
+    let is = led_next numbers lead word to next l so.led h in
+    let later = is.later in
+    let before = so.later in
+    (omega arith, record { later = omega arith; led = led_itself numbers lead word (to + 1) next is; same = left_skip numbers lead word left from (to + 1) next (left_more numbers lead word left from to s so.same e sides) is })
+
+pub run_group : (numbers : Numbering) (gap : Gap) (word from to : ℕ) (s : Sides) → gap.left < word → word < gap.right → from < length (get_or numbers.positions word []) → IsNextLed numbers gap.lead word from from → IsNextLed numbers gap.lead word to to
+    → ((d : Disjunct) → IsDisjunctAt numbers.positions word from d → HasSides numbers.lists d s) → HaveLeft numbers gap.lead word s.left from to → IsGroup numbers gap (record { word = word; left = s.left; from = from; to = to })
+run_group numbers gap word from to s after before l first listed sides same =
     let d = some_number numbers.positions word from l in
-    record { after = after; before = before; listed = listed; known = (sides d.0 d.1).left.known; left = same }
+    record { after = after; before = before; listed = listed.within; known = (sides d.0 d.1).left.known; left = same; first = first }
 
 -- the whole sentence with all words unlinked
 all_unlinked : (positions : List (List Disjunct)) (lists : List (List Connector)) (nulls : ℕ) → nulls ≡ length positions → (a : Alt) → IsAltOfWhole positions lists nulls a → AllNull ≡ a

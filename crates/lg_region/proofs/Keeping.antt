@@ -1,6 +1,6 @@
 -- What the numbering keeps, for its methods.
 use Rattle.std.proofs.Common.{◌≡◌, ◌≢◌, ℕ, suc, ◌-◌, ◌<◌, ◌≤◌, List, [], length, get_or, map, sym, ◌∙◌, ap, subst, Some, Vec, Global, Bor, arith}
-use Rattle.std.specs.List.{slice_get}
+use Rattle.std.specs.List.{AllZip, slice_get}
 use Rattle.std.proofs.lemmas.List.{length-map}
 use Rattle.std.proofs.lemmas.Option.{slice_get_within}
 use Rattle.lg_gram.specs.Connectors.{Connector}
@@ -10,10 +10,14 @@ use Rattle.lg_region.specs.Fronts.{Numbering}
 use Rattle.lg_region.specs.Keys.{IsDisjunctAt}
 use Rattle.lg_region.specs.Kept.{IsKept, lists_in, numbering}
 use Rattle.lg_region.specs.Numbered.{HasSides}
+use Rattle.lg_region.specs.Chains.{IsChain}
 use Rattle.lg_region.specs.Ways.{IsEndOf}
 use Rattle.lg_region.specs.declared.lists.Lists.TheInside.{Inside}
 use Rattle.lg_region.specs.declared.numbering.Tail.{Tail}
 use Rattle.lg_region.specs.declared.numbering.Sides.{Sides}
+use Rattle.lg_region.specs.declared.chains.Side.{Side}
+use Rattle.lg_region.specs.declared.chains.Chain.{Chain}
+use Rattle.lg_region.proofs.Elements.{zip_at, zip_length}
 use Rattle.lg_region.proofs.Ends.{map_at, end_of, list_short, row_within, row_at, number_within, sides_at}
 
 -- the rows of the numbers of disjuncts
@@ -84,3 +88,15 @@ kept_end a v n t f is e g r =
 
 pub pred_of : (n : ℕ) → n ≢ 0 → n ≡ suc (n - 1)
 pred_of n h = omega arith
+
+-- the chains of a word
+pub chain_within : (a : Inside) (v : Numbering) (side : Side) (chains : List Chain) (word : ℕ) → AllZip (IsChain side) a.problem.now chains → numbering a ≡ v → word < length v.positions → word < length chains
+chain_within a v side chains word are e l =
+    let h : word < length a.problem.now = subst (λ z. word < length z.positions) (sym e) l in
+    let n = zip_length (IsChain side) a.problem.now chains are in
+    omega arith
+
+pub chain_at : (a : Inside) (v : Numbering) (side : Side) (chains : List Chain) (word : ℕ) (t : Chain) → AllZip (IsChain side) a.problem.now chains → numbering a ≡ v → word < length v.positions → t ≡ get_or chains word t → IsChain side (get_or v.positions word []) t
+chain_at a v side chains word t are e l r =
+    let h : word < length a.problem.now = subst (λ z. word < length z.positions) (sym e) l in
+    subst (λ z. IsChain side (get_or z.positions word []) t) e (subst (λ z. IsChain side (get_or a.problem.now word []) z) (sym r) (zip_at (IsChain side) a.problem.now chains word [] t are h))

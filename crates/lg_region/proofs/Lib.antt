@@ -28,3 +28,4 @@ pub mod Splitting
 pub mod Expanding
 pub mod Keeps
 pub mod SmallFits
+pub mod Chaining

@@ -11,7 +11,9 @@ use Rattle.lg_region.specs.Fronts.{AreListsOf, Numbering, list_of}
 use Rattle.lg_region.specs.Keys.{region_of_numbers, IsDisjunctAt, IsSplitOf, IsAltOfRegion}
 use Rattle.lg_region.specs.Numbered.{HasSides}
 use Rattle.lg_region.specs.Ways.{AreExactly, IsWayOf}
-use Rattle.lg_region.specs.Groups.{region_of_gap, IsGroup, IsRightOf, right_of, split_of, splits_with, StandsIn, AddsIn}
+use Rattle.lg_region.specs.Groups.{region_of_gap, IsLed, Leads, IsNextLed, IsGroup, IsRightOf, right_of, split_of, splits_with, StandsIn, AddsIn}
+use Rattle.lg_region.specs.Chains.{class_of, list_on, IsNext}
+use Rattle.lg_region.specs.declared.group.Lead.{Lead}
 use Rattle.lg_region.specs.declared.key.Joint.{Joint}
 use Rattle.lg_region.specs.declared.key.Key.TheVariants.{Whole, Region as Between}
 use Rattle.lg_region.specs.declared.alternative.Alt.{Alt}
@@ -50,10 +52,10 @@ right_made r number e = let x : r ≡ record { disjunct = r.disjunct; way = r.wa
 
 -- the disjuncts up to one number, and the ways on of that one
 pub rights_more : (numbers : Numbering) (gap : Gap) (group : Group) (number : ℕ) (s : Sides) (may : Bool) (rights rights' : List Right) (ways : List Way) → group.from ≤ number → number < group.to → group.to ≤ length (get_or numbers.positions group.word [])
-    → ((d : Disjunct) → IsDisjunctAt numbers.positions group.word number d → HasSides numbers.lists d s) → may ≡ not (gap.llist == 0)
+    → ((d : Disjunct) → IsDisjunctAt numbers.positions group.word number d → IsLed gap.lead d) → ((d : Disjunct) → IsDisjunctAt numbers.positions group.word number d → HasSides numbers.lists d s) → may ≡ not (gap.llist == 0)
     → AreExactly ways (IsWayOf numbers.lists s.right gap.rlist may) → rights' ≡ rights ++ map (right_of number) ways
     → AreExactly rights (λ r. IsRightOf numbers gap group r × (r.disjunct < number)) → AreExactly rights' (λ r. IsRightOf numbers gap group r × (r.disjunct < number + 1))
-rights_more numbers gap group number s may rights rights' ways from to listed sides m are e so =
+rights_more numbers gap group number s may rights rights' ways from to listed led sides m are e so =
     let lists = numbers.lists in
     let P : Right → Type 0 = λ r. IsRightOf numbers gap group r × (r.disjunct < number) in
     let Q : Right → Type 0 = λ r. (w : Way) × IsWayOf lists s.right gap.rlist may w × (right_of number w ≡ r) in
@@ -77,6 +79,7 @@ rights_more numbers gap group number s may rights rights' ways from to listed si
             to = to;
             known_near = is.known_near;
             known_far = is.known_far;
+            led = led;
             cut = λ d at. cut_as w.joint w.joint (list_of lists s.right) d.right (list_of lists gap.rlist) (list_of lists gap.rlist) (list_of lists w.near) (list_of lists w.near) (list_of lists w.far) (list_of lists w.far) refl (sides d at).right.list refl refl refl is.cut;
             joined = λ z. is.joined (m ∙ zero_false gap.llist z);
           }),
@@ -102,6 +105,30 @@ rights_more numbers gap group number s may rights rights' ways from to listed si
       ],
     ))
     (exactly_append rights (map (right_of number) ways) P Q so these (λ r p (w, is, q). let f = ap (λ z. z.disjunct) q in let b = p.1 in omega arith)))
+
+-- the next one of the class
+pub led_next : (numbers : Numbering) (lead : Lead) (word number next : ℕ) → number < length (get_or numbers.positions word []) → IsNextLed numbers lead word number number
+    → ((d : Disjunct) → IsDisjunctAt numbers.positions word number d → IsNext lead.side (get_or numbers.positions word []) (class_of (list_on lead.side d)) (number + 1) next) → IsNextLed numbers lead word (number + 1) next
+led_next numbers lead word number next l led h =
+    let d = some_number numbers.positions word number l in
+    subst (λ z. IsNext lead.side (get_or numbers.positions word []) z (number + 1) next) (led.same d.0 d.1) (h d.0 d.1)
+
+pub led_itself : (numbers : Numbering) (lead : Lead) (word start next : ℕ) → IsNextLed numbers lead word start next → IsNextLed numbers lead word next next
+led_itself numbers lead word start next is = record { later = omega arith; within = is.within; others = λ n d a b at. absurd (omega arith); same = is.same }
+
+-- the disjuncts up to the next one of the class have no part
+pub rights_skip : (numbers : Numbering) (gap : Gap) (group : Group) (rights : List Right) (start next : ℕ) → group.to ≤ length (get_or numbers.positions group.word []) → IsNextLed numbers gap.lead group.word start next
+    → AreExactly rights (λ r. IsRightOf numbers gap group r × (r.disjunct < start)) → AreExactly rights (λ r. IsRightOf numbers gap group r × (r.disjunct < next))
+rights_skip numbers gap group rights start next listed led are =
+    let later = led.later in
+    exactly_as rights (λ r. IsRightOf numbers gap group r × (r.disjunct < start)) (λ r. IsRightOf numbers gap group r × (r.disjunct < next))
+    (λ r. (
+      λ (is, l). (is, omega arith),
+      λ (is, l). elim (cases_lt r.disjunct start) [
+        | inl h ↦ (is, h)
+        | inr h ↦ (let to = is.to in let d = some_number numbers.positions group.word r.disjunct (omega arith) in absurd (led.others r.disjunct d.0 h l d.1 (is.led d.0 d.1)))
+      ],
+    )) are
 
 pub rights_none : (numbers : Numbering) (gap : Gap) (group : Group) (rights : List Right) → rights ≡ [] → AreExactly rights (λ r. IsRightOf numbers gap group r × (r.disjunct < group.from))
 rights_none numbers gap group rights e =
@@ -173,7 +200,7 @@ made_is positions lists gap group may nulls l r is m are known room il ir =
     let lkey = region_of_numbers lists gap.left word l.near l.far nulls in
     let rkey = region_of_numbers lists word gap.right r.way.near r.way.far (gap.nulls - nulls) in
     let c : Split = record { word = word; disjunct = d.0; to_left = l.joint; to_right = r.way.joint; lkey = lkey; rkey = rkey } in
-    let left = is.left r.disjunct d.0 ir.from ir.to d.1 in
+    let left = is.left r.disjunct d.0 ir.from ir.to d.1 (ir.led d.0 d.1) in
     let a = room.0 in
     let cut : IsCut positions k c = record {
       after = is.after;
@@ -209,16 +236,17 @@ no_zero n e f = grind (arith, nat_tests)
 
 -- an alternative of the region at the word was made of chosen parts
 made_of : (positions : List (List Disjunct)) (lists : List (List Connector)) (gap : Gap) (group : Group) (may : Bool) (l' r' ll rl n l2 r2 ll2 rl2 n2 w number : ℕ) (tl tr : Option Joint) (c : Split)
-    → IsGroup (record { positions = positions; lists = lists }) gap group → may ≡ (gap.llist == 0) → AreListsOf positions lists → gap.llist ≤ length lists
+    → IsGroup (record { positions = positions; lists = lists }) gap group → may ≡ (gap.llist == 0) → AreListsOf positions lists → gap.llist ≤ length lists → Leads gap.lead positions (region_of_gap lists gap)
     → IsSplitOf positions lists (region_of_gap lists gap) w number tl tr (Between l' r' ll rl n) (Between l2 r2 ll2 rl2 n2) c → w ≡ group.word → group.from ≤ number → number < group.to
     → HasRoom gap group.word n × Made (record { positions = positions; lists = lists }) gap group may n (At w number tl tr (Some (Between l' r' ll rl n)) (Some (Between l2 r2 ll2 rl2 n2)))
-made_of positions lists gap group may l' r' ll rl n l2 r2 ll2 rl2 n2 w number tl tr c is m are known s ew from to =
+made_of positions lists gap group may l' r' ll rl n l2 r2 ll2 rl2 n2 w number tl tr c is m are known led s ew from to =
     let cut = s.cut in
     let lk = s.before.2 in
     let rk = s.behind.2 in
     let word : c.word ≡ group.word = s.place ∙ ew in
     let at : IsDisjunctAt positions group.word number c.disjunct = subst (λ z. IsDisjunctAt positions z number c.disjunct) ew s.chosen in
-    let left = is.left number c.disjunct from to at in
+    let chosen = led c cut in
+    let left = is.left number c.disjunct from to at chosen in
     let nl = ap (λ z. z.nulls) lk in
     let nr = ap (λ z. z.nulls) rk in
     let sum = cut.nulls in
@@ -237,6 +265,7 @@ made_of positions lists gap group may l' r' ll rl n l2 r2 ll2 rl2 n2 w number tl
       to = to;
       known_near = s.behind.0;
       known_far = s.behind.1;
+      led = λ d at'. subst (λ z. IsLed gap.lead z) (same_Some c.disjunct d (sym at ∙ at')) chosen;
       cut = λ d at'. cut_as c.to_right tr c.disjunct.right d.right (list_of lists gap.rlist) (list_of lists gap.rlist) c.rkey.llist (list_of lists ll2) c.rkey.rlist (list_of lists rl2) s.joint_right (ap (λ z. z.right) (same_Some c.disjunct d (sym at ∙ at'))) refl (ap (λ z. z.llist) rk) (ap (λ z. z.rlist) rk) cut.at_right;
       joined = λ z. subst (λ v. IsSome v) s.joint_right (cut.by_rlist (ap (list_of lists) z));
     } in (
@@ -251,23 +280,23 @@ made_of positions lists gap group may l' r' ll rl n l2 r2 ll2 rl2 n2 w number tl
       ),
     )
 
-alt_made : (positions : List (List Disjunct)) (lists : List (List Connector)) (gap : Gap) (group : Group) (may : Bool) (a : Alt) → IsGroup (record { positions = positions; lists = lists }) gap group → may ≡ (gap.llist == 0) → AreListsOf positions lists → gap.llist ≤ length lists
+alt_made : (positions : List (List Disjunct)) (lists : List (List Connector)) (gap : Gap) (group : Group) (may : Bool) (a : Alt) → IsGroup (record { positions = positions; lists = lists }) gap group → may ≡ (gap.llist == 0) → AreListsOf positions lists → gap.llist ≤ length lists → Leads gap.lead positions (region_of_gap lists gap)
     → IsAltOfRegion positions lists (region_of_gap lists gap) a → StandsIn group.word group.from group.to a → (n : ℕ) × HasRoom gap group.word n × Made (record { positions = positions; lists = lists }) gap group may n a
-alt_made positions lists gap group may AllNull is m are known i s = absurd s
-alt_made positions lists gap group may (At w number tl tr None rk) is m are known i s = absurd i
-alt_made positions lists gap group may (At w number tl tr (Some lk) None) is m are known i s = absurd i
-alt_made positions lists gap group may (At w number tl tr (Some (Whole n)) (Some rk)) is m are known (c, i) s = absurd i.before
-alt_made positions lists gap group may (At w number tl tr (Some (Between l' r' ll rl n)) (Some (Whole n2))) is m are known (c, i) s = absurd i.behind
-alt_made positions lists gap group may (At w number tl tr (Some (Between l' r' ll rl n)) (Some (Between l2 r2 ll2 rl2 n2))) is m are known (c, i) s =
-    let x = made_of positions lists gap group may l' r' ll rl n l2 r2 ll2 rl2 n2 w number tl tr c is m are known i s.0 s.1 s.2 in
+alt_made positions lists gap group may AllNull is m are known led i s = absurd s
+alt_made positions lists gap group may (At w number tl tr None rk) is m are known led i s = absurd i
+alt_made positions lists gap group may (At w number tl tr (Some lk) None) is m are known led i s = absurd i
+alt_made positions lists gap group may (At w number tl tr (Some (Whole n)) (Some rk)) is m are known led (c, i) s = absurd i.before
+alt_made positions lists gap group may (At w number tl tr (Some (Between l' r' ll rl n)) (Some (Whole n2))) is m are known led (c, i) s = absurd i.behind
+alt_made positions lists gap group may (At w number tl tr (Some (Between l' r' ll rl n)) (Some (Between l2 r2 ll2 rl2 n2))) is m are known led (c, i) s =
+    let x = made_of positions lists gap group may l' r' ll rl n l2 r2 ll2 rl2 n2 w number tl tr c is m are known led i s.0 s.1 s.2 in
     (n, x.0, x.1)
 
 -- exactly the alternatives of a region that stand in a group
 pub group_is : (positions : List (List Disjunct)) (lists : List (List Connector)) (gap : Gap) (group : Group) (may : Bool) (lefts : List Way) (rights : List Right) (least most : ℕ) → IsGroup (record { positions = positions; lists = lists }) gap group → may ≡ (gap.llist == 0) → AreListsOf positions lists
-    → gap.llist ≤ length lists → AreExactly lefts (IsWayOf lists gap.llist group.left may) → AreExactly rights (IsRightOf (record { positions = positions; lists = lists }) gap group)
+    → gap.llist ≤ length lists → Leads gap.lead positions (region_of_gap lists gap) → AreExactly lefts (IsWayOf lists gap.llist group.left may) → AreExactly rights (IsRightOf (record { positions = positions; lists = lists }) gap group)
     → least ≡ gap.nulls - (gap.right - group.word - 1) → most ≡ min gap.nulls (group.word - gap.left - 1)
     → AreExactly (flat_map (splits_with gap group.word lefts rights) (range_with_len least (most + 1 - least))) (λ a. IsAltOfRegion positions lists (region_of_gap lists gap) a × StandsIn group.word group.from group.to a)
-group_is positions lists gap group may lefts rights least most is m are known x y el em =
+group_is positions lists gap group may lefts rights least most is m are known led x y el em =
     let word = group.word in
     let numbers : Numbering = record { positions = positions; lists = lists } in
     let count = most + 1 - least in
@@ -280,17 +309,17 @@ group_is positions lists gap group may lefts rights least most is m are known x 
     (λ a. (
       λ (n, p, (l, r, il, ir, e)). subst (λ z. IsAltOfRegion positions lists (region_of_gap lists gap) z × StandsIn word group.from group.to z) e
           (let b = p.0 in let t = p.1 in made_is positions lists gap group may n l r is m are known (omega arith, omega arith, omega arith) il ir),
-      λ (i, s). let q = alt_made positions lists gap group may a is m are known i s in let h = q.1 in let u = h.0 in let v = h.1 in let w = h.2 in (q.0, (omega arith, omega arith), q.2),
+      λ (i, s). let q = alt_made positions lists gap group may a is m are known led i s in let h = q.1 in let u = h.0 in let v = h.1 in let w = h.2 in (q.0, (omega arith, omega arith), q.2),
     ))
     (exactly_flat (splits_with gap word lefts rights) (range_with_len least count) P Q (exactly_range least count) each
     (λ n n' a (l, r, il, ir, e) (l', r', il', ir', e'). (split_parts gap word n n' l l' r r' (e ∙ sym e')).0))
 
 -- where the left list has no way on there is none
 pub group_none : (positions : List (List Disjunct)) (lists : List (List Connector)) (gap : Gap) (group : Group) (may : Bool) (lefts : List Way) (out : List Alt) → IsGroup (record { positions = positions; lists = lists }) gap group → may ≡ (gap.llist == 0) → AreListsOf positions lists
-    → gap.llist ≤ length lists → AreExactly lefts (IsWayOf lists gap.llist group.left may) → lefts ≡ [] → AddsIn (record { positions = positions; lists = lists }) gap group.word group.from group.to out out
-group_none positions lists gap group may lefts out is m are known x e =
+    → gap.llist ≤ length lists → Leads gap.lead positions (region_of_gap lists gap) → AreExactly lefts (IsWayOf lists gap.llist group.left may) → lefts ≡ [] → AddsIn (record { positions = positions; lists = lists }) gap group.word group.from group.to out out
+group_none positions lists gap group may lefts out is m are known led x e =
     adds_none out (λ a. IsAltOfRegion positions lists (region_of_gap lists gap) a × StandsIn group.word group.from group.to a)
-    (λ a (i, s). let q = alt_made positions lists gap group may a is m are known i s in let c = (x.each q.2.0).1 q.2.2 in contains_none q.2.0 (subst (λ z. Contains z q.2.0) e c))
+    (λ a (i, s). let q = alt_made positions lists gap group may a is m are known led i s in let c = (x.each q.2.0).1 q.2.2 in contains_none q.2.0 (subst (λ z. Contains z q.2.0) e c))
 
 -- nothing is left of a range
 pub range_done : {X : Type 0} (f : ℕ → List X) (out all : List X) (n to : ℕ) → to ≤ n → out ++ flat_map f (range_with_len n (to - n)) ≡ all → out ≡ all

@@ -4,14 +4,16 @@ use Rattle.std.specs.List.{flat_map}
 use Rattle.lg_gram.specs.Connectors.{Connector}
 use Rattle.lg_gram.specs.declared.disjunct.Disjunct.{Disjunct}
 use Rattle.lg_region.specs.Parts.{Region}
-use Rattle.lg_region.specs.Cuts.{IsCutAt}
+use Rattle.lg_region.specs.Cuts.{IsCutAt, Split, IsCut}
 use Rattle.lg_region.specs.Fronts.{Numbering, list_of}
 use Rattle.lg_region.specs.Keys.{region_of_numbers, IsAltOfRegion, IsAltOfWhole, IsDisjunctAt}
+use Rattle.lg_region.specs.Chains.{class_of, list_on, IsNext}
 use Rattle.lg_region.specs.Ways.{AddsExactly}
 use Rattle.lg_region.specs.declared.key.Key.TheVariants.{Region as Between}
 use Rattle.lg_region.specs.declared.alternative.Alt.{Alt}
 use Rattle.lg_region.specs.declared.alternative.Alt.TheVariants.{AllNull, Split as At}
 use Rattle.lg_region.specs.declared.ways.Way.{Way}
+use Rattle.lg_region.specs.declared.group.Lead.{Lead}
 use Rattle.lg_region.specs.declared.group.Gap.{Gap}
 use Rattle.lg_region.specs.declared.group.Group.{Group}
 use Rattle.lg_region.specs.declared.group.Right.{Right}
@@ -19,30 +21,47 @@ use Rattle.lg_region.specs.declared.group.Right.{Right}
 abbrev pub region_of_gap : List (List Connector) → Gap → Region
 region_of_gap lists gap = region_of_numbers lists gap.left gap.right gap.llist gap.rlist gap.nulls
 
--- the two lists of a gap have numbers
-pub record IsKnownGap (lists : List (List Connector)) (gap : Gap) : Type 0 where
-  pub llist : gap.llist ≤ length lists
-  pub rlist : gap.rlist ≤ length lists
+-- a disjunct has the class that is looked for
+abbrev pub IsLed : Lead → Disjunct → Type 0
+IsLed lead d = class_of (list_on lead.side d) ≡ lead.class
 
--- disjuncts of a word, from one number up to another, have the left list of a number
-abbrev pub HaveLeft : Numbering → ℕ → ℕ → ℕ → ℕ → Type 0
-HaveLeft numbers word left from to =
-    (number : ℕ) (d : Disjunct) → from ≤ number → number < to → IsDisjunctAt numbers.positions word number d → list_of numbers.lists left ≡ d.left
+-- a region is cut by disjuncts of this class alone
+abbrev pub Leads : Lead → List (List Disjunct) → Region → Type 0
+Leads lead positions k = (c : Split) → IsCut positions k c → IsLed lead c.disjunct
 
--- a word inside the gap, and disjuncts of it, from one number up to another, which have the left list of a number
+-- the two lists of a gap have numbers, and only disjuncts of its class cut it
+pub record IsKnownGap (numbers : Numbering) (gap : Gap) : Type 0 where
+  pub llist : gap.llist ≤ length numbers.lists
+  pub rlist : gap.rlist ≤ length numbers.lists
+  pub small : gap.lead.class < 256
+  pub led : Leads gap.lead numbers.positions (region_of_gap numbers.lists gap)
+
+-- disjuncts of a word, from one number up to another, have the left list of a number where they have the class
+abbrev pub HaveLeft : Numbering → Lead → ℕ → ℕ → ℕ → ℕ → Type 0
+HaveLeft numbers lead word left from to =
+    (number : ℕ) (d : Disjunct) → from ≤ number → number < to → IsDisjunctAt numbers.positions word number d → IsLed lead d → list_of numbers.lists left ≡ d.left
+
+-- the first disjunct of the class from a number on
+abbrev pub IsNextLed : Numbering → Lead → ℕ → ℕ → ℕ → Type 0
+IsNextLed numbers lead word start next = IsNext lead.side (slice_index_or numbers.positions word []) lead.class start next
+
+-- a word inside the gap, and disjuncts of it, from one number up to another, which have the left list of a number where they have
+-- the class, as the first one has
 pub record IsGroup (numbers : Numbering) (gap : Gap) (group : Group) : Type 0 where
   pub after : gap.left < group.word
   pub before : group.word < gap.right
   pub listed : group.to ≤ length (slice_index_or numbers.positions group.word [])
   pub known : group.left ≤ length numbers.lists
-  pub left : HaveLeft numbers group.word group.left group.from group.to
+  pub left : HaveLeft numbers gap.lead group.word group.left group.from group.to
+  pub first : IsNextLed numbers gap.lead group.word group.from group.from
 
--- a disjunct of the group, and a way on of its right list and the right list of the gap
+-- a disjunct of the group with the class, and a way on of its right list and the right list of the gap
 pub record IsRightOf (numbers : Numbering) (gap : Gap) (group : Group) (r : Right) : Type 0 where
   pub from : group.from ≤ r.disjunct
   pub to : r.disjunct < group.to
   pub known_near : r.way.near ≤ length numbers.lists
   pub known_far : r.way.far ≤ length numbers.lists
+  pub led : (d : Disjunct) → IsDisjunctAt numbers.positions group.word r.disjunct d → IsLed gap.lead d
   pub cut : (d : Disjunct) → IsDisjunctAt numbers.positions group.word r.disjunct d → IsCutAt r.way.joint d.right (list_of numbers.lists gap.rlist) (list_of numbers.lists r.way.near) (list_of numbers.lists r.way.far)
   pub joined : gap.llist ≡ 0 → IsSome r.way.joint
 

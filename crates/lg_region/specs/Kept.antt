@@ -1,10 +1,13 @@
 -- How the numbers of lists are kept.
 use Rattle.std.specs.Prelude.{List, map}
+use Rattle.std.specs.List.{AllZip}
 use Rattle.lg_gram.specs.Connectors.{Connector}
 use Rattle.lg_gram.specs.Problems.{IsProblem}
 use Rattle.lg_region.specs.Fronts.{AreListsOf, Numbering}
 use Rattle.lg_region.specs.Numbered.{AreTailsOf, AreSidesOf}
+use Rattle.lg_region.specs.Chains.{IsChain}
 use Rattle.lg_region.specs.declared.lists.Lists.TheInside.{Inside}
+use Rattle.lg_region.specs.declared.chains.Side.TheVariants.{Left, Right}
 
 abbrev pub lists_in : Inside → List (List Connector)
 lists_in a = map (λ f. f.now) a.fronts.items
@@ -17,3 +20,5 @@ pub record IsKept (a : Inside) : Type 0 where
   pub lists : AreListsOf a.problem.now (lists_in a)
   pub tails : AreTailsOf (lists_in a) a.tails.keys
   pub sides : AreSidesOf (lists_in a) a.problem.now (map (λ v. v.items) a.sides.items)
+  pub lefts : AllZip (IsChain Left) a.problem.now a.lefts.items
+  pub rights : AllZip (IsChain Right) a.problem.now a.rights.items

@@ -9,3 +9,4 @@ pub mod Kept
 pub mod Ways
 pub mod Groups
 pub mod Small
+pub mod Chains

@@ -80,6 +80,14 @@ impl Alts {
         self.items[index].full()
     }
 
+    /// The same alternatives once more. The only error is running out of memory.
+    pub fn copied(&self, alloc: Global) -> Result<Alts, NoMemory>
+        ensures { IfOk result (λ copy. copy ≡ self.now) }
+    {
+        let items = self.items.as_slice().to_vec(alloc)?;
+        Ok(Alts { items })
+    }
+
     /// Those whose flag is true, in order. No memory.
     pub fn keep(self, live: &[bool]) -> Alts
         requires { length live.now ≡ length self }

@@ -1,13 +1,15 @@
 //! The alternatives of a key.
 ghost use Rattle.std.specs.Prelude.{◌≡◌, ◌≢◌, ◌↔◌, ◌∷◌, ◌+◌, ◌-◌, ◌<◌, ◌≤◌, ◌^◌, suc, [], length, slice_index_or, IfOk, IsTrue, OnOk, Contains};
-ghost use Rattle.lg_region.specs.Fronts.{AreOnce};
+ghost use Rattle.lg_region.specs.Fronts.{AreOnce, list_of};
 ghost use Rattle.lg_region.specs.Keys.{IsValidKey, IsAltOf, IsAltOfRegion, IsAltOfWhole};
 ghost use Rattle.lg_region.specs.Ways.{AreExactly, AddsExactly};
-ghost use Rattle.lg_region.specs.Groups.{AddsIn, AddsFirst, HaveLeft, IsKnownGap, region_of_gap};
+ghost use Rattle.lg_region.specs.Groups.{AddsIn, AddsFirst, HaveLeft, IsKnownGap, IsNextLed, Leads, region_of_gap};
+ghost use Rattle.lg_region.specs.Parts.{Region};
 ghost use Rattle.lg_region.specs.declared.alternative.Alt.{Alt};
 
 use crate::alternative::{Alt, Alts};
-use crate::group::{Gap, Group, push_group};
+use crate::chains::Side;
+use crate::group::{Gap, Group, Lead, push_group};
 use crate::key::Key;
 use crate::lists::Lists;
 use lg_base::{NoMemory, Steps};
@@ -54,15 +56,38 @@ fn alternatives(alloc: Global, lists: &Lists<'_>, key: Key) -> Result<Vec<Alt>, 
                 llist,
                 rlist,
                 nulls,
+                lead: lead_of(lists, llist, rlist),
             };
             of_gap(alloc, lists, &gap)
         }
     }
 }
 
+// Which disjuncts can cut a region with these lists: those that can be joined with its left list, or, where that is empty,
+// with its right one.
+fn lead_of(lists: &Lists<'_>, llist: u32, rlist: u32) -> Lead
+    requires llist { llist ≤ length lists.now.lists }
+    requires rlist { rlist ≤ length lists.now.lists }
+    ensures small { result.class < 256 }
+    ensures led { (k : Region) → k.llist ≡ list_of lists.entry.now.lists llist → k.rlist ≡ list_of lists.entry.now.lists rlist → Leads result lists.entry.now.positions k }
+{
+    lists.are_numbered();
+    if llist == 0 {
+        Lead {
+            side: Side::Right,
+            class: lists.class(rlist),
+        }
+    } else {
+        Lead {
+            side: Side::Left,
+            class: lists.class(llist),
+        }
+    }
+}
+
 // The alternatives of a region.
 fn of_gap(alloc: Global, lists: &Lists<'_>, gap: &Gap) -> Result<Vec<Alt>, NoMemory>
-    requires known { IsKnownGap lists.now.lists gap.now }
+    requires known { IsKnownGap lists.now gap.now }
     requires ends { gap.now.left < gap.now.right }
     requires within { gap.now.right ≤ length lists.now.positions }
     ensures { IfOk result (λ items. AreExactly items.items (IsAltOfRegion lists.entry.now.positions lists.entry.now.lists (region_of_gap lists.entry.now.lists gap.now))) }
@@ -106,17 +131,17 @@ fn push_word(
     word: u32,
     out: &mut Vec<Alt>,
 ) -> Result<(), NoMemory>
-    requires known { IsKnownGap lists.now.lists gap.now }
+    requires known { IsKnownGap lists.now gap.now }
     requires after { gap.now.left < word }
     requires before { word < gap.now.right }
     requires within { gap.now.right ≤ length lists.now.positions }
     ensures { OnOk result (AddsIn lists.entry.now gap.now word 0 (length (slice_index_or lists.entry.now.positions word [])) out.old.items out.new.items) }
 {
     let count = lists.count(word);
-    let mut from = 0;
+    let mut from = lists.first(gap.lead.side, gap.lead.class, word);
     while from < count {
         let left = lists.sides(word, from).left;
-        let to = run_end(lists, word, from, left);
+        let to = run_end(lists, gap.lead, word, from, left);
         let group = Group {
             word,
             left,
@@ -129,22 +154,26 @@ fn push_word(
     Ok(())
 }
 
-// Up to which number the disjuncts of a word have the left list of this one.
-fn run_end(lists: &Lists<'_>, word: u32, from: u32, left: u32) -> u32
+// Up to which number the disjuncts of a word that have the class have the left list of this one: the next one of the class
+// that has another, or how many disjuncts there are.
+fn run_end(lists: &Lists<'_>, lead: Lead, word: u32, from: u32, left: u32) -> u32
     requires within { word < length lists.now.positions }
     requires listed { from < length (slice_index_or lists.now.positions word []) }
-    requires first { HaveLeft lists.now word left from (from + 1) }
+    requires led { IsNextLed lists.now lead word from from }
+    requires first { HaveLeft lists.now lead word left from (from + 1) }
     ensures later { from < result }
-    ensures listed { result ≤ length (slice_index_or lists.now.positions word []) }
-    ensures same { HaveLeft lists.now word left from result }
+    ensures led { IsNextLed lists.entry.now lead word result result }
+    ensures same { HaveLeft lists.entry.now lead word left from result }
 {
     let count = lists.count(word);
-    for to in from + 1..count {
+    let mut to = lists.next(lead.side, word, from);
+    while to < count {
         if lists.sides(word, to).left != left {
             return to;
         }
+        to = lists.next(lead.side, word, to);
     }
-    count
+    to
 }
 
 // The alternatives of the whole sentence.

@@ -4,13 +4,21 @@ ghost use Rattle.lg_region.specs.Ways.{AreExactly};
 ghost use Rattle.lg_region.specs.Groups.{AddsIn, IsGroup, IsKnownGap, IsRightOf, right_of, split_of, splits_with};
 
 use crate::alternative::Alt;
+use crate::chains::Side;
 use crate::key::Key;
 use crate::lists::Lists;
 use crate::ways::{Way, ways_between};
 use lg_base::NoMemory;
 use std::alloc::Global;
 
-/// A region in numbers.
+/// The class of the disjuncts that can cut a region, on the side of the list that decides.
+#[derive(Clone, Copy, Debug)]
+pub(crate) struct Lead {
+    pub(crate) side: Side,
+    pub(crate) class: u32,
+}
+
+/// A region in numbers, and which disjuncts can cut it.
 #[derive(Clone, Copy, Debug)]
 pub(crate) struct Gap {
     pub(crate) left: u32,
@@ -18,9 +26,11 @@ pub(crate) struct Gap {
     pub(crate) llist: u32,
     pub(crate) rlist: u32,
     pub(crate) nulls: u32,
+    pub(crate) lead: Lead,
 }
 
-/// Disjuncts of a word, from one number up to another, that have the same left list, by its number.
+/// Disjuncts of a word, from one number up to another, of which those that can cut the region have the same left list, by its
+/// number.
 #[derive(Clone, Copy, Debug)]
 pub(crate) struct Group {
     pub(crate) word: u32,
@@ -45,7 +55,7 @@ pub(crate) fn push_group(
     group: &Group,
     out: &mut Vec<Alt>,
 ) -> Result<(), NoMemory>
-    requires gap { IsKnownGap lists.now.lists gap.now }
+    requires gap { IsKnownGap lists.now gap.now }
     requires group { IsGroup lists.now gap.now group.now }
     ensures { OnOk result (AddsIn lists.entry.now gap.now group.now.word group.now.from group.now.to out.old.items out.new.items) }
 {
@@ -63,22 +73,24 @@ pub(crate) fn push_group(
     Ok(())
 }
 
-// The disjuncts of the group with each way on of their right lists.
+// The disjuncts of the group that can cut the region, with each way on of their right lists.
 fn rights(
     alloc: Global,
     lists: &Lists<'_>,
     gap: &Gap,
     group: &Group,
 ) -> Result<Vec<Right>, NoMemory>
-    requires gap { IsKnownGap lists.now.lists gap.now }
+    requires gap { IsKnownGap lists.now gap.now }
     requires group { IsGroup lists.now gap.now group.now }
     ensures { IfOk result (λ rights. AreExactly rights.items (IsRightOf lists.entry.now gap.now group.now)) }
 {
     let mut rights = Vec::new(alloc);
-    for number in group.from..group.to {
+    let mut number = group.from;
+    while number < group.to {
         let sides = lists.sides(group.word, number);
         let ways = ways_between(alloc, lists, sides.right, gap.rlist, gap.llist != 0)?;
         push_rights(number, &ways, &mut rights)?;
+        number = lists.next(gap.lead.side, group.word, number);
     }
     Ok(rights)
 }

@@ -5,6 +5,7 @@
 #![tactic(auto)]
 
 pub mod alternative;
+mod chains;
 pub mod expand;
 mod group;
 pub mod key;

@@ -1,12 +1,14 @@
 //! Numbers of the lists of a problem.
-ghost use Rattle.std.specs.Prelude.{◌≡◌, ◌<◌, ◌≤◌, [], length, slice_index_or, MatchOption, IfOk};
+ghost use Rattle.std.specs.Prelude.{◌≡◌, ◌+◌, ◌<◌, ◌≤◌, [], length, slice_index_or, MatchOption, IfOk};
 ghost use Rattle.lg_gram.specs.Problems.{IsProblem};
 ghost use Rattle.lg_gram.specs.declared.disjunct.Disjunct.{Disjunct};
 ghost use Rattle.lg_region.specs.Fronts.{AreListsOf, list_of};
 ghost use Rattle.lg_region.specs.Keys.{IsDisjunctAt};
 ghost use Rattle.lg_region.specs.Numbered.{HasSides};
+ghost use Rattle.lg_region.specs.Chains.{class_of as class_of_list, list_on, IsNext, IsChain};
 ghost use Rattle.lg_region.specs.Ways.{IsEndOf};
 
+use crate::chains::{Chain, Side, chains, class_of};
 use crate::numbering::{Sides, Tail, numbered};
 use crate::ways::End;
 use indexmap::IndexSet;
@@ -26,6 +28,8 @@ pub struct Lists<'a> {
     fronts: Vec<&'a [Connector]>,
     tails: IndexSet<Tail>,
     sides: Vec<Vec<Sides>>,
+    lefts: Vec<Chain>,
+    rights: Vec<Chain>,
 }
 
 impl<'a> Model for Lists<'a> {
@@ -41,20 +45,25 @@ impl<'a> Model for Lists<'a> {
 }
 
 impl<'a> Lists<'a> {
-    /// The numbers of the lists of a problem. It takes some ten bytes for each disjunct, and less than a hundred for each
-    /// list.
+    /// The numbers of the lists of a problem. It takes some twenty bytes for each disjunct, less than a hundred for each
+    /// list, and two thousand for each position.
     pub fn of(alloc: Global, problem: &'a Problem) -> Result<Lists<'a>, NoMemory>
         ensures positions { IfOk result (λ lists. lists.positions ≡ problem.now) }
         ensures lists { IfOk result (λ lists. AreListsOf problem.now lists.lists) }
     {
         let mut fronts = Vec::new(alloc);
         let mut tails = IndexSet::new(alloc);
-        let sides = numbered(alloc, &mut fronts, &mut tails, problem.positions())?;
+        let positions = problem.positions();
+        let sides = numbered(alloc, &mut fronts, &mut tails, positions)?;
+        let lefts = chains(alloc, Side::Left, positions)?;
+        let rights = chains(alloc, Side::Right, positions)?;
         Ok(Lists {
             problem,
             fronts,
             tails,
             sides,
+            lefts,
+            rights,
         })
     }
 
@@ -110,6 +119,47 @@ impl<'a> Lists<'a> {
         ensures { (d : Disjunct) → IsDisjunctAt self.now.positions word number d → HasSides self.now.lists d result }
     {
         self.sides[word as usize][number as usize]
+    }
+
+    /// The class of a list. No memory.
+    pub(crate) fn class(&self, id: u32) -> u32
+        requires { id ≤ length self.now.lists }
+        ensures value { result ≡ class_of_list (list_of self.now.lists id) }
+        ensures small { result < 256 }
+    {
+        match self.get(id) {
+            Some(list) => class_of(list),
+            None => 0,
+        }
+    }
+
+    /// The first disjunct of a word whose list on this side has a class, or how many disjuncts there are. No memory.
+    pub(crate) fn first(&self, side: Side, class: u32, word: u32) -> u32
+        requires word { word < length self.now.positions }
+        requires class { class < 256 }
+        ensures { IsNext side (slice_index_or self.now.positions word []) class 0 result }
+    {
+        self.chain(side, word).firsts[class as usize]
+    }
+
+    /// The next disjunct of a word that has the class of this one on this side, or how many disjuncts there are. No memory.
+    pub(crate) fn next(&self, side: Side, word: u32, number: u32) -> u32
+        requires word { word < length self.now.positions }
+        requires listed { number < length (slice_index_or self.now.positions word []) }
+        ensures { (d : Disjunct) → IsDisjunctAt self.now.positions word number d → IsNext side (slice_index_or self.now.positions word []) (class_of_list (list_on side d)) (number + 1) result }
+    {
+        self.chain(side, word).nexts[number as usize]
+    }
+
+    // The chains of one word.
+    fn chain(&self, side: Side, word: u32) -> &Chain
+        requires { word < length self.now.positions }
+        ensures { IsChain side (slice_index_or self.now.positions word []) result.now }
+    {
+        match side {
+            Side::Left => &self.lefts[word as usize],
+            Side::Right => &self.rights[word as usize],
+        }
     }
 
     /// The end of a list. None where it is empty. No memory.

@@ -18,11 +18,11 @@ use Rattle.clap.proofs.OnLiterals.{clap_on_literals}
 use Rattle.clap.proofs.WalkLemmas.{first_value-rows}
 use Rattle.lg_answer.specs.declared.options.Nulls.{Nulls as Unlinked}
 use Rattle.lg_script.specs.Commands.{IsNumber}
-use Rattle.lg_run.specs.Words.{IsKnown, want, examine, nulls, prune, stats, diagram, WritesNulls, first, passing, WritesSwitch, on, off, value_of, AreOptions, none, apart, joined}
+use Rattle.lg_run.specs.Words.{IsKnown, want, examine, nulls, prune, stats, diagram, workers, WritesNulls, first, passing, WritesSwitch, on, off, value_of, AreOptions, none, apart, joined}
 use Rattle.lg_run.specs.Matched.{option_rule, TellsSettings}
 use Rattle.lg_run.specs.Settings.{name_of, option_word}
 use Rattle.lg_run.specs.declared.options.Setting.{Setting}
-use Rattle.lg_run.specs.declared.options.Setting.TheVariants.{Want, Examine, Nulls, Prune, Stats, Diagram}
+use Rattle.lg_run.specs.declared.options.Setting.TheVariants.{Want, Examine, Nulls, Prune, Stats, Diagram, Workers}
 
 abbrev Settings : Type 0
 Settings = List (Text × Text)
@@ -35,7 +35,8 @@ bare = on_top (λ s. record s { no_binary_name = true; disable_help_flag = true 
 abbrev pub app : App
 app =
     let numbers = with_rule (with_rule bare (option_rule (codes "want"))) (option_rule (codes "examine")) in
-    with_rule (with_rule (with_rule (with_rule numbers (option_rule (codes "nulls"))) (option_rule (codes "prune"))) (option_rule (codes "stats"))) (option_rule (codes "diagram"))
+    let switches = with_rule (with_rule (with_rule (with_rule numbers (option_rule (codes "nulls"))) (option_rule (codes "prune"))) (option_rule (codes "stats"))) (option_rule (codes "diagram")) in
+    with_rule switches (option_rule (codes "workers"))
 
 -- a command that is called so, with these settings
 pub bare_is : (a b c : Command) → app_of a ≡ new_app (codes "options") → out-Command b ≡ record (out-Command a) { no_binary_name = true } → out-Command c ≡ record (out-Command b) { disable_help_flag = true }
@@ -92,6 +93,7 @@ name_passes Nulls h p = rw p refl
 name_passes Prune h p = rw p refl
 name_passes Stats h p = rw p refl
 name_passes Diagram h p = rw p refl
+name_passes Workers h p = rw p refl
 
 name_goes : (s : Setting) (h : Held) → walked top.rules [] (at idle h) (option_word s) ≡ at (option (name_of s)) (awaits s h)
 unfolding clap_on_literals
@@ -101,6 +103,7 @@ name_goes Nulls h = refl
 name_goes Prune h = refl
 name_goes Stats h = refl
 name_goes Diagram h = refl
+name_goes Workers h = refl
 
 value_passes : (s : Setting) (h : Held) (v : Text) → IsValue v → turn_passes top [] (at (option (name_of s)) h) v ≡ true
 unfolding clap_on_literals
@@ -114,6 +117,7 @@ value_goes Nulls h v is = rw (is.0, is.1, is.2) refl
 value_goes Prune h v is = rw (is.0, is.1, is.2) refl
 value_goes Stats h v is = rw (is.0, is.1, is.2) refl
 value_goes Diagram h v is = rw (is.0, is.1, is.2) refl
+value_goes Workers h v is = rw (is.0, is.1, is.2) refl
 
 joined_passes : (s : Setting) (h : Held) (v : Text) → react_passes top.rules false (rule_by s) (v ∷ []) h ≡ true → turn_passes top [] (at idle h) (option_word s ++ (codes "=" ++ v)) ≡ true
 unfolding clap_on_literals
@@ -123,6 +127,7 @@ joined_passes Nulls h v p = rw p refl
 joined_passes Prune h v p = rw p refl
 joined_passes Stats h v p = rw p refl
 joined_passes Diagram h v p = rw p refl
+joined_passes Workers h v p = rw p refl
 
 joined_goes : (s : Setting) (h : Held) (v : Text) → walked top.rules [] (at idle h) (option_word s ++ (codes "=" ++ v)) ≡ at idle (reacted top.rules (rule_by s) (v ∷ []) h)
 unfolding clap_on_literals
@@ -132,6 +137,7 @@ joined_goes Nulls h v = refl
 joined_goes Prune h v = refl
 joined_goes Stats h v = refl
 joined_goes Diagram h v = refl
+joined_goes Workers h v = refl
 
 -- what is held of an option in two words
 holds_rows : (s : Setting) (h : Held) (v : Text) → (settled top.rules (holds s v h)).rows ≡ used (rule_by s) (v ∷ []) (settled top.rules h).rows
@@ -142,6 +148,7 @@ holds_rows Nulls h v = refl
 holds_rows Prune h v = refl
 holds_rows Stats h v = refl
 holds_rows Diagram h v = refl
+holds_rows Workers h v = refl
 
 holds_passes : (s : Setting) (h : Held) (v : Text) → has_row (name_of s) (settled top.rules h).rows ≡ false → settle_passes top.rules false (holds s v h) ≡ true
 unfolding clap_on_literals
@@ -151,6 +158,7 @@ holds_passes Nulls h v new = rw new refl
 holds_passes Prune h v new = rw new refl
 holds_passes Stats h v new = rw new refl
 holds_passes Diagram h v new = rw new refl
+holds_passes Workers h v new = rw new refl
 
 use_passes_once : (s : Setting) (v : Text) (rows : List Row) → has_row (name_of s) rows ≡ false → use_passes false (rule_by s) (v ∷ []) rows ≡ true
 use_passes_once s v rows new = rw new refl
@@ -239,6 +247,7 @@ known_option name value (nulls v n is) = (Nulls, refl, nulls_value v n is)
 known_option name value (prune v b is) = (Prune, refl, switch_value v b is)
 known_option name value (stats v b is) = (Stats, refl, switch_value v b is)
 known_option name value (diagram v b is) = (Diagram, refl, switch_value v b is)
+known_option name value (workers v n is) = (Workers, refl, number_value v n is.number)
 
 -- a walk over options ends so
 record Reaches (h : Held) (words : List Text) (done : Settings) : Type 0 where
@@ -336,7 +345,7 @@ reads words settings are =
     record {
       taken = opened words ∙ ap (λ (x : Walk). after x (walk_passes top [] (walk_from nothing_held) words)) r.goes.goes ∙ ap (after (at idle r.end)) r.goes.passes ∙ ends_well r.end r.follows.passes;
       told = λ name. ap (λ (x : Walk). first_of name (finished top.rules x.held)) r.goes.goes
-          ∙ ap (first_of name) (no_default (settled top.rules r.end).rows top.rules (refl, (refl, (refl, (refl, (refl, (refl, tt)))))) ∙ r.follows.rows) ∙ first_row name settings;
+          ∙ ap (first_of name) (no_default (settled top.rules r.end).rows top.rules (refl, (refl, (refl, (refl, (refl, (refl, (refl, tt))))))) ∙ r.follows.rows) ∙ first_row name settings;
     }
 
 -- the matches tell the options

@@ -8,13 +8,14 @@ use Rattle.std.proofs.lemmas.List.Sums.{AllPass-from_list_all, list_all-from_All
 use Rattle.lg_answer.specs.Pages.{default_options}
 use Rattle.lg_answer.specs.declared.options.Nulls.{Nulls as Unlinked}
 use Rattle.lg_answer.specs.declared.options.Nulls.TheVariants.{First, Passing}
+use Rattle.lg_forest.specs.Forests.{AreWorkers}
 use Rattle.lg_run.specs.declared.setup.Setup.{Setup}
 use Rattle.lg_script.specs.Bounds.{IsCount}
 use Rattle.lg_script.specs.Commands.{IsNumber, written_number}
-use Rattle.lg_run.specs.Words.{Task, One, Run, Gen, IsKnown, want, examine, nulls, prune, stats, diagram, WritesNulls, first, passing, WritesSwitch, on, off, value_of, AreOptions, none, apart, joined, GivesNumber, GivesNulls, GivesSwitch, Gives, default_look, OptionsAre, is_operand, SENTENCE, SCRIPTS, Writes, IsSeed, IsMadeCount, TaskIs, one, run, gen, AreInRange}
+use Rattle.lg_run.specs.Words.{Task, One, Run, Gen, IsKnown, want, examine, nulls, prune, stats, diagram, workers, WritesNulls, first, passing, WritesSwitch, on, off, WritesWorkers, value_of, AreOptions, none, apart, joined, GivesNumber, GivesNulls, GivesSwitch, GivesWorkers, Gives, default_look, OptionsAre, is_operand, SENTENCE, SCRIPTS, Writes, IsSeed, IsMadeCount, TaskIs, one, run, gen, AreInRange}
 use Rattle.lg_run.specs.Settings.{name_of, operand, IsCut}
 use Rattle.lg_run.specs.declared.options.Setting.{Setting}
-use Rattle.lg_run.specs.declared.options.Setting.TheVariants.{Want, Examine, Nulls, Prune, Stats, Diagram}
+use Rattle.lg_run.specs.declared.options.Setting.TheVariants.{Want, Examine, Nulls, Prune, Stats, Diagram, Workers}
 use Rattle.lg_run.specs.Commands.{option_words, task, IsCommand}
 use Rattle.lg_run.specs.declared.command.Command.{Command}
 use Rattle.lg_run.proofs.OptionWords.{Settings, same_setting, same_cut}
@@ -29,6 +30,7 @@ FormOf Nulls value = (n : Unlinked) × WritesNulls value n
 FormOf Prune value = (b : Bool) × WritesSwitch value b
 FormOf Stats value = (b : Bool) × WritesSwitch value b
 FormOf Diagram value = (b : Bool) × WritesSwitch value b
+FormOf Workers value = (n : ℕ) × WritesWorkers value n
 
 form_by : (name value : List ℕ) → IsKnown name value → (s : Setting) × (name ≡ name_of s) × FormOf s value
 form_by name value (want v n is) = (Want, refl, (n, is))
@@ -37,6 +39,7 @@ form_by name value (nulls v n is) = (Nulls, refl, (n, is))
 form_by name value (prune v b is) = (Prune, refl, (b, is))
 form_by name value (stats v b is) = (Stats, refl, (b, is))
 form_by name value (diagram v b is) = (Diagram, refl, (b, is))
+form_by name value (workers v n is) = (Workers, refl, (n, is))
 
 -- the value that is given to an option is in its form
 form_first : (s : Setting) (b : Bool) (name value : List ℕ) (o : Option (List ℕ)) → bytes_eq name (name_of s) ≡ b → IsKnown name value → IfSome o (FormOf s) → IfSome (cond b (Some value) o) (FormOf s)
@@ -64,6 +67,11 @@ switch_given : (o : Option (List ℕ)) (usual : Bool) → IfSome o (λ value. (b
 switch_given None usual h = (usual, refl)
 switch_given (Some value) usual h = (h.0, h.1)
 
+-- a number from 1 to 16
+workers_given : (o : Option (List ℕ)) (usual : ℕ) → AreWorkers usual → IfSome o (λ value. (n : ℕ) × WritesWorkers value n) → (n : ℕ) × GivesWorkers o usual n × AreWorkers n
+workers_given None usual u h = (usual, refl, u)
+workers_given (Some value) usual u h = (h.0, h.1, h.1.few)
+
 gives_some : (words : List (List ℕ)) (settings : Settings) → AreOptions words settings → (setup : Setup) × Gives settings setup × AreInRange setup
 gives_some words settings read =
     let w = number_given (value_of (codes "want") settings) default_options.want (omega arith, omega arith) (form_given Want words settings read) in
@@ -71,10 +79,11 @@ gives_some words settings read =
     let v = nulls_given (value_of (codes "nulls") settings) default_options.nulls (form_given Nulls words settings read) in
     let p = switch_given (value_of (codes "prune") settings) default_options.prune (form_given Prune words settings read) in
     let s = switch_given (value_of (codes "stats") settings) default_look.stats (form_given Stats words settings read) in
-    let d = switch_given (value_of (codes "diagram") settings) default_look.diagram (form_given Diagram words settings read) in (
-      record { listing = record { want = w.0; examine = x.0; nulls = v.0; prune = p.0 }; look = record { diagram = d.0; stats = s.0 } },
-      record { want = w.1; examine = x.1; nulls = v.1; prune = p.1; stats = s.1; diagram = d.1 },
-      (w.2, x.2),
+    let d = switch_given (value_of (codes "diagram") settings) default_look.diagram (form_given Diagram words settings read) in
+    let k = workers_given (value_of (codes "workers") settings) default_options.workers (omega arith, omega arith) (form_given Workers words settings read) in (
+      record { listing = record { want = w.0; examine = x.0; nulls = v.0; prune = p.0; count = s.0; workers = k.0 }; look = record { diagram = d.0; stats = s.0 } },
+      record { want = w.1; examine = x.1; nulls = v.1; prune = p.1; stats = s.1; diagram = d.1; workers = k.1; count = refl },
+      record { want = w.2; examine = x.2; workers = k.2 },
     )
 
 one_number : (o : Option (List ℕ)) (usual n m : ℕ) → GivesNumber o usual n → GivesNumber o usual m → n ≡ m
@@ -105,19 +114,25 @@ pub one_switch : (o : Option (List ℕ)) (usual b c : Bool) → GivesSwitch o us
 one_switch None usual b c h k = h ∙ sym k
 one_switch (Some value) usual b c h k = switched_is value b h ∙ sym (switched_is value c k)
 
+pub one_workers : (o : Option (List ℕ)) (usual n m : ℕ) → GivesWorkers o usual n → GivesWorkers o usual m → n ≡ m
+one_workers None usual n m h k = h ∙ sym k
+one_workers (Some value) usual n m h k = h.number.value ∙ sym k.number.value
+
 -- setups with the same values
 pub same_values : (x y : Setup) → x.listing.want ≡ y.listing.want → x.listing.examine ≡ y.listing.examine → x.listing.nulls ≡ y.listing.nulls → x.listing.prune ≡ y.listing.prune
-    → x.look.diagram ≡ y.look.diagram → x.look.stats ≡ y.look.stats → x ≡ y
-same_values x y w e n p d s = λ i. record {
-  listing = record { want = w i; examine = e i; nulls = n i; prune = p i };
+    → x.listing.count ≡ y.listing.count → x.listing.workers ≡ y.listing.workers → x.look.diagram ≡ y.look.diagram → x.look.stats ≡ y.look.stats → x ≡ y
+same_values x y w e n p c k d s = λ i. record {
+  listing = record { want = w i; examine = e i; nulls = n i; prune = p i; count = c i; workers = k i };
   look = record { diagram = d i; stats = s i };
 }
 
 pub same_gives : (settings : Settings) (x y : Setup) → Gives settings x → Gives settings y → x ≡ y
 same_gives settings x y h k =
+    let stats = one_switch _ _ x.look.stats y.look.stats h.stats k.stats in
     same_values x y (one_number _ _ x.listing.want y.listing.want h.want k.want) (one_number _ _ x.listing.examine y.listing.examine h.examine k.examine)
     (one_nulls _ _ x.listing.nulls y.listing.nulls h.nulls k.nulls) (one_switch _ _ x.listing.prune y.listing.prune h.prune k.prune)
-    (one_switch _ _ x.look.diagram y.look.diagram h.diagram k.diagram) (one_switch _ _ x.look.stats y.look.stats h.stats k.stats)
+    (h.count ∙ stats ∙ sym k.count) (one_workers _ _ x.listing.workers y.listing.workers h.workers k.workers)
+    (one_switch _ _ x.look.diagram y.look.diagram h.diagram k.diagram) stats
 
 -- ---- the task
 

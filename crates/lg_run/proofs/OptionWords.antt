@@ -5,11 +5,11 @@ use Rattle.std.proofs.lemmas.List.{length-append, length-map, map-append, take-a
 use Rattle.std.proofs.lemmas.Slice.Eq.{bytes_eq-Decides}
 use Rattle.std.proofs.lemmas.Bool.Decides.{nat_tests}
 use Rattle.std.proofs.lemmas.Str.Pattern.{IsSplitOnceResult, split_parts}
-use Rattle.lg_run.specs.Words.{IsKnown, want, examine, nulls, prune, stats, diagram, value_of, AreOptions, none, is_operand}
+use Rattle.lg_run.specs.Words.{IsKnown, want, examine, nulls, prune, stats, diagram, workers, value_of, AreOptions, none, is_operand}
 use Rattle.lg_run.specs.Words as forms
 use Rattle.lg_run.specs.Settings.{name_of, option_word, IsPlain, Begins, apart, joined, BeginsWith, is_set, with_setting, Ends, nothing, operand, Cuts, IsCut}
 use Rattle.lg_run.specs.declared.options.Setting.{Setting}
-use Rattle.lg_run.specs.declared.options.Setting.TheVariants.{Want, Examine, Nulls, Prune, Stats, Diagram}
+use Rattle.lg_run.specs.declared.options.Setting.TheVariants.{Want, Examine, Nulls, Prune, Stats, Diagram, Workers}
 use Rattle.lg_run.specs.declared.options.Given.{Given}
 
 abbrev pub Settings : Type 0
@@ -82,6 +82,7 @@ plain_word Nulls = plain_tested (option_word Nulls) refl
 plain_word Prune = plain_tested (option_word Prune) refl
 plain_word Stats = plain_tested (option_word Stats) refl
 plain_word Diagram = plain_tested (option_word Diagram) refl
+plain_word Workers = plain_tested (option_word Workers) refl
 
 -- a name that is known is that of an option
 setting_by : (name value : List ℕ) → IsKnown name value → (s : Setting) × (name ≡ name_of s)
@@ -91,6 +92,7 @@ setting_by name value (nulls v n is) = (Nulls, refl)
 setting_by name value (prune v b is) = (Prune, refl)
 setting_by name value (stats v b is) = (Stats, refl)
 setting_by name value (diagram v b is) = (Diagram, refl)
+setting_by name value (workers v n is) = (Workers, refl)
 
 -- the option that begins with a word
 abbrev begun : List ℕ → Setting
@@ -99,7 +101,8 @@ begun word =
     (cond (bytes_eq word (option_word Examine)) Examine
     (cond (bytes_eq word (option_word Nulls)) Nulls
     (cond (bytes_eq word (option_word Prune)) Prune
-    (cond (bytes_eq word (option_word Stats)) Stats Diagram))))
+    (cond (bytes_eq word (option_word Stats)) Stats
+    (cond (bytes_eq word (option_word Diagram)) Diagram Workers)))))
 
 begun_is : (s : Setting) → begun (option_word s) ≡ s
 begun_is Want = refl
@@ -108,6 +111,7 @@ begun_is Nulls = refl
 begun_is Prune = refl
 begun_is Stats = refl
 begun_is Diagram = refl
+begun_is Workers = refl
 
 pub same_setting : (s t : Setting) → option_word s ≡ option_word t → s ≡ t
 same_setting s t e = sym (begun_is s) ∙ ap begun e ∙ begun_is t
@@ -122,6 +126,7 @@ place Nulls = 2
 place Prune = 3
 place Stats = 4
 place Diagram = 5
+place Workers = 6
 
 abbrev placed : ℕ → Setting
 placed zero = Want
@@ -129,7 +134,8 @@ placed (suc zero) = Examine
 placed (suc (suc zero)) = Nulls
 placed (suc (suc (suc zero))) = Prune
 placed (suc (suc (suc (suc zero)))) = Stats
-placed n = Diagram
+placed (suc (suc (suc (suc (suc zero))))) = Diagram
+placed n = Workers
 
 placed_is : (s : Setting) → placed (place s) ≡ s
 placed_is Want = refl
@@ -138,13 +144,14 @@ placed_is Nulls = refl
 placed_is Prune = refl
 placed_is Stats = refl
 placed_is Diagram = refl
+placed_is Workers = refl
 
 same_place : (s t : Setting) → place s ≡ place t → s ≡ t
 same_place s t e = sym (placed_is s) ∙ ap placed e ∙ placed_is t
 
 -- whether each is set, by places
 abbrev marks : Given → List Bool
-marks given = given.want ∷ given.examine ∷ given.nulls ∷ given.prune ∷ given.stats ∷ given.diagram ∷ []
+marks given = given.want ∷ given.examine ∷ given.nulls ∷ given.prune ∷ given.stats ∷ given.diagram ∷ given.workers ∷ []
 
 marked : (s : Setting) (given : Given) → is_set s given ≡ get_or (marks given) (place s) false
 marked Want given = refl
@@ -153,6 +160,7 @@ marked Nulls given = refl
 marked Prune given = refl
 marked Stats given = refl
 marked Diagram given = refl
+marked Workers given = refl
 
 marks_with : (s : Setting) (given : Given) → marks (with_setting s given) ≡ set (marks given) (place s) true
 marks_with Want given = refl
@@ -161,14 +169,16 @@ marks_with Nulls given = refl
 marks_with Prune given = refl
 marks_with Stats given = refl
 marks_with Diagram given = refl
+marks_with Workers given = refl
 
-few_places : (s : Setting) → place s < 6
+few_places : (s : Setting) → place s < 7
 few_places Want = omega arith
 few_places Examine = omega arith
 few_places Nulls = omega arith
 few_places Prune = omega arith
 few_places Stats = omega arith
 few_places Diagram = omega arith
+few_places Workers = omega arith
 
 mark_now : (s t : Setting) (given : Given) → is_set t (with_setting s given) ≡ get_or (set (marks given) (place s) true) (place t) false
 mark_now s t given = marked t (with_setting s given) ∙ ap (λ (ms : List Bool). get_or ms (place t) false) (marks_with s given)
@@ -197,7 +207,7 @@ stays_set s t given e f = (by (bytes_eq (name_of s) (name_of t)) refl, stays s t
 
 -- nothing is set at first
 abbrev pub unset : Given
-unset = record { want = false; examine = false; nulls = false; prune = false; stats = false; diagram = false }
+unset = record { want = false; examine = false; nulls = false; prune = false; stats = false; diagram = false; workers = false }
 
 not_set_first : (s : Setting) → is_set s unset ≡ true → ⊥
 not_set_first Want e = cc
@@ -206,6 +216,7 @@ not_set_first Nulls e = cc
 not_set_first Prune e = cc
 not_set_first Stats e = cc
 not_set_first Diagram e = cc
+not_set_first Workers e = cc
 
 same_name : (name : List ℕ) → bytes_eq name name ≡ true
 same_name name = (bytes_eq-Decides name name).1 refl

@@ -97,7 +97,7 @@ wanted_is options (Some n) = refl
 -- A listing at its start passes over the candidates before the first that is asked for, and is held there.
 pub record Skips (l : Lister) (dict : Dictionary) (text : List ℕ) (want : Option ℕ) (first : ℕ) (held : Held) : Type 0 where
   pub start : Listing
-  pub is : IsListing dict text l.options.prune start
+  pub is : IsListing dict text l.options start
   pub nulls : start.course.nulls ≡ l.options.nulls
   pub at_start : start.course.position ≡ 0
   pub skipped : HasSkipped l.know is.problem start (first - 1) held.listing
@@ -141,7 +141,7 @@ module _ (l : Lister) (dict : Dictionary) (text : List ℕ) (want : Option ℕ) 
           tokens = held.listing.tokens;
           problem = problem;
           sentence = is;
-          counted = subst (AreStats problem l.options.prune) (sym (counted ∙ skips.same.stats)) skips.is.counted;
+          counted = λ count. subst (AreStats problem l.options.prune) (sym (counted ∙ skips.same.stats)) (skips.is.counted count);
         };
         stands = on.stands;
         near = omega (arith, on.near, low);

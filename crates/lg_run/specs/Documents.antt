@@ -1,5 +1,5 @@
 -- What is written for one sentence, and for a session.
-use Rattle.std.specs.Prelude.{◌≡◌, ℕ, ◌+◌, List, [], ◌∷◌, ◌++◌, All, Option, Some, None}
+use Rattle.std.specs.Prelude.{◌≡◌, ℕ, ◌+◌, true, List, [], ◌∷◌, ◌++◌, All, Option, Some, None}
 use Rattle.lg_gram.specs.declared.disjunct.Disjunct.{Disjunct}
 use Rattle.lg_gram.specs.declared.listing.Bound.{Bound}
 use Rattle.lg_gram.specs.declared.listing.Page.{Page}
@@ -34,7 +34,7 @@ no_knowledge = record { starts = []; ignored = []; rules = [] }
 -- are not listed
 pub data DocumentIs (setup : Setup) (dict : Dictionary) (sentence document : List ℕ) : Type 0 where
   listed : (tokens : List Token) (problem : List (List Disjunct)) (page : Page) (stats : Stats) → IsSentenceOf dict sentence tokens problem
-      → IsPage problem no_knowledge setup.listing.nulls 0 setup.listing.want setup.listing.examine page → AreStats problem setup.listing.prune stats
+      → IsPage problem no_knowledge setup.listing.nulls 0 setup.listing.want setup.listing.examine page → (setup.listing.count ≡ true → AreStats problem setup.listing.prune stats)
       → document ≡ listing_text setup.look tokens page (Some stats) → DocumentIs setup dict sentence document
   beyond : (bound : Bound) → IsBeyond dict sentence bound → document ≡ bound_line bound → DocumentIs setup dict sentence document
 
@@ -55,12 +55,12 @@ pub record IsShown (know : Knowledge) (options : Options) (dict : Dictionary) (p
   pub shown : IsPage problem know options.nulls place (wanted options progress.want) options.examine page
   pub printable : All (λ item. IsLinkageFor progress.tokens item.linkage) page.items
 
--- how many disjuncts the sentence's problem has, and how many are kept
+-- how many disjuncts the sentence's problem has, and how many are kept, where they are counted
 pub record AreCounted (options : Options) (dict : Dictionary) (text : List ℕ) (stats : Stats) : Type 0 where
   pub tokens : List Token
   pub problem : List (List Disjunct)
   pub sentence : IsSentenceOf dict text tokens problem
-  pub counted : AreStats problem options.prune stats
+  pub counted : options.count ≡ true → AreStats problem options.prune stats
 
 -- the meaning of sentences: listings of their candidates
 abbrev pub listings : Knowledge → Options → Meaning

@@ -3,7 +3,7 @@ use Rattle.std.specs.Prelude.{◌≡◌, ◌≢◌, ℕ, Bool, true, false, List
 use Rattle.std.specs.List.{AllByRecursion}
 use Rattle.lg_run.specs.Words.{IsKnown, AreOptions, value_of, is_operand}
 use Rattle.lg_run.specs.declared.options.Setting.{Setting}
-use Rattle.lg_run.specs.declared.options.Setting.TheVariants.{Want, Examine, Nulls, Prune, Stats, Diagram}
+use Rattle.lg_run.specs.declared.options.Setting.TheVariants.{Want, Examine, Nulls, Prune, Stats, Diagram, Workers}
 use Rattle.lg_run.specs.declared.options.Given.{Given}
 
 -- the name of an option
@@ -14,6 +14,7 @@ name_of Nulls = codes "nulls"
 name_of Prune = codes "prune"
 name_of Stats = codes "stats"
 name_of Diagram = codes "diagram"
+name_of Workers = codes "workers"
 
 -- the word that begins an option
 abbrev pub option_word : Setting → List ℕ
@@ -41,6 +42,7 @@ is_set Nulls given = given.nulls
 is_set Prune given = given.prune
 is_set Stats given = given.stats
 is_set Diagram given = given.diagram
+is_set Workers given = given.workers
 
 abbrev pub with_setting : Setting → Given → Given
 with_setting Want given = record given { want = true }
@@ -49,6 +51,7 @@ with_setting Nulls given = record given { nulls = true }
 with_setting Prune given = record given { prune = true }
 with_setting Stats given = record given { stats = true }
 with_setting Diagram given = record given { diagram = true }
+with_setting Workers given = record given { workers = true }
 
 -- no option begins here, nor any other word with a dash
 pub data Ends : List (List ℕ) → Type 0 where

@@ -5,6 +5,7 @@ use Rattle.lg_answer.specs.declared.options.Nulls.{Nulls}
 use Rattle.lg_answer.specs.declared.options.Options.{Options}
 use Rattle.lg_answer.specs.declared.options.Nulls.TheVariants.{First, Passing}
 use Rattle.std.specs.List.{AllByRecursion}
+use Rattle.lg_forest.specs.Forests.{AreWorkers}
 use Rattle.lg_gen.specs.Accepted.{IsMade}
 use Rattle.lg_script.specs.Bounds.{IsCount}
 use Rattle.lg_script.specs.Commands.{IsNumber, IsDigit, written_number}
@@ -32,6 +33,11 @@ pub data WritesSwitch : List ℕ → Bool → Type 0 where
   on : WritesSwitch (codes "on") true
   off : WritesSwitch (codes "off") false
 
+-- how many workers look for the linkages of a sentence: from 1 to 16
+pub record WritesWorkers (value : List ℕ) (n : ℕ) : Type 0 where
+  pub number : IsNumber value n
+  pub few : AreWorkers n
+
 -- the options that are known, each with the form of its value
 pub data IsKnown : (name value : List ℕ) → Type 0 where
   want : (value : List ℕ) (n : ℕ) → IsNumber value n → IsKnown (codes "want") value
@@ -40,6 +46,7 @@ pub data IsKnown : (name value : List ℕ) → Type 0 where
   prune : (value : List ℕ) (b : Bool) → WritesSwitch value b → IsKnown (codes "prune") value
   stats : (value : List ℕ) (b : Bool) → WritesSwitch value b → IsKnown (codes "stats") value
   diagram : (value : List ℕ) (b : Bool) → WritesSwitch value b → IsKnown (codes "diagram") value
+  workers : (value : List ℕ) (n : ℕ) → WritesWorkers value n → IsKnown (codes "workers") value
 
 -- the value that options give to a name
 abbrev pub value_of : List ℕ → List (List ℕ × List ℕ) → Option (List ℕ)
@@ -70,6 +77,11 @@ abbrev pub GivesSwitch : Option (List ℕ) → Bool → Bool → Type 0
 GivesSwitch None usual b = b ≡ usual
 GivesSwitch (Some value) usual b = WritesSwitch value b
 
+-- the same of a number of workers
+abbrev pub GivesWorkers : Option (List ℕ) → ℕ → ℕ → Type 0
+GivesWorkers None usual n = n ≡ usual
+GivesWorkers (Some value) usual n = WritesWorkers value n
+
 -- nothing is printed beside linkages, where nothing else is asked
 abbrev pub default_look : Look
 default_look = record { diagram = false; stats = false }
@@ -77,7 +89,7 @@ default_look = record { diagram = false; stats = false }
 abbrev pub default_setup : Setup
 default_setup = record { listing = default_options; look = default_look }
 
--- what options come to
+-- what options come to; disjuncts are counted where their numbers are printed
 pub record Gives (settings : List (List ℕ × List ℕ)) (setup : Setup) : Type 0 where
   pub want : GivesNumber (value_of (codes "want") settings) default_options.want setup.listing.want
   pub examine : GivesNumber (value_of (codes "examine") settings) default_options.examine setup.listing.examine
@@ -85,6 +97,8 @@ pub record Gives (settings : List (List ℕ × List ℕ)) (setup : Setup) : Type
   pub prune : GivesSwitch (value_of (codes "prune") settings) default_options.prune setup.listing.prune
   pub stats : GivesSwitch (value_of (codes "stats") settings) default_look.stats setup.look.stats
   pub diagram : GivesSwitch (value_of (codes "diagram") settings) default_look.diagram setup.look.diagram
+  pub workers : GivesWorkers (value_of (codes "workers") settings) default_options.workers setup.listing.workers
+  pub count : setup.listing.count ≡ setup.look.stats
 
 -- the options of a command
 pub record OptionsAre (words : List (List ℕ)) (setup : Setup) : Type 0 where
@@ -150,8 +164,10 @@ IsShort (Run setup dictionary knowledge scripts) = (1 ≤ length scripts) × (le
 IsShort (Gen seed words sentences) = (seed < 2 ^ 32) × IsMade words × IsMade sentences
 
 -- its numbers are those that an option may set
-abbrev pub HasCounts : Options → Type 0
-HasCounts options = IsCount options.want × IsCount options.examine
+pub record HasCounts (options : Options) : Type 0 where
+  pub want : IsCount options.want
+  pub examine : IsCount options.examine
+  pub workers : AreWorkers options.workers
 
 abbrev pub AreInRange : Setup → Type 0
 AreInRange setup = HasCounts setup.listing

@@ -71,7 +71,7 @@ impl<'a> Engine for Lister<'a> {
 
     fn begin<R: Threads + Sync>(
         &self,
-        _rt: &R,
+        rt: &R,
         alloc: Global,
         view: &View,
         text: &Text,
@@ -81,7 +81,7 @@ impl<'a> Engine for Lister<'a> {
         let Ok(sentence) = str::from_utf8(text.bytes()) else {
             unreachable!()
         };
-        let start = match Listing::start(alloc, view, sentence, &self.options) {
+        let start = match Listing::start(rt, alloc, view, sentence, &self.options) {
             Ok(start) => start,
             Err(AnswerRefusal::Beyond(bound)) => return Ok(Opening::Beyond(bound)),
             Err(AnswerRefusal::NoMemory) => return Err(NoMemory),

@@ -3,10 +3,10 @@ ghost use Rattle.std.specs.Prelude.{◌≡◌, ℕ, Bool, List, false, codes, If
 ghost use Rattle.clap.specs.Words.{kind_of, rule_of};
 ghost use Rattle.lg_answer.specs.declared.options.Nulls.{Nulls as SeenNulls};
 ghost use Rattle.lg_run.specs.declared.setup.Setup.{Setup};
-ghost use Rattle.lg_run.specs.Words.{AreOptions, GivesNumber, GivesNulls, GivesSwitch, Gives, OptionsAre};
+ghost use Rattle.lg_run.specs.Words.{AreOptions, GivesNumber, GivesNulls, GivesSwitch, GivesWorkers, Gives, OptionsAre};
 ghost use Rattle.lg_run.specs.Matched.{TellsSettings, option_rule};
 
-use crate::options::{nulls_of, switch_of};
+use crate::options::{nulls_of, switch_of, workers_of};
 use crate::setup::Setup;
 use clap::error::ErrorKind;
 use clap::{Arg, ArgAction, ArgMatches, Command, Error};
@@ -41,7 +41,8 @@ fn matches_of(alloc: Global, words: &[String]) -> Result<ArgMatches<'_>, Error>
         .arg(option(alloc, "nulls"))?
         .arg(option(alloc, "prune"))?
         .arg(option(alloc, "stats"))?
-        .arg(option(alloc, "diagram"))?;
+        .arg(option(alloc, "diagram"))?
+        .arg(option(alloc, "workers"))?;
     command.try_get_matches_from(words)
 }
 
@@ -57,16 +58,19 @@ fn setup_in(matches: &ArgMatches<'_>) -> Setup
     ensures { (settings : List (List ℕ × List ℕ)) (setup : Setup) → TellsSettings matches.now settings → Gives settings setup → result ≡ setup }
 {
     let usual = Setup::default();
+    let stats = switch_or(matches.get_str("stats"), usual.look.stats);
     Setup {
         listing: Options {
             want: number_or(matches.get_str("want"), usual.listing.want),
             examine: number_or(matches.get_str("examine"), usual.listing.examine),
             nulls: nulls_or(matches.get_str("nulls"), usual.listing.nulls),
             prune: switch_or(matches.get_str("prune"), usual.listing.prune),
+            count: stats,
+            workers: workers_or(matches.get_str("workers"), usual.listing.workers),
         },
         look: Look {
             diagram: switch_or(matches.get_str("diagram"), usual.look.diagram),
-            stats: switch_or(matches.get_str("stats"), usual.look.stats),
+            stats,
         },
     }
 }
@@ -91,4 +95,11 @@ fn switch_or(text: Option<&str>, usual: bool) -> bool
     ensures { (b : Bool) → GivesSwitch (option_map (λ t. t.now) text.entry) usual b → result ≡ b }
 {
     text.and_then(switch_of).unwrap_or(usual)
+}
+
+// The number of workers that the text writes, or the usual one where there is no text.
+fn workers_or(text: Option<&str>, usual: u32) -> u32
+    ensures { (n : ℕ) → GivesWorkers (option_map (λ t. t.now) text.entry) usual n → result ≡ n }
+{
+    text.and_then(workers_of).unwrap_or(usual)
 }

@@ -2,7 +2,7 @@
 ghost use Rattle.std.specs.Prelude.{◌≡◌, true, false, ℕ, Bool, List, MatchOption, map, string_bytes};
 ghost use Rattle.lg_script.specs.Commands.{IsNumber};
 ghost use Rattle.lg_answer.specs.declared.options.Nulls.{Nulls as SeenNulls};
-ghost use Rattle.lg_run.specs.Words.{IsKnown, WritesNulls, WritesSwitch, is_operand};
+ghost use Rattle.lg_run.specs.Words.{IsKnown, WritesNulls, WritesSwitch, WritesWorkers, is_operand};
 ghost use Rattle.lg_run.specs.Settings.{name_of, option_word, Begins, BeginsWith, is_set, with_setting, Ends, IsCut};
 
 use lg_answer::Nulls;
@@ -17,6 +17,7 @@ pub(crate) enum Setting {
     Prune,
     Stats,
     Diagram,
+    Workers,
 }
 
 /// An option that some words begin with, and the words behind it.
@@ -35,6 +36,7 @@ pub(crate) struct Given {
     prune: bool,
     stats: bool,
     diagram: bool,
+    workers: bool,
 }
 
 /// Words cut in two.
@@ -58,6 +60,7 @@ pub(crate) fn cut_options(words: &[String]) -> Option<Cut<'_>>
         prune: false,
         stats: false,
         diagram: false,
+        workers: false,
     };
     let mut rest = words;
     while begins_with_dash(rest) {
@@ -119,6 +122,10 @@ impl Given {
                 diagram: true,
                 ..self
             }),
+            Setting::Workers if !self.workers => Some(Given {
+                workers: true,
+                ..self
+            }),
             _ => None,
         }
     }
@@ -164,6 +171,7 @@ fn setting_of(word: &str, value: &str) -> Option<Setting>
         "--prune" if switch_of(value).is_some() => Some(Setting::Prune),
         "--stats" if switch_of(value).is_some() => Some(Setting::Stats),
         "--diagram" if switch_of(value).is_some() => Some(Setting::Diagram),
+        "--workers" if workers_of(value).is_some() => Some(Setting::Workers),
         _ => None,
     }
 }
@@ -194,6 +202,19 @@ pub(crate) fn switch_of(text: &str) -> Option<bool>
     match text {
         "on" => Some(true),
         "off" => Some(false),
+        _ => None,
+    }
+}
+
+// The most workers.
+const WORKERS: u64 = 16;
+
+/// How many workers look for linkages, as the text says: a number from 1 to 16. None where it says nothing of the kind.
+pub(crate) fn workers_of(text: &str) -> Option<u32>
+    ensures { MatchOption result ((n : ℕ) → WritesWorkers text.now n → ⊥) (WritesWorkers text.now) }
+{
+    match number_of(text.as_bytes()) {
+        Some(n) if n <= WORKERS => Some(n as u32),
         _ => None,
     }
 }

@@ -15,10 +15,12 @@ use lg_dict::{Dict, View};
 use lg_knowread::{Knowledge, Patterns, Rules, Starts};
 use lg_text::{bound_text, listing_text};
 use std::alloc::Global;
+use std::thread::Threads;
 
 /// What is written of the sentence: the first page of its candidates, behind the numbers of its disjuncts where they are asked for, or
 /// the line that says that it has too many words or too many choices.
-pub(crate) fn document(
+pub(crate) fn document<R: Threads + Sync>(
+    rt: &R,
     alloc: Global,
     setup: Setup,
     dict: &Dict,
@@ -28,7 +30,7 @@ pub(crate) fn document(
     requires range { AreInRange setup }
     ensures { IfOk result (λ text. DocumentIs setup dict.now sentence.now text.items) }
 {
-    match Listing::start(alloc, &View::of(alloc, dict), sentence, &setup.listing) {
+    match Listing::start(rt, alloc, &View::of(alloc, dict), sentence, &setup.listing) {
         Ok(listing) => first_page(alloc, setup, listing),
         Err(AnswerRefusal::Beyond(bound)) => bound_text(alloc, bound),
         Err(AnswerRefusal::NoMemory) => Err(NoMemory),

@@ -123,7 +123,7 @@ fn write_document<R: Threads + Sync, O: Sink, G: Gate>(
             setup,
             dict,
             sentence,
-        } => write_sentence(alloc, *setup, dict, sentence, out),
+        } => write_sentence(rt, alloc, *setup, dict, sentence, out),
         Inputs::Run {
             setup,
             dict,
@@ -139,7 +139,8 @@ fn write_document<R: Threads + Sync, O: Sink, G: Gate>(
 }
 
 // Writes the page of a sentence.
-fn write_sentence<O: Sink>(
+fn write_sentence<R: Threads + Sync, O: Sink>(
+    rt: &R,
     alloc: Global,
     setup: Setup,
     dict: &Dict,
@@ -151,7 +152,7 @@ fn write_sentence<O: Sink>(
     ensures written { Documents (OneGiven setup dict.now sentence.now) (O.written out.old) (O.written out.new) result }
     ensures cause { HasHaltCause (O.faults out.old) (O.faults out.new) result }
 {
-    match document(alloc, setup, dict, sentence) {
+    match document(rt, alloc, setup, dict, sentence) {
         Ok(text) => put(out, &text),
         Err(NoMemory) => Err(Halt::Memory),
     }

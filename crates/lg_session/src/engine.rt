@@ -22,6 +22,7 @@ pub enum Opening<H: Drop> {
 /// What answers the sentences of a session. What it answers is a matter of the dictionary and of the sentence alone.
 pub trait Engine: Sync {
     ghost use Rattle.std.specs.Prelude.{◌≤◌, ◌^◌, IfSome, IfOk};
+    ghost use Rattle.std.specs.Thread.{IsSync};
     ghost use Rattle.lg_dict.specs.Dictionary.{Dictionary};
     ghost use Rattle.lg_script.specs.Bounds.{IsSentence, IsCount};
     ghost use Rattle.lg_session.specs.Engines.{Meaning, Progress, Opens, GoesOn};
@@ -47,6 +48,7 @@ pub trait Engine: Sync {
         first: u64,
         want: Option<u64>,
     ) -> Result<Opening<Self::Held>, NoMemory>
+        requires sync { IsSync R.row }
         requires text { IsSentence text.now }
         requires first { IsCount first }
         requires want { IfSome want IsCount }

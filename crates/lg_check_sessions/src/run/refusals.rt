@@ -55,6 +55,9 @@ fn numbers_that_are_none(rt: HostRuntime) -> Result<(), Fail> {
         "one|--want=|d|x",
         "one|--want||d|x",
         "one|--want=1=2|d|x",
+        "one|--workers|0|d|x",
+        "one|--workers=17|d|x",
+        "one|--workers|x|d|x",
     ] {
         formless(&rt, rt.alloc(), text)?;
     }

@@ -406,6 +406,14 @@ fn both_options_with_leading_zeros(rt: HostRuntime) -> Result<(), Fail> {
     shows_one(&rt, rt.alloc(), "--examine|0000001|--want=1000000|")
 }
 
+#[test]
+fn workers_change_no_page(rt: HostRuntime) -> Result<(), Fail> {
+    for options in ["--want|1|--workers|16|", "--workers=1|--want=1|"] {
+        shows_one(&rt, rt.alloc(), options)?;
+    }
+    Ok(())
+}
+
 // The files of a script, where the first linkage of `Mary ran` breaks the rule.
 fn mary(alloc: Global, script: &str) -> Result<MemFiles, Fail> {
     files_of(alloc, FIRST, "none: S { S };", script.as_bytes())

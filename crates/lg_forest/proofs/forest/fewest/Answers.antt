@@ -17,6 +17,8 @@ pub loop-nulls-preserved : goal.loop-nulls-preserved
 loop-nulls-preserved g c =
     let before = c.loop-nulls.invariant.steps in
     let after = c.in_ok-visit.ensures.steps in
+    let fewer = c.loop-nulls.invariant.left.fewer in
+    let fewest = c.in_ok-visit.ensures.left.fewer in
     record {
       asked = asked_whole c.args.lists.now 0 c.loop-nulls.nulls (c.loop-nulls.nulls + 1) c.args.table.now c.loop-nulls.table c.visit.new.table (omega arith) (omega arith) c.loop-nulls.invariant.asked c.in_ok-visit.ensures.asked;
       none = λ m lt has. elim (cases_lt m c.loop-nulls.nulls) [
@@ -24,6 +26,7 @@ loop-nulls-preserved g c =
         | inr more ↦ (let e : m ≡ c.loop-nulls.nulls = omega arith in
             true≢false (sym (c.in_ok-visit.ensures.found.1 (subst (λ z. HasLinkageUnder c.args.lists.now.positions c.args.lists.now.lists (Whole z)) e has)) ∙ c.if-branch.false))
       ];
+      left = record { known = c.in_ok-visit.ensures.left.known; fewer = omega arith };
       steps = omega arith;
     }
 

@@ -1,4 +1,4 @@
-use Rattle.std.proofs.Common.{◌≡◌, ◌+◌, suc, subst, sym, refl, length, arith}
+use Rattle.std.proofs.Common.{◌≡◌, ◌+◌, ◌≤◌, ap, suc, subst, sym, refl, length, arith}
 use Rattle.lg_region.specs.Fronts.{AreListsOf}
 use Rattle.lg_region.specs.declared.key.Key.TheVariants.{Whole}
 use Rattle.lg_forest.specs.Demands.{IsDemanded}
@@ -18,6 +18,16 @@ returns-clause-forest g c =
 pub returns-clause-steps : goal.returns-clause-steps
 returns-clause-steps g c =
     let n = c.in_ok-lists.lists in
-    let all = solved_counts n c.args.problem.now 0 c.in_ok-unused.unused c.args.steps.now c.fewest.new.steps c.new-table.result c.fewest.new.table c.in_ok-lists.ensures.positions c.in_ok-lists.ensures.lists c.new-table.ensures
+    let known = c.in_ok-known.known in
+    let left = c.fewest.new.known in
+    let all = solved_counts n c.args.problem.now 0 c.in_ok-unused.unused (c.args.steps.now + length left) (c.fewest.new.steps + length known) c.new-table.result c.fewest.new.table c.in_ok-lists.ensures.positions c.in_ok-lists.ensures.lists c.new-table.ensures
     c.in_ok-unused.ensures.asked c.of-2.ensures.were_once c.in_ok-unused.ensures.steps in
-    λ lists first. let r = all lists first in (r.0, subst (λ z. CountsKeys (IsDemanded c.args.problem.now lists 0 z) r.0) (sym c.of-2.ensures.unused) r.1, r.2)
+    let fewer : length left ≤ length known = c.in_ok-unused.ensures.left.fewer in
+    λ lists first. let r = all lists first in let count = r.2 in (
+      r.0,
+      subst (λ z. CountsKeys (IsDemanded c.args.problem.now lists 0 z) r.0) (sym c.of-2.ensures.unused) r.1,
+      record {
+        at_most = omega arith;
+        alone = λ one. (let none = ap length (c.in_ok-known.ensures.alone one) in omega arith);
+      },
+    )

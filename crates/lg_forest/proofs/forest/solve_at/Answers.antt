@@ -1,4 +1,4 @@
-use Rattle.std.proofs.Common.{◌≡◌, ◌+◌, suc, subst, sym, refl, length, arith}
+use Rattle.std.proofs.Common.{◌≡◌, ◌+◌, ◌≤◌, ap, suc, subst, sym, refl, length, arith}
 use Rattle.lg_region.specs.Fronts.{AreListsOf}
 use Rattle.lg_region.specs.declared.key.Key.TheVariants.{Whole}
 use Rattle.lg_forest.specs.Demands.{IsDemanded}
@@ -18,5 +18,10 @@ returns-clause-forest g c =
 pub returns-clause-steps : goal.returns-clause-steps
 returns-clause-steps g c =
     let n = c.in_ok-lists.lists in
-    solved_counts n c.args.problem.now c.args.nulls c.args.nulls c.args.steps.now c.visit.new.steps c.new-table.result c.visit.new.table c.in_ok-lists.ensures.positions c.in_ok-lists.ensures.lists c.new-table.ensures
-    (asked_one n c.args.nulls c.new-table.result c.visit.new.table c.in_ok-visit.ensures.asked) c.of-2.ensures.were_once c.in_ok-visit.ensures.steps
+    let known = c.nothing-known.result in
+    let left = c.visit.new.known in
+    let all = solved_counts n c.args.problem.now c.args.nulls c.args.nulls (c.args.steps.now + length left) (c.visit.new.steps + length known) c.new-table.result c.visit.new.table c.in_ok-lists.ensures.positions c.in_ok-lists.ensures.lists c.new-table.ensures
+    (asked_one n c.args.nulls c.new-table.result c.visit.new.table c.in_ok-visit.ensures.asked) c.of-2.ensures.were_once c.in_ok-visit.ensures.steps in
+    let fewer : length left ≤ length known = c.in_ok-visit.ensures.left.fewer in
+    let none = ap length c.nothing-known.ensures in
+    λ lists first. let r = all lists first in let count = r.2 in (r.0, r.1, omega arith)

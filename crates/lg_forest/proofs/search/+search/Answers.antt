@@ -15,11 +15,12 @@ same_key k m e = cc
 
 pub explore-is_live-requires : goal.explore-is_live-requires
 explore-is_live-requires g t c κs within =
-    let is = alt_at c.args.lists.now c.args.key c.in_ok-alts.alts c.loop-index.index c.get.result c.in_ok-alts.ensures.exactly c.get.ensures in
+    let is = alt_at c.args.lists.now c.args.key c.in_ok-alts.alts c.loop-index.index c.get.result c.in_ok-alts.ensures.alts.exactly c.get.ensures in
     let below = c.requires.decided.below c.args.key c.get.result c.requires.key is in
     let steps = c.loop-index.invariant.steps in
     let room = c.requires.room in
-    (search rules, (search rules, (c.requires.decided, (c.requires.decided.valid c.args.key c.get.result c.requires.key is, (c.loop-index.invariant.asked.is_table, (c.loop-index.invariant.last, omega arith))))))
+    let fewer = c.loop-index.invariant.left.fewer in
+    (search rules, (search rules, (c.requires.decided, (c.requires.decided.valid c.args.key c.get.result c.requires.key is, (c.loop-index.invariant.asked.is_table, (c.loop-index.invariant.left.known, (c.loop-index.invariant.last, omega arith)))))))
 
 pub explore-loop-index-preserved : goal.explore-loop-index-preserved
 explore-loop-index-preserved g t c =
@@ -27,11 +28,14 @@ explore-loop-index-preserved g t c =
     let n = c.args.lists.now in
     let before = c.loop-index.invariant.steps in
     let after = c.in_ok-live.ensures.steps in
+    let fewer = c.loop-index.invariant.left.fewer in
+    let fewest = c.in_ok-live.ensures.left.fewer in
     record {
       asked = asked_more n (map full c.alts.inside.items.items) c.loop-index.index (c.loop-index.index + 1) c.get.result c.args.table.now c.loop-index.table c.is_live.new.table at (omega arith) c.loop-index.invariant.asked c.in_ok-live.ensures.asked;
       flags = subst (λ z. Flags (IsLive n.positions n.lists) (take (c.loop-index.index + 1) (map full c.alts.inside.items.items)) z) (sym c.in_ok-push.ensures.items)
           (flags_more (IsLive n.positions n.lists) (map full c.alts.inside.items.items) c.loop-index.index (c.loop-index.index + 1) c.get.result c.loop-index.flags.items c.in_ok-live.live at (omega arith) c.loop-index.invariant.flags c.in_ok-live.ensures.live);
       last = c.in_ok-live.ensures.last;
+      left = record { known = c.in_ok-live.ensures.left.known; fewer = omega arith };
       steps = omega arith;
     }
 
@@ -44,14 +48,14 @@ pub explore-returns-clause-live : goal.explore-returns-clause-live
 explore-returns-clause-live g t c =
     let n = c.args.lists.now in
     let all = all_flags n c.in_ok-alts.alts (map full c.alts.inside.items.items) c.loop-index.index c.loop-index.flags.items c.alts.view_is (omega arith) c.loop-index.invariant.flags in
-    let live = kept_live n c.args.key c.in_ok-alts.alts c.loop-index.flags.items c.in_ok-alts.ensures.exactly c.in_ok-alts.ensures.once all in
+    let live = kept_live n c.args.key c.in_ok-alts.alts c.loop-index.flags.items c.in_ok-alts.ensures.alts.exactly c.in_ok-alts.ensures.alts.once all in
     subst (λ z. AreLive n.positions n.lists c.args.key z) (sym (c.keep.ensures ∙ ap (kept c.in_ok-alts.alts) c.as_slice.ensures.value)) live
 
 pub explore-returns-clause-asked : goal.explore-returns-clause-asked
 explore-returns-clause-asked g t c =
     let e = ap length c.alts.view_is in
     asked_all c.args.lists.now c.args.key (map full c.alts.inside.items.items) c.loop-index.index c.args.table.now c.loop-index.table
-    (exact c.args.lists.now c.args.key c.in_ok-alts.alts (map full c.alts.inside.items.items) c.alts.view_is c.in_ok-alts.ensures.exactly) (omega arith) c.loop-index.invariant.asked
+    (exact c.args.lists.now c.args.key c.in_ok-alts.alts (map full c.alts.inside.items.items) c.alts.view_is c.in_ok-alts.ensures.alts.exactly) (omega arith) c.loop-index.invariant.asked
 
 pub is_live-returns-then-branch-clause-live : goal.is_live-returns-then-branch-clause-live
 is_live-returns-then-branch-clause-live g t c =

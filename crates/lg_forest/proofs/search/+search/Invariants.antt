@@ -1,6 +1,7 @@
-use Rattle.std.proofs.Common.{◌+◌, ◌*◌, take, map}
+use Rattle.std.proofs.Common.{◌+◌, ◌*◌, take, map, length}
 use Rattle.lg_region.specs.Small.{full}
 use Rattle.lg_forest.specs.Forests.{IsLive}
+use Rattle.lg_forest.specs.Known.{IsLeft}
 use Rattle.lg_forest.specs.Search.{Asked, IsLast, key_width, part_bound, alt_bound, IsCounted}
 use Rattle.lg_forest.proofs.Asked.{AsksBy}
 use Rattle.lg_forest.proofs.Flags.{Flags}
@@ -27,5 +28,6 @@ invariant-explore-loop-index g l = record {
   asked : Asked l.lists (AsksBy l.lists (map full l.alts-inside.items.items) l.index) l.fn.table l.table;
   flags : Flags (IsLive l.lists.positions l.lists.lists) (take l.index (map full l.alts-inside.items.items)) l.flags.items;
   last : IsLast l.lists l.table l.last;
-  steps : IsCounted 1 l.fn.steps l.fn.table l.steps l.table;
+  left : IsLeft l.lists l.fn.known l.known;
+  steps : IsCounted 1 (l.fn.steps + length l.known) l.fn.table (l.steps + length l.fn.known) l.table;
 }

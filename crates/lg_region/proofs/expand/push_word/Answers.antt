@@ -1,27 +1,37 @@
-use Rattle.std.proofs.Common.{arith}
-use Rattle.lg_region.specs.Groups.{region_of_gap}
+use Rattle.std.proofs.Common.{◌≡◌, length, get_or, [], subst, arith}
+use Rattle.lg_region.specs.Groups.{AddsIn, region_of_gap}
 use Rattle.lg_region.specs.Keys.{IsAltOfRegion}
-use Rattle.lg_region.proofs.Expanding.{adds_numbers, adds_start, run_group}
+use Rattle.lg_region.proofs.Expanding.{adds_numbers, adds_skip, left_first, run_group}
+use Rattle.lg_region.proofs.Splitting.{led_itself}
 use Rattle.lg_region.proofs.expand.push_word.Goals as goal
 
 pub loop-from-init : goal.loop-from-init
 loop-from-init c = record {
-  within = omega arith;
-  added = adds_start (IsAltOfRegion c.args.lists.now.positions c.args.lists.now.lists (region_of_gap c.args.lists.now.lists c.args.gap.now)) c.args.word c.args.out.now.items;
+  led = led_itself c.args.lists.now c.args.gap.now.lead c.args.word 0 c.first-from.result c.first-from.ensures;
+  added = adds_skip c.args.lists.now.positions c.args.lists.now.lists c.args.gap.now c.args.word 0 c.first-from.result c.args.out.now.items c.requires.known.led c.first-from.ensures;
 }
+
+pub run_end-to-requires-clause-first : goal.run_end-to-requires-clause-first
+run_end-to-requires-clause-first c = left_first c.args.lists.now c.args.gap.now.lead c.args.word c.loop-from.from c.sides-left.result c.sides-left.ensures
 
 pub push_group-requires-clause-group : goal.push_group-requires-clause-group
 push_group-requires-clause-group c =
     let e = c.count-count.ensures in
     let l = c.loop-from-test.true in
-    run_group c.args.lists.now c.args.gap.now c.args.word c.loop-from.from c.run_end-to.result c.sides-left.result c.requires.after c.requires.before (omega arith) c.run_end-to.ensures.listed c.sides-left.ensures c.run_end-to.ensures.same
+    run_group c.args.lists.now c.args.gap.now c.args.word c.loop-from.from c.run_end-to.result c.sides-left.result c.requires.after c.requires.before (omega arith) c.loop-from.invariant.led c.run_end-to.ensures.led c.sides-left.ensures c.run_end-to.ensures.same
 
 pub loop-from-preserved : goal.loop-from-preserved
 loop-from-preserved c =
-    let e = c.count-count.ensures in
-    let m = c.run_end-to.ensures.listed in
     let n = c.run_end-to.ensures.later in
     record {
-      within = omega arith;
+      led = c.run_end-to.ensures.led;
       added = adds_numbers (IsAltOfRegion c.args.lists.now.positions c.args.lists.now.lists (region_of_gap c.args.lists.now.lists c.args.gap.now)) c.args.word c.loop-from.from c.run_end-to.result c.args.out.now.items c.loop-from.out.items c.push_group.new.out.items (omega arith) c.loop-from.invariant.added c.in_ok-push_group.ensures;
     }
+
+pub returns : goal.returns
+returns c =
+    let e = c.count-count.ensures in
+    let l = c.loop-from-test.false in
+    let w = c.loop-from.invariant.led.within in
+    let all : c.loop-from.from ≡ length (get_or c.args.lists.now.positions c.args.word []) = omega arith in
+    subst (λ z. AddsIn c.args.lists.now c.args.gap.now c.args.word 0 z c.args.out.now.items c.loop-from.out.items) all c.loop-from.invariant.added

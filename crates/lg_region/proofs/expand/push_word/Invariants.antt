@@ -1,10 +1,10 @@
-use Rattle.std.proofs.Common.{◌-◌, ◌≤◌}
-use Rattle.lg_region.specs.Groups.{AddsIn}
+use Rattle.std.proofs.Common.{◌-◌}
+use Rattle.lg_region.specs.Groups.{AddsIn, IsNextLed}
 use Rattle.lg_region.proofs.expand.push_word.Given as goal
 
 abbrev pub invariant-loop-from : goal.invariant-loop-from
 invariant-loop-from l = record {
-  within : l.from ≤ l.count;
+  led : IsNextLed l.lists l.gap.lead l.word l.from l.from;
   added : AddsIn l.lists l.gap l.word 0 l.from l.fn.out.items l.out.items;
 }
 

@@ -9,7 +9,7 @@ use Rattle.lg_region.proofs.group.push_group.Goals as goal
 
 pub returns-then-is_empty : goal.returns-then-is_empty
 returns-then-is_empty c =
-    group_none c.args.lists.now.positions c.args.lists.now.lists c.args.gap.now c.args.group.now _ c.in_ok-lefts.lefts.items c.args.out.now.items c.requires.group refl c.are_numbered.ensures c.requires.gap.llist c.in_ok-lefts.ensures (let e = c.if-is_empty.ensures in grind (arith, common_steps, nat_tests))
+    group_none c.args.lists.now.positions c.args.lists.now.lists c.args.gap.now c.args.group.now _ c.in_ok-lefts.lefts.items c.args.out.now.items c.requires.group refl c.are_numbered.ensures c.requires.gap.llist c.requires.gap.led c.in_ok-lefts.ensures (let e = c.if-is_empty.ensures in grind (arith, common_steps, nat_tests))
 
 pub loop-nulls-preserved : goal.loop-nulls-preserved
 loop-nulls-preserved c =
@@ -27,6 +27,6 @@ returns c =
     record {
       more = more;
       added = range_done splits c.loop-nulls.out.items (c.args.out.now.items ++ more) c.loop-nulls.nulls to c.loop-nulls-test.false c.loop-nulls.invariant;
-      exactly = group_is c.args.lists.now.positions c.args.lists.now.lists c.args.gap.now c.args.group.now _ c.in_ok-lefts.lefts.items c.in_ok-rights.rights.items least c.min-most.result c.requires.group refl c.are_numbered.ensures c.requires.gap.llist
+      exactly = group_is c.args.lists.now.positions c.args.lists.now.lists c.args.gap.now c.args.group.now _ c.in_ok-lefts.lefts.items c.in_ok-rights.rights.items least c.min-most.result c.requires.group refl c.are_numbered.ensures c.requires.gap.llist c.requires.gap.led
           c.in_ok-lefts.ensures c.in_ok-rights.ensures c.saturating_sub-least.ensures c.min-most.ensures;
     }

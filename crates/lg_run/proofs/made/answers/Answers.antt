@@ -12,7 +12,7 @@ pub new-lister-requires-clause-few : goal.new-lister-requires-clause-few
 new-lister-requires-clause-few g c = subst (λ (k : Knowledge). length k.rules < 2 ^ 32) (sym c.no_knowledge-know.ensures) (omega arith)
 
 pub new-lister-requires-clause-range : goal.new-lister-requires-clause-range
-new-lister-requires-clause-range g c = subst HasCounts (sym c.default.ensures) ((omega arith, omega arith), (omega arith, omega arith))
+new-lister-requires-clause-range g c = subst HasCounts (sym c.default.ensures) (record { want = (omega arith, omega arith); examine = (omega arith, omega arith); workers = (omega arith, omega arith) })
 
 -- the answers are those of the lister over no knowledge
 pub returns-clause-legal : goal.returns-clause-legal

@@ -1,5 +1,5 @@
 use Rattle.std.proofs.Common.{refl}
-use Rattle.lg_run.specs.Words.{want, examine, nulls, prune, stats, diagram}
+use Rattle.lg_run.specs.Words.{want, examine, nulls, prune, stats, diagram, workers}
 use Rattle.lg_run.proofs.OptionWords.{some_by}
 use Rattle.lg_run.proofs.options.setting_of.Goals as goal
 
@@ -20,3 +20,6 @@ returns-in-text-5 c = let b = some_by c.switch_of-then-str_eq-5.result _ _ c.if-
 
 pub returns-in-text-6 : goal.returns-in-text-6
 returns-in-text-6 c = let b = some_by c.switch_of-then-str_eq-6.result _ _ c.if-is_some-4.ensures c.switch_of-then-str_eq-6.ensures in (c.in-text-6.is, diagram _ b.0 b.1)
+
+pub returns-in-text-7 : goal.returns-in-text-7
+returns-in-text-7 c = let n = some_by c.workers_of.result _ _ c.if-is_some-5.ensures c.workers_of.ensures in (c.in-text-7.is, workers _ n.0 n.1)

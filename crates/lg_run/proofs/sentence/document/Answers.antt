@@ -13,15 +13,15 @@ use Rattle.lg_run.proofs.sentence.document.Goals as goal
 
 -- the listing stands for every knowledge
 pub first_page-requires-clause-stands : goal.first_page-requires-clause-stands
-first_page-requires-clause-stands c = c.in-Ok.ensures.stands no_knowledge
+first_page-requires-clause-stands g c = c.in-Ok.ensures.stands no_knowledge
 
 -- the page of the listing at its start
 pub returns-in-Ok : goal.returns-in-Ok
-returns-in-Ok c =
+returns-in-Ok g c =
     let l = c.in-Ok.listing in
     let setup = c.args.setup in
     let options = setup.listing in
-    let is = subst (λ (d : Dictionary). IsListing d c.args.sentence.now options.prune l) c.of.ensures c.in-Ok.ensures.listing in
+    let is = subst (λ (d : Dictionary). IsListing d c.args.sentence.now options l) c.of.ensures c.in-Ok.ensures.listing in
     let Shows : Nulls → Page → Type 0 = λ nulls. IsPage is.problem no_knowledge nulls 0 options.want options.examine in
     of_each c.first_page.result (λ text. (page : Page) × Shows l.course.nulls page × (text.items ≡ listing_text setup.look l.tokens page (Some l.stats))) (λ text. DocumentIs setup c.args.dict.now c.args.sentence.now text.items)
     (λ text h. listed l.tokens is.problem h.0 l.stats is.sentence (subst (λ (n : Nulls). Shows n h.0) c.in-Ok.ensures.nulls h.1) is.counted h.2)
@@ -29,7 +29,7 @@ returns-in-Ok c =
 
 -- the line of the bound
 pub returns-in-Err-Beyond : goal.returns-in-Err-Beyond
-returns-in-Err-Beyond c =
+returns-in-Err-Beyond g c =
     let b = c.in-Err-Beyond.bound in
     let refused : IsRefused c.of.result c.args.sentence.now (Beyond b) = subst (IsRefused c.of.result c.args.sentence.now) c.in-Err-Beyond.field-0-is c.in-Err-Beyond.ensures.refused in
     of_each c.bound_text.result (λ text. text.items ≡ bound_line b) (λ text. DocumentIs c.args.setup c.args.dict.now c.args.sentence.now text.items)

@@ -1,5 +1,5 @@
 use Rattle.lg_answer.proofs.Ordered.{have_order}
 use Rattle.lg_answer.proofs.listing.Listing.start.Goals as goal
 
-pub problem_of-requires-clause-order : goal.problem_of-requires-clause-order
-problem_of-requires-clause-order c = rw c.items-2.ensures (have_order c.args.view.now c.args.text.now c.in_ok-tokens.tokens c.in_ok-tokens.ensures)
+pub searched-requires-clause-order : goal.searched-requires-clause-order
+searched-requires-clause-order g c = rw c.items-2.ensures (have_order c.args.view.now c.args.text.now c.in_ok-tokens.tokens c.in_ok-tokens.ensures)

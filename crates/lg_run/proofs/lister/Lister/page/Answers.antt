@@ -22,5 +22,5 @@ returns c =
       want = refl;
       same_tokens = tokens;
       printable = subst (λ (ts : List Token). All (λ item. IsLinkageFor ts item.linkage) page.items) (sym tokens) c.in_ok-listing.ensures.printable;
-      near = omega (arith, near, c.self.invariant.range.1.1);
+      near = omega (arith, near, c.self.invariant.range.examine.1);
     })

@@ -23,9 +23,9 @@ returns g c =
     let text = c.args.text.now in
     let start = c.in-Ok-start.start in
     let want = subst (λ (x : Lister). c.unwrap_or-want.result ≡ wanted x.options c.args.want) c.self.view_is (c.unwrap_or-want.ensures ∙ wanted_is c.self.inside.options c.args.want) in
-    let is : IsListing c.args.view.now text l.options.prune start =
-    subst (λ (x : Lister). IsListing c.args.view.now text x.options.prune start) c.self.view_is
-    (subst (λ (bytes : List ℕ). IsListing c.args.view.now bytes c.self.inside.options.prune start) (c.in-Ok.ensures.cases.0 ∙ c.bytes.ensures) c.in-Ok-start.ensures.listing) in
+    let is : IsListing c.args.view.now text l.options start =
+    subst (λ (x : Lister). IsListing c.args.view.now text x.options start) c.self.view_is
+    (subst (λ (bytes : List ℕ). IsListing c.args.view.now bytes c.self.inside.options start) (c.in-Ok.ensures.cases.0 ∙ c.bytes.ensures) c.in-Ok-start.ensures.listing) in
     let skips : Skips l c.args.view.now text c.args.want c.args.first (record { listing = c.in_ok-listing.listing; want = c.unwrap_or-want.result }) = record {
       start = start;
       is = is;

@@ -1,0 +1,117 @@
+-- A search begins with a sharper problem, and goes on with the problem itself.
+use Rattle.std.proofs.Common.{◌≡◌, ◌↔◌, ◌==◌, ℕ, suc, ◌≤◌, cond, List, [], ◌∷◌, ◌++◌, length, get_or, Contains, Option, None, Some, refl, subst, ◌∙◌, arith}
+use Rattle.std.specs.Prelude.{is_none}
+use Rattle.std.specs.List.{count_by}
+use Rattle.std.proofs.lemmas.Bool.{ne_eqb}
+use Rattle.std.proofs.lemmas.List.Sums.{sum_by-cons, count_by-le-length}
+use Rattle.lg_gram.specs.Linkages.{Linkage, linkage_cmp, unlinked}
+use Rattle.lg_gram.specs.Rules.{Good}
+use Rattle.lg_gram.specs.declared.disjunct.Disjunct.{Disjunct}
+use Rattle.lg_gram.specs.declared.listing.Stats.{Stats}
+use Rattle.lg_gram.specs.declared.listing.Token.{Token}
+use Rattle.lg_dict.specs.Dictionary.{Dictionary}
+use Rattle.lg_region.specs.Parts.{UnderWhole}
+use Rattle.lg_region.specs.declared.key.Key.TheVariants.{Whole}
+use Rattle.lg_forest.specs.Demands.{HasLinkageUnder}
+use Rattle.lg_forest.specs.Forests.{Forest, IsForest}
+use Rattle.lg_rank.specs.Fronts.{IsFront, IsNext}
+use Rattle.lg_rank.specs.Rankings.{Ranking}
+use Rattle.lg_sharpen.specs.Sharp.{IsSharpened}
+use Rattle.lg_answer.specs.Pages.{HasLinkagesOf}
+use Rattle.lg_answer.specs.Searches.{wide_of, StandsUpTo, Begins, BeginsSharper, blanks, HasFew}
+use Rattle.lg_answer.specs.Steps.{IsSearched}
+use Rattle.lg_answer.specs.declared.options.Options.{Options}
+use Rattle.lg_answer.proofs.Kept.{front_of}
+
+-- a position without disjuncts is unlinked
+one_blank : (ds : List Disjunct) (o : Option Disjunct) → ((d : Disjunct) → o ≡ Some d → Contains ds d) → cond (length ds == 0) 1 0 ≤ cond (is_none o) 1 0
+one_blank [] None listed = omega arith
+one_blank [] (Some d) listed = absurd (let n = (listed d refl).1 in omega arith)
+one_blank (x ∷ ds) o listed = rw (ne_eqb (length (x ∷ ds)) 0 (λ e. let no : ⊥ = omega arith in absurd no)) (omega arith)
+
+blank_count : (positions : List (List Disjunct)) (os : List (Option Disjunct)) → length os ≡ length positions
+    → ((i : ℕ) (d : Disjunct) → get_or os i None ≡ Some d → Contains (get_or positions i []) d) → blanks positions ≤ count_by is_none os
+blank_count [] os same listed = omega arith
+blank_count (ds ∷ positions) [] same listed = absurd (omega arith)
+blank_count (ds ∷ positions) (o ∷ os) same listed =
+    let here = one_blank ds o (λ d e. listed 0 d e) in
+    let rest = blank_count positions os (omega arith) (λ i d e. listed (suc i) d e) in
+    omega (arith, sum_by-cons (λ (xs : List Disjunct). cond (length xs == 0) 1 0) ds positions, sum_by-cons (λ (x : Option Disjunct). cond (is_none x) 1 0) o os)
+
+blanks_least : (positions : List (List Disjunct)) (g : Linkage) → Good positions g → blanks positions ≤ unlinked g
+blanks_least positions g good = blank_count positions g.chosen good.belongs.same_length good.belongs.listed
+
+few_unlinked : (positions : List (List Disjunct)) (g : Linkage) → Good positions g → unlinked g ≤ length positions
+few_unlinked positions g good = let most = count_by-le-length is_none g.chosen in let same = good.belongs.same_length in omega arith
+
+module _ (positions sharp : List (List Disjunct)) where
+  fewer_nulls : (more less : ℕ) → less ≤ more → IsSharpened positions more sharp → IsSharpened positions less sharp
+  fewer_nulls more less at is = record { is_problem = is.is_problem; same_length = is.same_length; fewer = is.fewer; same = λ g few. is.same g (omega arith) }
+
+  -- sharpened for any number of unlinked words, it has the same linkages
+  sharp_keeps : IsSharpened positions (length positions) sharp → HasLinkagesOf positions sharp
+  sharp_keeps is g = (
+    λ good. (is.same g (few_unlinked positions g good)).0 good,
+    λ good. (is.same g (let few = few_unlinked sharp g good in let same = is.same_length in omega arith)).1 good,
+  )
+
+  pub begins_sharp : (search : Ranking) (n : ℕ) → n ≡ length positions → IsSharpened positions n sharp → Begins sharp search → Begins positions search
+  begins_sharp search n all sharpened begins = let is = subst (λ m. IsSharpened positions m sharp) all sharpened in record {
+    keeps = λ g. let one = sharp_keeps is g in let two = begins.keeps g in (λ good. two.0 (one.0 good), λ good. one.1 (two.1 good));
+    same_length = begins.same_length ∙ is.same_length;
+    fewest = begins.fewest;
+    first = begins.first;
+  }
+
+  -- a linkage that leaves no more words unlinked than those without disjuncts: none leaves fewer
+  pub begins_sharper : (forest : Forest) (n : ℕ) (ranked : Ranking) → n ≡ blanks positions → IsSharpened positions (blanks positions) sharp → (from : ℕ) × IsForest sharp from forest → HasFew n forest
+      → ranked ≡ record { positions = sharp; nulls = forest.unused; position = 0 } → BeginsSharper positions ranked
+  begins_sharper forest n ranked count is made few at =
+      let found : HasLinkageUnder sharp made.1.lists (Whole forest.unused) = ((made.1.nodes (Whole forest.unused)).0 few.1).1 in
+      let most = few.0 in
+      let unused = found.1.count in
+      rw at (record {
+        sharper = fewer_nulls (blanks positions) forest.unused (omega arith) is;
+        fewest = record {
+          some = (found.0, (is.same found.0 (omega arith)).1 found.1.good, unused);
+          least = λ h good. let least = blanks_least positions h good in omega arith;
+        };
+        first = refl;
+      })
+
+pub begins_wide : (positions : List (List Disjunct)) (ranked : Ranking) → BeginsSharper positions ranked → Begins positions (record { positions = positions; nulls = ranked.nulls; position = ranked.position })
+begins_wide positions ranked is = record { keeps = λ g. (λ h. h, λ h. h); same_length = refl; fewest = is.fewest; first = is.first }
+
+next_over : (A B : Linkage → Type 0) → ((g : Linkage) → A g ↔ B g) → (gs : List Linkage) (found : Option Linkage) → IsNext linkage_cmp A gs found → IsNext linkage_cmp B gs found
+next_over A B same gs None all = λ g has. all g ((same g).1 has)
+next_over A B same gs (Some g) front = front_of linkage_cmp A B (gs ++ g ∷ []) (λ v. (same v).0) (λ v. (same v).1) front
+
+module _ (nulls : ℕ) (ranked : List (List Disjunct)) where
+  -- of this level the ranked problem has the linkages of the wide one
+  under_ranked : (wide : Option (List (List Disjunct))) → StandsUpTo nulls wide ranked → (g : Linkage) → UnderWhole (wide_of wide ranked) nulls g ↔ UnderWhole ranked nulls g
+  under_ranked None stands g = (λ h. h, λ h. h)
+  under_ranked (Some wide) stands g = (
+    λ h. record { good = (stands.same g (let c = h.count in omega arith)).0 h.good; count = h.count },
+    λ h. record { good = (stands.same g (let c = h.count in omega arith)).1 h.good; count = h.count },
+  )
+
+  -- so it gives the next of the wide one
+  pub next_of_wide : (wide : Option (List (List Disjunct))) → StandsUpTo nulls wide ranked → (gs : List Linkage) (found : Option Linkage)
+      → (IsFront linkage_cmp (UnderWhole ranked nulls) gs → IsNext linkage_cmp (UnderWhole ranked nulls) gs found)
+      → IsFront linkage_cmp (UnderWhole (wide_of wide ranked) nulls) gs → IsNext linkage_cmp (UnderWhole (wide_of wide ranked) nulls) gs found
+  next_of_wide wide stands gs found next front =
+      let same = under_ranked wide stands in
+      let of_wide = UnderWhole (wide_of wide ranked) nulls in
+      let of_ranked = UnderWhole ranked nulls in
+      next_over of_ranked of_wide (λ g. ((same g).1, (same g).0)) gs found (next (front_of linkage_cmp of_wide of_ranked gs (λ v. (same v).0) (λ v. (same v).1) front))
+
+-- the problem of a search has the linkages of that which was given
+pub searched_more : (dict : Dictionary) (tokens : List Token) (options : Options) (kept more : List (List Disjunct)) (stats : Stats)
+    → IsSearched dict tokens options kept stats → HasLinkagesOf kept more → length more ≡ length kept → IsSearched dict tokens options more stats
+searched_more dict tokens options kept more stats is keeps long = record {
+  problem = is.problem;
+  of_tokens = is.of_tokens;
+  keeps = λ g. let one = is.keeps g in let two = keeps g in (λ good. two.0 (one.0 good), λ good. one.1 (two.1 good));
+  counted = is.counted;
+  same_length = long ∙ is.same_length;
+}

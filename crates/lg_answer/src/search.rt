@@ -1,0 +1,259 @@
+//! The good linkages of a problem, level by level.
+ghost use Rattle.std.specs.Prelude.{◌≡◌, ◌↔◌, ◌+◌, ◌<◌, ◌≤◌, ◌^◌, ℕ, List, length, IsTrue, IfOk, OnOk, IfSome};
+ghost use Rattle.lg_gram.specs.Linkages.{Linkage as Seen, linkage_cmp};
+ghost use Rattle.lg_region.specs.Parts.{UnderWhole};
+ghost use Rattle.lg_forest.specs.Forests.{AreWorkers, IsForest};
+ghost use Rattle.lg_rank.specs.Fronts.{IsFront, IsNext};
+ghost use Rattle.lg_rank.specs.Rankings.{given};
+ghost use Rattle.lg_sharpen.specs.Sharp.{IsSharpened};
+ghost use Rattle.lg_answer.specs.Searches.{Begins, BeginsSharper, HasFew, blanks};
+
+use crate::options::Options;
+use lg_base::{NoMemory, Own, Steps};
+use lg_forest::{Forest, solve, solve_at};
+use lg_gram::{Linkage, Problem};
+use lg_rank::Ranked;
+use lg_region::Key;
+use lg_sharpen::{sharpen, sharpened};
+use std::alloc::Global;
+use std::marker::Model;
+use std::thread::Threads;
+
+/// The good linkages of a problem with so many unlinked words, in order. The first are looked for among fewer disjuncts.
+///
+/// Contracts see `{ positions, nulls, position }`: the problem, how many words are unlinked, and how many linkages were given.
+#[derive(Drop)]
+pub(crate) struct Search {
+    ranked: Ranked,
+    // the problem, where the one that is ranked is sharper
+    wide: Option<Problem>,
+}
+
+impl Model for Search {
+    ghost use Rattle.lg_rank.specs.Rankings.{Ranking};
+    ghost use Rattle.lg_answer.specs.Searches.{wide_of, StandsUpTo};
+
+    ghost Value = { Ranking };
+
+    ghost view = { λ s. record { positions = wide_of s.wide s.ranked.positions; nulls = s.ranked.nulls; position = s.ranked.position } };
+
+    ghost invariant = { λ s. StandsUpTo s.ranked.nulls s.wide s.ranked.positions };
+}
+
+impl Search {
+    /// Before the first linkage with the fewest unlinked words. Where disjuncts are pruned, the problem is sharpened: first for as
+    /// many unlinked words as positions have no disjunct, and where it has no such linkage, for any number.
+    pub fn start<R: Threads + Sync>(
+        rt: &R,
+        alloc: Global,
+        problem: Problem,
+        options: &Options,
+    ) -> Result<Search, NoMemory>
+        requires workers { AreWorkers options.now.workers }
+        ensures { IfOk result (Begins problem) }
+    {
+        if options.prune {
+            Search::sharp(rt, alloc, problem, options.workers)
+        } else {
+            Search::whole(rt, alloc, problem, options.workers)
+        }
+    }
+
+    fn sharp<R: Threads + Sync>(
+        rt: &R,
+        alloc: Global,
+        problem: Problem,
+        workers: u32,
+    ) -> Result<Search, NoMemory>
+        requires workers { AreWorkers workers }
+        ensures { IfOk result (Begins problem) }
+    {
+        let found = sharper(rt, alloc, &problem, workers)?;
+        match found {
+            Some(ranked) => Ok(Search::beside(problem, ranked)),
+            None => Search::for_any(rt, alloc, problem, workers),
+        }
+    }
+
+    // The search of a sharper problem.
+    fn beside(problem: Problem, ranked: Ranked) -> Search
+        requires { BeginsSharper problem ranked }
+        ensures { Begins problem result }
+    {
+        Search {
+            ranked,
+            wide: Some(problem),
+        }
+    }
+
+    // The search of the problem that is sharpened for any number of unlinked words.
+    fn for_any<R: Threads + Sync>(
+        rt: &R,
+        alloc: Global,
+        problem: Problem,
+        workers: u32,
+    ) -> Result<Search, NoMemory>
+        requires workers { AreWorkers workers }
+        ensures { IfOk result (Begins problem) }
+    {
+        let words = words_of(&problem);
+        let sharp = sharpen(alloc, problem, words)?;
+        let search = Search::whole(rt, alloc, sharp, workers)?;
+        Ok(search)
+    }
+
+    fn whole<R: Threads + Sync>(
+        rt: &R,
+        alloc: Global,
+        problem: Problem,
+        workers: u32,
+    ) -> Result<Search, NoMemory>
+        requires workers { AreWorkers workers }
+        ensures { IfOk result (Begins problem) }
+    {
+        let forest = solve(rt, alloc, &problem, workers, &mut Steps::<Own>::start())?;
+        let ranked = Ranked::new(alloc, problem, forest)?;
+        Ok(Search { ranked, wide: None })
+    }
+
+    /// How many linkages of the level were given. No memory.
+    pub fn position(&self) -> u64
+        ensures { result ≡ self.now.position }
+    {
+        self.ranked.position()
+    }
+
+    /// The next linkage of the level, or none where all were given.
+    pub fn next(&mut self, alloc: Global) -> Result<Option<Linkage>, NoMemory>
+        requires { self.old.position < 2 ^ 63 }
+        ensures next { (gs : List Seen) → IsFront linkage_cmp (UnderWhole self.old.positions self.old.nulls) gs → length gs ≡ self.old.position → IfOk result (λ g. IsNext linkage_cmp (UnderWhole self.old.positions self.old.nulls) gs g) }
+        ensures moved { IfOk result (λ g. self.new ≡ record self.old { position = self.old.position + given g }) }
+    {
+        let found = self.ranked.next(alloc)?;
+        Ok(found)
+    }
+
+    /// Goes on to one more unlinked word, with all disjuncts of the problem.
+    pub fn rise(&mut self, alloc: Global) -> Result<(), NoMemory>
+        requires { self.old.nulls < length self.old.positions }
+        ensures { OnOk result (self.new ≡ record { positions = self.old.positions; nulls = self.old.nulls + 1; position = 0 }) }
+    {
+        match self.wide.take() {
+            Some(problem) => {
+                self.ranked = ranked_above(alloc, problem, self.ranked.nulls())?;
+                Ok(())
+            }
+            None => raise(alloc, &mut self.ranked),
+        }
+    }
+}
+
+// The linkages of a problem with one more unlinked word than so many.
+fn ranked_above(alloc: Global, problem: Problem, nulls: u32) -> Result<Ranked, NoMemory>
+    requires { nulls < length problem }
+    ensures { IfOk result (λ ranked. ranked ≡ record { positions = problem; nulls = nulls + 1; position = 0 }) }
+{
+    // the call tells that there are few positions
+    let _positions = problem.positions();
+    let forest = solve_at(alloc, &problem, nulls + 1, &mut Steps::<Own>::start())?;
+    Ranked::new(alloc, problem, forest)
+}
+
+// Goes on to one more unlinked word.
+fn raise(alloc: Global, ranked: &mut Ranked) -> Result<(), NoMemory>
+    requires { ranked.old.nulls < length ranked.old.positions }
+    ensures { OnOk result (ranked.new ≡ record { positions = ranked.old.positions; nulls = ranked.old.nulls + 1; position = 0 }) }
+{
+    let problem = ranked.problem();
+    // the call tells that there are few positions
+    let _positions = problem.positions();
+    let nulls = ranked.nulls() + 1;
+    let forest = solve_at(alloc, problem, nulls, &mut Steps::<Own>::start())?;
+    ranked.restart(alloc, forest)
+}
+
+// The linkages of a sharper problem that leave no words unlinked but those without disjuncts; none where there are no such linkages, or
+// where the problem is small.
+fn sharper<R: Threads + Sync>(
+    rt: &R,
+    alloc: Global,
+    problem: &Problem,
+    workers: u32,
+) -> Result<Option<Ranked>, NoMemory>
+    requires workers { AreWorkers workers }
+    ensures { IfOk result (λ ranked. IfSome ranked (BeginsSharper problem.now)) }
+{
+    let nulls = blanks_of(problem);
+    let found = sharpened(alloc, problem, nulls)?;
+    match found {
+        Some(sharp) => first_of(rt, alloc, problem, sharp, workers),
+        None => Ok(None),
+    }
+}
+
+// The same of the problem that is sharpened for the words without disjuncts.
+fn first_of<R: Threads + Sync>(
+    rt: &R,
+    alloc: Global,
+    problem: &Problem,
+    sharp: Problem,
+    workers: u32,
+) -> Result<Option<Ranked>, NoMemory>
+    requires workers { AreWorkers workers }
+    requires sharp { IsSharpened problem.now (blanks problem.now) sharp }
+    ensures { IfOk result (λ ranked. IfSome ranked (BeginsSharper problem.now)) }
+{
+    let nulls = blanks_of(problem);
+    let forest = forest_of(rt, alloc, &sharp, nulls, workers)?;
+    if !has_few(&forest, nulls) {
+        return Ok(None);
+    }
+    let ranked = Ranked::new(alloc, sharp, forest)?;
+    Ok(Some(ranked))
+}
+
+fn words_of(problem: &Problem) -> u32
+    ensures { result ≡ length problem.now }
+{
+    problem.positions().len() as u32
+}
+
+// How many positions have no disjunct.
+fn blanks_of(problem: &Problem) -> u32
+    ensures value { result ≡ blanks problem.now }
+    ensures few { result ≤ length problem.now }
+{
+    problem
+        .positions()
+        .iter()
+        .filter(|position| position.items().is_empty())
+        .count() as u32
+}
+
+// The forest of a problem with so many unlinked words, where one worker looks for it, and else that with the fewest.
+fn forest_of<R: Threads + Sync>(
+    rt: &R,
+    alloc: Global,
+    problem: &Problem,
+    nulls: u32,
+    workers: u32,
+) -> Result<Forest, NoMemory>
+    requires workers { AreWorkers workers }
+    requires nulls { nulls ≤ length problem.now }
+    ensures { IfOk result (λ forest. (from : ℕ) × IsForest problem.now from forest) }
+{
+    let mut steps = Steps::<Own>::start();
+    if workers == 1 {
+        solve_at(alloc, problem, nulls, &mut steps)
+    } else {
+        solve(rt, alloc, problem, workers, &mut steps)
+    }
+}
+
+// Whether the sentence has a linkage in its forest, with at most so many unlinked words.
+fn has_few(forest: &Forest, most: u32) -> bool
+    ensures { IsTrue result ↔ HasFew most forest.now }
+{
+    let nulls = forest.unused();
+    nulls <= most && forest.alts(&Key::Whole { nulls }).is_some()
+}

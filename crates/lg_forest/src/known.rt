@@ -1,0 +1,54 @@
+//! The alternatives that workers found.
+ghost use Rattle.std.specs.Prelude.{◌≡◌, ◌+◌, [], ◌⊎◌, MatchOption, OnOk, List, length};
+ghost use Rattle.std.specs.List.{Contains};
+ghost use Rattle.lg_region.specs.declared.key.Key.{Key};
+ghost use Rattle.lg_region.specs.declared.alternative.Alt.{Alt};
+
+use indexmap::IndexMap;
+use lg_base::NoMemory;
+use lg_region::{Alts, Key};
+use std::alloc::Global;
+use std::marker::Model;
+
+/// Keys, each with alternatives. Contracts see the pairs.
+#[derive(Drop)]
+pub(crate) struct Known {
+    found: IndexMap<Key, Alts>,
+}
+
+impl Model for Known {
+    ghost use Rattle.std.specs.Prelude.{List};
+    ghost use Rattle.lg_region.specs.declared.key.Key.{Key as SeenKey};
+    ghost use Rattle.lg_region.specs.declared.alternative.Alt.{Alt as SeenAlt};
+
+    ghost Value = { List (SeenKey × List SeenAlt) };
+
+    ghost view = { λ k. k.found.entries };
+}
+
+impl Known {
+    /// Nothing is known. No memory.
+    pub fn nothing(alloc: Global) -> Known
+        ensures { result ≡ [] }
+    {
+        Known {
+            found: IndexMap::new(alloc),
+        }
+    }
+
+    /// Takes the alternatives of a key out. None where the key is not there. No memory.
+    pub fn take(&mut self, key: &Key) -> Option<Alts>
+        ensures taken { MatchOption result (length self.new ≡ length self.old) (λ alts. Contains self.old (key.now, alts) × (length self.new + 1 ≡ length self.old)) }
+        ensures left { (k : Key) (alts : List Alt) → Contains self.new (k, alts) → Contains self.old (k, alts) }
+    {
+        self.found.swap_remove(key)
+    }
+
+    /// Adds the alternatives of a key, in place of those that it has.
+    pub fn add(&mut self, key: Key, alts: Alts) -> Result<(), NoMemory>
+        ensures { OnOk result ((k : Key) (a : List Alt) → Contains self.new (k, a) → Contains self.old (k, a) ⊎ ((k ≡ key) × (a ≡ alts))) }
+    {
+        self.found.insert(key, alts)?;
+        Ok(())
+    }
+}

@@ -1,0 +1,14 @@
+pub mod Parity
+pub mod Places
+pub mod Keeping
+pub mod Taking
+pub mod Sharing
+pub mod Ends
+pub mod Seats
+pub mod Deals
+pub mod Dealt
+pub mod AtHome
+pub mod Fresh
+pub mod Drained
+pub mod Gathered
+pub mod Ended

@@ -1,0 +1,9 @@
+pub mod Elements
+pub mod Filters
+pub mod Adding
+pub mod Apart
+pub mod Ends
+pub mod Narrowing
+pub mod Tables
+pub mod Standing
+pub mod Pruned

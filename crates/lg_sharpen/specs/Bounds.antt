@@ -1,0 +1,90 @@
+-- What holds of each linkage that keeps the rules and has few unlinked words.
+use Rattle.std.specs.Prelude.{◌≡◌, ℕ, ◌<◌, ◌≤◌, Bool, true, false, not, cond, List, length, Some, slice_get}
+use Rattle.std.specs.List.{Contains, All, filter}
+use Rattle.lg_gram.specs.Connectors.{Connector}
+use Rattle.lg_gram.specs.Linkages.{Linkage, unlinked, link_length}
+use Rattle.lg_gram.specs.Rules.{Rules, IsConnected, IsLinked, HasLink, rights_of, lefts_of, chosen_at}
+use Rattle.lg_gram.specs.Walks.{LinkFrom}
+use Rattle.lg_gram.specs.declared.disjunct.Disjunct.{Disjunct}
+use Rattle.lg_gram.specs.declared.linkage.Link.{Link}
+use Rattle.lg_sharpen.specs.Sites.{own, place_on, Holds}
+use Rattle.lg_sharpen.specs.declared.side.Side.{Side}
+use Rattle.lg_sharpen.specs.declared.side.Site.{Site}
+use Rattle.lg_sharpen.specs.declared.member.Member.{Member}
+
+-- what stands to the right, or to the left, of a position
+abbrev pub list_at : Bool → Linkage → ℕ → List Connector
+list_at right g i = cond right (rights_of g i) (lefts_of g i)
+
+-- the linkage keeps the rules, and has fewer unlinked words than this
+pub record Fits (most : ℕ) (g : Linkage) : Type 0 where
+  pub rules : Rules (rights_of g) (lefts_of g) (HasLink g)
+  pub connected : IsConnected (IsLinked g) (LinkFrom (HasLink g))
+  pub few : unlinked g < most
+
+-- the site is that of the link's end to the right, or to the left, and its distances have the link's length
+pub record Allows (g : Linkage) (right : Bool) (l : Link) (s : Site) : Type 0 where
+  pub connector : slice_get (list_at right g (own right l)) (place_on right l) ≡ Some s.connector
+  pub from : s.span.from ≤ link_length l
+  pub end : link_length l < s.span.end
+  pub nearest : s.nearest ≡ true → (place_on right l ≡ 0) × (s.connector.multi ≡ false)
+
+-- the sites are those of the list of position i, and allow all its links
+pub record Covers (g : Linkage) (right : Bool) (i : ℕ) (sites : List Site) : Type 0 where
+  pub same_length : length sites ≡ length (list_at right g i)
+  pub each : (l : Link) → HasLink g l → own right l ≡ i → (s : Site) × (slice_get sites (place_on right l) ≡ Some s) × Allows g right l s
+
+-- the same of the list of sites of a number
+abbrev pub CoversAt : Linkage → Bool → ℕ → List (List Site) → ℕ → Type 0
+CoversAt g right i lists k = (sites : List Site) × (slice_get lists k ≡ Some sites) × Covers g right i sites
+
+-- a table has a site for each link's end to the right, or to the left
+abbrev pub AllowsAll : Linkage → Bool → List (List Site) → Type 0
+AllowsAll g right table = (l : Link) → HasLink g l → (s : Site) × Holds table (own right l) s × Allows g right l s
+
+-- the site allows all links of the place that the sites allow
+abbrev pub IsNarrowed : Bool → ℕ → ℕ → List (List Site) → List Site → ℕ → Site → Type 0
+IsNarrowed right most i table sites p r =
+    (g : Linkage) → Fits most g → AllowsAll g (not right) table → Covers g right i sites → (l : Link) → HasLink g l → own right l ≡ i → place_on right l ≡ p → Allows g right l r
+
+-- sites that allow all links still do
+abbrev pub Narrows : Bool → ℕ → ℕ → List (List Site) → List Site → List Site → Type 0
+Narrows right most i table old new = (g : Linkage) → Fits most g → AllowsAll g (not right) table → Covers g right i old → Covers g right i new
+
+pub record NarrowsAll (right : Bool) (most : ℕ) (sides : List Side) (table old new : List (List Site)) : Type 0 where
+  pub long : length new ≡ length old
+  pub each : (g : Linkage) → Fits most g → AllowsAll g (not right) table → (k : ℕ) (side : Side) → slice_get sides k ≡ Some side → CoversAt g right side.position old k → CoversAt g right side.position new k
+
+-- a distance is left
+abbrev pub IsOpen : Site → Type 0
+IsOpen s = s.span.from < s.span.end
+
+pub record AreOpen (lists : List (List Site)) (flags : List Bool) : Type 0 where
+  pub each : (k : ℕ) (sites : List Site) → slice_get lists k ≡ Some sites → All IsOpen sites → slice_get flags k ≡ Some true
+
+-- what the linkage uses is a member
+abbrev pub AreChosen : Linkage → List Member → Type 0
+AreChosen g members = (i : ℕ) (d : Disjunct) → chosen_at g i ≡ Some d → (m : Member) × Contains members m × (m.position ≡ i) × (m.disjunct.now ≡ d)
+
+-- the lists that the linkage uses, to the right, or to the left, have sites that allow all links
+abbrev pub CoversAll : Linkage → Bool → List Side → List (List Site) → Type 0
+CoversAll g right sides lists = (k : ℕ) (side : Side) → slice_get sides k ≡ Some side → list_at right g side.position ≡ side.list.now → CoversAt g right side.position lists k
+
+pub record Stands (g : Linkage) (lefts rights : List Side) (left_lists right_lists : List (List Site)) (members : List Member) : Type 0 where
+  pub chosen : AreChosen g members
+  pub left : CoversAll g false lefts left_lists
+  pub right : CoversAll g true rights right_lists
+
+-- some members go, and what stood for a linkage with few unlinked words still does
+pub record KeepsStanding (most : ℕ) (lefts rights : List Side) (old_left old_right : List (List Site)) (old : List Member) (new_left new_right : List (List Site)) (new : List Member) : Type 0 where
+  pub test : Member → Bool
+  pub filtered : new ≡ filter test old
+  pub long_left : length new_left ≡ length old_left
+  pub long_right : length new_right ≡ length old_right
+  pub stands : (g : Linkage) → Fits most g → Stands g lefts rights old_left old_right old → Stands g lefts rights new_left new_right new
+
+-- some members go that no linkage of n words with few unlinked ones uses
+pub record KeepsChosen (n most : ℕ) (old new : List Member) : Type 0 where
+  pub test : Member → Bool
+  pub filtered : new ≡ filter test old
+  pub chosen : (g : Linkage) → Fits most g → length g.chosen ≡ n → AreChosen g old → AreChosen g new

@@ -1,0 +1,4 @@
+pub mod Sharp
+pub mod Sites
+pub mod Members
+pub mod Bounds

@@ -1,0 +1,119 @@
+-- Sites: connectors of lists with the distances of their partners, and tables of sites.
+use Rattle.std.specs.Prelude.{◌≡◌, ℕ, ◌+◌, ◌-◌, ◌*◌, ◌%◌, ◌<◌, ◌≤◌, Bool, true, false, cond, List, length, map, fold, Some, slice_get}
+use Rattle.std.specs.List.{Contains}
+use Rattle.std.specs.Global.{Vec}
+use Rattle.lg_gram.specs.Connectors.{Connector, Match}
+use Rattle.lg_gram.specs.Linkages.{link_length}
+use Rattle.lg_gram.specs.declared.linkage.Link.{Link}
+use Rattle.lg_sharpen.specs.declared.side.Side.{Side}
+use Rattle.lg_sharpen.specs.declared.side.Site.{Site}
+
+-- the position at this end of a link, and the place there: the end of the list to the right, or to the left
+abbrev pub own : Bool → Link → ℕ
+own right l = cond right l.left l.right
+
+abbrev pub place_on : Bool → Link → ℕ
+place_on right l = cond right l.lplace l.rplace
+
+-- the position that lies this far to the right, or to the left
+abbrev pub across : Bool → ℕ → ℕ → ℕ
+across right i d = cond right (i + d) (i - d)
+
+-- two connectors match, the first of a list to the right, or to the left
+abbrev pub MatchOn : Bool → Connector → Connector → Type 0
+MatchOn right a b = cond right (Match a b) (Match b a)
+
+-- A site, of a list to the right, or to the left, and one that lies this far away can be linked. Where both are the nearest of their
+-- lists the distance is no more than the most.
+pub record MeetsOver (right : Bool) (most d : ℕ) (s other : Site) : Type 0 where
+  pub from : other.span.from ≤ d
+  pub end : d < other.span.end
+  pub short : s.nearest ≡ true → other.nearest ≡ true → d ≤ most
+  pub match_at : MatchOn right s.connector other.connector
+
+-- what can be linked to the second can be linked to the first
+pub record IsWider (wide s : Site) : Type 0 where
+  pub from : wide.span.from ≤ s.span.from
+  pub end : s.span.end ≤ wide.span.end
+  pub nearest : wide.nearest ≡ true → s.nearest ≡ true
+  pub connector : wide.connector ≡ s.connector
+
+-- more than the length of each link that a position of n can have, to the right, or to the left
+abbrev pub IsReach : Bool → ℕ → ℕ → ℕ → Type 0
+IsReach right n i r = (l : Link) → l.left < l.right → l.right < n → own right l ≡ i → link_length l < r
+
+-- the site of a place of a list allows all distances below this one
+pub record IsStarted (cs : List Connector) (end p : ℕ) (s : Site) : Type 0 where
+  pub connector : slice_get cs p ≡ Some s.connector
+  pub from : s.span.from ≤ 1
+  pub end_is : end ≤ s.span.end
+  pub nearest : s.nearest ≡ true → (p ≡ 0) × (s.connector.multi ≡ false)
+
+pub record AreStarted (cs : List Connector) (end : ℕ) (sites : List Site) : Type 0 where
+  pub same_length : length sites ≡ length cs
+  pub each : (p : ℕ) (s : Site) → slice_get sites p ≡ Some s → IsStarted cs end p s
+
+-- each list has a site for each connector, which allows all distances
+pub record AreStartedAll (right : Bool) (n : ℕ) (sides : List Side) (lists : List (List Site)) : Type 0 where
+  pub same_length : length lists ≡ length sides
+  pub each : (k : ℕ) (side : Side) → slice_get sides k ≡ Some side → (end : ℕ) × IsReach right n side.position end × (sites : List Site) × (slice_get lists k ≡ Some sites) × AreStarted side.list.now end sites
+
+-- the bucket of some capital letters, and the cell of a position and its bucket
+abbrev pub bucket_of : List ℕ → ℕ
+bucket_of caps = fold (λ n c. (n * 31 + c) % 64) 0 caps
+
+abbrev pub cell_of : ℕ → List ℕ → ℕ
+cell_of i caps = (i % 256) * 64 + bucket_of caps
+
+-- a table has the site, of this position, in its cell
+abbrev pub Holds : List (List Site) → ℕ → Site → Type 0
+Holds table i s = (cell : List Site) × (slice_get table (cell_of i s.connector.caps) ≡ Some cell) × Contains cell s
+
+-- a table has a site that is as wide
+abbrev pub IsHeld : List (List Site) → ℕ → Site → Type 0
+IsHeld table i s = (wide : Site) × Holds table i wide × IsWider wide s
+
+-- a cell keeps its sites, and has one that is as wide
+pub record AddsTo (s : Site) (old new : List Site) : Type 0 where
+  pub kept : (x : Site) → Contains old x → Contains new x
+  pub held : (wide : Site) × Contains new wide × IsWider wide s
+
+-- a table keeps its sites, and has the first ones of a list of position i
+pub record AddsSites (i : ℕ) (sites : List Site) (places : ℕ) (old new : List (List Site)) : Type 0 where
+  pub long : length new ≡ length old
+  pub kept : (j : ℕ) (x : Site) → Holds old j x → Holds new j x
+  pub each : (p : ℕ) (s : Site) → p < places → slice_get sites p ≡ Some s → IsHeld new i s
+
+-- the table has the sites of the lists in use
+abbrev pub IsTableOf : List Side → List Bool → List (List Site) → List (List Site) → Type 0
+IsTableOf sides used lists table = (k : ℕ) (side : Side) (sites : List Site) (p : ℕ) (s : Site) → slice_get sides k ≡ Some side → slice_get used k ≡ Some true
+    → slice_get lists k ≡ Some sites → slice_get sites p ≡ Some s → IsHeld table side.position s
+
+-- the table has a partner of a site of position i over this distance
+abbrev pub HasPartner : Bool → ℕ → ℕ → List (List Site) → Site → ℕ → Type 0
+HasPartner right most i table s d = (other : Site) × Holds table (across right i d) other × MeetsOver right most d s other
+
+-- no partner is nearer than this, and none is as far as this
+abbrev pub IsFrom : Bool → ℕ → ℕ → List (List Site) → Site → ℕ → Type 0
+IsFrom right most i table s r = (d : ℕ) → d < s.span.end → s.span.from ≤ d → HasPartner right most i table s d → r ≤ d
+
+abbrev pub IsBelow : Bool → ℕ → ℕ → List (List Site) → Site → ℕ → Type 0
+IsBelow right most i table s r = (d : ℕ) → d < s.span.end → s.span.from ≤ d → HasPartner right most i table s d → d < r
+
+-- no more than any distance from here on that is more than another, and more than any distance below an end that is less than another
+abbrev pub IsAfter : ℕ → ℕ → ℕ → Type 0
+IsAfter from before r = (d : ℕ) → from ≤ d → before < d → r ≤ d
+
+abbrev pub IsAhead : ℕ → ℕ → ℕ → Type 0
+IsAhead end behind r = (d : ℕ) → d < end → d + 1 < behind → d < r
+
+-- no more than the distances of a place, which are more than one of the place before
+abbrev pub IsFromOf : List Site → ℕ → ℕ → Type 0
+IsFromOf sites p r = (d : ℕ) (s : Site) → slice_get sites p ≡ Some s → s.span.from ≤ d → ((q : ℕ) (t : Site) → q + 1 ≡ p → slice_get sites q ≡ Some t → t.span.from < d) → r ≤ d
+
+-- more than the distances of a place, which are less than one of the next place
+abbrev pub IsEndOf : List Site → ℕ → ℕ → Type 0
+IsEndOf sites p r = (d : ℕ) (s : Site) → slice_get sites p ≡ Some s → d < s.span.end → ((t : Site) → slice_get sites (p + 1) ≡ Some t → d + 1 < t.span.end) → d < r
+
+abbrev pub items_in : List (Vec Site) → List (List Site)
+items_in lists = map (λ v. v.items) lists

@@ -1,0 +1,13 @@
+//! A sharper problem: without disjuncts that no linkage with few unlinked words can use.
+#![tactic(auto)]
+
+mod hints;
+mod member;
+mod narrow;
+mod problem;
+mod rounds;
+mod side;
+mod start;
+mod table;
+
+pub use problem::{sharpen, sharpened};

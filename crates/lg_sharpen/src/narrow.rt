@@ -1,0 +1,166 @@
+//! How far away the partners of a list's connectors may be.
+ghost use Rattle.std.specs.Prelude.{◌≡◌, ◌<◌, length};
+ghost use Rattle.lg_sharpen.specs.Sites.{IsAfter, IsAhead, IsBelow, IsEndOf, IsFrom, IsFromOf, items_in};
+ghost use Rattle.lg_sharpen.specs.Bounds.{IsNarrowed, Narrows, NarrowsAll};
+
+use crate::side::{Side, Site, Span};
+use crate::table::has_partner;
+
+/// Narrows the sites of each list in use, of lists to the right, or to the left, to where the table has partners.
+pub(crate) fn narrow_all(
+    right: bool,
+    most: u64,
+    sides: &[Side<'_>],
+    used: &[bool],
+    table: &[Vec<Site>],
+    lists: &mut [Vec<Site>],
+)
+    requires same_length { length used.now ≡ length sides.now }
+    requires long { length lists.old ≡ length sides.now }
+    requires cells { length table.now ≡ 16384 }
+    ensures { NarrowsAll right most sides.now (items_in table.now) (items_in lists.old) (items_in lists.new) }
+{
+    for index in 0..sides.len() {
+        if used[index] {
+            narrow(right, most, sides[index].position, table, &mut lists[index]);
+        }
+    }
+}
+
+fn narrow(right: bool, most: u64, position: u32, table: &[Vec<Site>], sites: &mut Vec<Site>)
+    requires { length table.now ≡ 16384 }
+    ensures { Narrows right most position (items_in table.now) sites.old.items sites.new.items }
+{
+    narrow_up(right, most, position, table, sites);
+    narrow_down(right, most, position, table, sites);
+}
+
+// From the first place to the last, so that each is farther than the one before.
+fn narrow_up(right: bool, most: u64, position: u32, table: &[Vec<Site>], sites: &mut Vec<Site>)
+    requires { length table.now ≡ 16384 }
+    ensures { Narrows right most position (items_in table.now) sites.old.items sites.new.items }
+{
+    let count = sites.len();
+    for place in 0..count {
+        sites[place] = narrowed(right, most, position, table, sites, place);
+    }
+}
+
+// From the last place to the first, so that each is nearer than the next.
+fn narrow_down(right: bool, most: u64, position: u32, table: &[Vec<Site>], sites: &mut Vec<Site>)
+    requires { length table.now ≡ 16384 }
+    ensures { Narrows right most position (items_in table.now) sites.old.items sites.new.items }
+{
+    let count = sites.len();
+    for behind in 0..count {
+        let place = count - 1 - behind;
+        sites[place] = narrowed(right, most, position, table, sites, place);
+    }
+}
+
+// The site of a place with the distances, of those that the sites beside it leave, from that of the first partner to that of the last.
+fn narrowed(
+    right: bool,
+    most: u64,
+    position: u32,
+    table: &[Vec<Site>],
+    sites: &[Site],
+    place: usize,
+) -> Site
+    requires cells { length table.now ≡ 16384 }
+    requires within { place < length sites.now }
+    ensures { IsNarrowed right most position (items_in table.now) sites.now place result }
+{
+    let from = from_of(sites, place);
+    let end = end_of(sites, place);
+    let old = sites[place];
+    let site = Site {
+        connector: old.connector,
+        span: Span { from, end },
+        nearest: old.nearest,
+    };
+    let nearer = first(right, most, position, table, &site);
+    let farther = last(right, most, position, table, &site);
+    Site {
+        connector: old.connector,
+        span: Span {
+            from: nearer,
+            end: farther,
+        },
+        nearest: old.nearest,
+    }
+}
+
+fn from_of(sites: &[Site], place: usize) -> u32
+    requires { place < length sites.now }
+    ensures { IsFromOf sites.now place result }
+{
+    let here = sites[place];
+    if place == 0 {
+        return here.span.from;
+    }
+    let earlier = place - 1;
+    let before = sites[earlier];
+    after(here.span.from, before.span.from)
+}
+
+fn after(from: u32, before: u32) -> u32
+    ensures { IsAfter from before result }
+{
+    if before < from {
+        from
+    } else {
+        before.saturating_add(1)
+    }
+}
+
+fn end_of(sites: &[Site], place: usize) -> u32
+    requires { place < length sites.now }
+    ensures { IsEndOf sites.now place result }
+{
+    let here = sites[place];
+    let later = place + 1;
+    if later == sites.len() {
+        return here.span.end;
+    }
+    let behind = sites[later];
+    ahead(here.span.end, behind.span.end)
+}
+
+fn ahead(end: u32, behind: u32) -> u32
+    ensures { IsAhead end behind result }
+{
+    if end < behind {
+        end
+    } else {
+        behind.saturating_sub(1)
+    }
+}
+
+// The distance of the first partner, or the end.
+fn first(right: bool, most: u64, position: u32, table: &[Vec<Site>], site: &Site) -> u32
+    requires { length table.now ≡ 16384 }
+    ensures { IsFrom right most position (items_in table.now) site.now result }
+{
+    for distance in site.span.from..site.span.end {
+        if has_partner(right, most, position, site, distance, table) {
+            return distance;
+        }
+    }
+    site.span.end
+}
+
+// The distance behind the last partner.
+fn last(right: bool, most: u64, position: u32, table: &[Vec<Site>], site: &Site) -> u32
+    requires { length table.now ≡ 16384 }
+    ensures { IsBelow right most position (items_in table.now) site.now result }
+{
+    let mut end = site.span.end;
+    while site.span.from < end {
+        if has_partner(right, most, position, site, end - 1, table) {
+            return end;
+        }
+        end -= 1;
+    }
+    end
+}

@@ -1,0 +1,104 @@
+//! Sharper problems.
+ghost use Rattle.std.specs.Prelude.{◌≡◌, ◌==◌, ℕ, length, map, IfOk, IfSome};
+ghost use Rattle.std.specs.List.{filter, range_with_len};
+ghost use Rattle.lg_gram.specs.Problems.{IsProblem};
+ghost use Rattle.lg_sharpen.specs.Members.{row_at};
+ghost use Rattle.lg_sharpen.specs.Sharp.{IsSharpened};
+
+use crate::member::{Member, members_of};
+use crate::rounds::settle;
+use lg_base::NoMemory;
+use lg_gram::{Disjunct, Disjuncts, Positions, Problem};
+use std::alloc::Global;
+
+// With fewer disjuncts than this a problem stays as it is.
+const SMALL: usize = 200;
+
+/// A problem with the good linkages that have at most so many unlinked words, and with fewer disjuncts.
+///
+/// Each connector has a nearest and a farthest position that a partner of it can have, by those of its neighbours on the list: links of
+/// the connectors of a side end one behind the other. A partner lies within these bounds, and the connector within the partner's. Where both
+/// connectors of a link are the nearest of their lists, and neither may take more links, all words between them are unlinked; so those
+/// are no more than `nulls`. What cannot have all its links by this is taken away, again and again until nothing changes. A problem with
+/// fewer than 200 disjuncts stays as it is. The only error is running out of memory.
+pub fn sharpen(alloc: Global, problem: Problem, nulls: u32) -> Result<Problem, NoMemory>
+    ensures { IfOk result (IsSharpened problem nulls) }
+{
+    if is_small(&problem) {
+        return Ok(problem);
+    }
+    let sharp = sharper(alloc, &problem, nulls)?;
+    Ok(sharp)
+}
+
+/// The same beside the problem, which stays; none where the problem has fewer than 200 disjuncts.
+pub fn sharpened(alloc: Global, problem: &Problem, nulls: u32) -> Result<Option<Problem>, NoMemory>
+    ensures { IfOk result (λ sharp. IfSome sharp (IsSharpened problem.now nulls)) }
+{
+    if is_small(problem) {
+        return Ok(None);
+    }
+    let sharp = sharper(alloc, problem, nulls)?;
+    Ok(Some(sharp))
+}
+
+// Whether sharpening would cost more than it saves.
+fn is_small(problem: &Problem) -> bool
+    ensures { IsProblem problem.now }
+{
+    let mut left = SMALL;
+    for position in problem.positions() {
+        let count = position.items().len();
+        if count >= left {
+            return false;
+        }
+        left -= count;
+    }
+    true
+}
+
+fn sharper(alloc: Global, problem: &Problem, nulls: u32) -> Result<Problem, NoMemory>
+    ensures { IfOk result (IsSharpened problem.now nulls) }
+{
+    let positions = problem.positions();
+    let words = positions.len() as u32;
+    let most = nulls as u64 + 1;
+    let mut lefts = Vec::new(alloc);
+    let mut rights = Vec::new(alloc);
+    let mut members = members_of(alloc, positions, &mut lefts, &mut rights)?;
+    settle(alloc, words, most, &lefts, &rights, &mut members)?;
+    let rows = rows_of(alloc, words, &members)?;
+    Ok(Problem::of(rows).unwrap())
+}
+
+// The disjuncts of the members, by position.
+fn rows_of(alloc: Global, words: u32, members: &[Member<'_>]) -> Result<Positions, NoMemory>
+    ensures { IfOk result (λ rows. rows ≡ map (row_at members.now) (range_with_len 0 words)) }
+{
+    let mut rows = Vec::new(alloc);
+    for position in 0..words {
+        let row = row_of(alloc, position, members)?;
+        rows.push(row)?;
+    }
+    Ok(Positions::of(rows))
+}
+
+fn row_of(alloc: Global, position: u32, members: &[Member<'_>]) -> Result<Disjuncts, NoMemory>
+    ensures { IfOk result (λ row. row ≡ row_at members.now position) }
+{
+    let mut row = Vec::new(alloc);
+    for member in members {
+        if member.position == position {
+            let disjunct = copy_of(member.disjunct)?;
+            row.push(disjunct)?;
+        }
+    }
+    Ok(Disjuncts::of(row))
+}
+
+fn copy_of(disjunct: &Disjunct) -> Result<Disjunct, NoMemory>
+    ensures { IfOk result (λ copy. copy ≡ disjunct.now) }
+{
+    let copy = disjunct.clone()?;
+    Ok(copy)
+}

@@ -1,0 +1,156 @@
+//! Rounds of sharpening.
+ghost use Rattle.std.specs.Prelude.{◌≡◌, ◌<◌, ◌↔◌, false, length, slice_index_or, IfOk, IsTrue, OnOk};
+ghost use Rattle.std.specs.List.{All};
+ghost use Rattle.lg_sharpen.specs.Bounds.{AreOpen, IsOpen, KeepsChosen, KeepsStanding};
+ghost use Rattle.lg_sharpen.specs.Members.{AreUsed, IsKnown, side_on};
+ghost use Rattle.lg_sharpen.specs.Sites.{items_in};
+
+use crate::member::Member;
+use crate::narrow::narrow_all;
+use crate::side::{Side, Site};
+use crate::start::sites_of;
+use crate::table::table_of;
+use lg_base::NoMemory;
+use std::alloc::Global;
+
+/// Takes members away that no linkage can choose in which fewer than `most` words are unlinked.
+pub(crate) fn settle(
+    alloc: Global,
+    words: u32,
+    most: u64,
+    lefts: &[Side<'_>],
+    rights: &[Side<'_>],
+    members: &mut Vec<Member<'_>>,
+) -> Result<(), NoMemory>
+    requires { All (IsKnown lefts.now rights.now) members.old.items }
+    ensures { OnOk result (KeepsChosen words most members.old.items members.new.items) }
+{
+    let mut left_lists = sites_of(alloc, false, words, lefts)?;
+    let mut right_lists = sites_of(alloc, true, words, rights)?;
+    rounds(
+        alloc,
+        most,
+        lefts,
+        rights,
+        &mut left_lists,
+        &mut right_lists,
+        members,
+    )?;
+    Ok(())
+}
+
+// Rounds until nothing changes.
+fn rounds(
+    alloc: Global,
+    most: u64,
+    lefts: &[Side<'_>],
+    rights: &[Side<'_>],
+    left_lists: &mut [Vec<Site>],
+    right_lists: &mut [Vec<Site>],
+    members: &mut Vec<Member<'_>>,
+) -> Result<(), NoMemory>
+    requires known { All (IsKnown lefts.now rights.now) members.old.items }
+    requires left { length left_lists.old ≡ length lefts.now }
+    requires right { length right_lists.old ≡ length rights.now }
+    ensures { OnOk result (KeepsStanding most lefts.now rights.now (items_in left_lists.old) (items_in right_lists.old) members.old.items (items_in left_lists.new) (items_in right_lists.new) members.new.items) }
+{
+    let mut before = u64::MAX;
+    let mut size = size_of(left_lists, right_lists, members.len());
+    while size < before {
+        before = size;
+        round(alloc, most, lefts, rights, left_lists, right_lists, members)?;
+        size = size_of(left_lists, right_lists, members.len());
+    }
+    Ok(())
+}
+
+// Narrows the lists of the members, and takes those away of which a connector has no partner left.
+fn round(
+    alloc: Global,
+    most: u64,
+    lefts: &[Side<'_>],
+    rights: &[Side<'_>],
+    left_lists: &mut [Vec<Site>],
+    right_lists: &mut [Vec<Site>],
+    members: &mut Vec<Member<'_>>,
+) -> Result<(), NoMemory>
+    requires known { All (IsKnown lefts.now rights.now) members.old.items }
+    requires left { length left_lists.old ≡ length lefts.now }
+    requires right { length right_lists.old ≡ length rights.now }
+    ensures { OnOk result (KeepsStanding most lefts.now rights.now (items_in left_lists.old) (items_in right_lists.old) members.old.items (items_in left_lists.new) (items_in right_lists.new) members.new.items) }
+{
+    let left_used = used(alloc, false, lefts.len(), members)?;
+    let right_used = used(alloc, true, rights.len(), members)?;
+    let left_sites = table_of(alloc, lefts, &left_used, left_lists)?;
+    narrow_all(true, most, rights, &right_used, &left_sites, right_lists);
+    let right_sites = table_of(alloc, rights, &right_used, right_lists)?;
+    narrow_all(false, most, lefts, &left_used, &right_sites, left_lists);
+    let left_open = which_open(alloc, left_lists)?;
+    let right_open = which_open(alloc, right_lists)?;
+    members.retain(|m| is_true(&left_open, m.left) && is_true(&right_open, m.right));
+    Ok(())
+}
+
+// Which of so many lists members have.
+fn used(
+    alloc: Global,
+    right: bool,
+    count: usize,
+    members: &[Member<'_>],
+) -> Result<Vec<bool>, NoMemory>
+    requires { All (λ m. side_on right m < count) members.now }
+    ensures { IfOk result (λ used. AreUsed right count members.now used.items) }
+{
+    let mut used = vec![in alloc; false; count]?;
+    for member in members {
+        used[member.side(right)] = true;
+    }
+    Ok(used)
+}
+
+// Which lists have a distance left for each of their sites.
+fn which_open(alloc: Global, lists: &[Vec<Site>]) -> Result<Vec<bool>, NoMemory>
+    ensures { IfOk result (λ flags. AreOpen (items_in lists.now) flags.items) }
+{
+    let mut flags = Vec::new(alloc);
+    for index in 0..lists.len() {
+        let flag = is_open(&lists[index]);
+        flags.push(flag)?;
+    }
+    Ok(flags)
+}
+
+fn is_open(sites: &[Site]) -> bool
+    ensures { IsTrue result ↔ All IsOpen sites.now }
+{
+    sites.iter().all(|s| s.span.from < s.span.end)
+}
+
+fn is_true(flags: &[bool], index: usize) -> bool
+    ensures { result ≡ slice_index_or flags.now index false }
+{
+    flags.get(index).copied().unwrap_or(false)
+}
+
+// How much is left: the members, and the distances of all sites. Rounds go on while it falls.
+fn size_of(lefts: &[Vec<Site>], rights: &[Vec<Site>], members: usize) -> u64 {
+    (members as u64)
+        .saturating_add(widths(lefts))
+        .saturating_add(widths(rights))
+}
+
+fn widths(lists: &[Vec<Site>]) -> u64 {
+    let mut sum: u64 = 0;
+    for list in lists {
+        sum = sum.saturating_add(width(list));
+    }
+    sum
+}
+
+fn width(sites: &[Site]) -> u64 {
+    let mut sum: u64 = 0;
+    for site in sites {
+        sum = sum.saturating_add(u64::from(site.span.end.saturating_sub(site.span.from)));
+    }
+    sum
+}
