@@ -113,7 +113,12 @@ fn is_supported(prune: Prune, problem: &Problem, position: usize, disjunct: &Dis
 }
 
 // The disjuncts of a position that are supported.
-fn supported(alloc: Global, prune: Prune, problem: &Problem, position: usize) -> Result<Disjuncts, Fail>
+fn supported(
+    alloc: Global,
+    prune: Prune,
+    problem: &Problem,
+    position: usize,
+) -> Result<Disjuncts, Fail>
     requires { position < length problem.now }
 {
     let mut kept = Vec::new(alloc);
@@ -163,12 +168,7 @@ fn agrees<R: Threads + Sync>(rt: &R, alloc: Global, seed: u32) -> Result<bool, F
     Ok(are_same(all.as_slice(), plain.as_slice()))
 }
 
-fn all_agree<R: Threads + Sync>(
-    rt: &R,
-    alloc: Global,
-    from: u32,
-    to: u32,
-) -> Result<bool, Fail> {
+fn all_agree<R: Threads + Sync>(rt: &R, alloc: Global, from: u32, to: u32) -> Result<bool, Fail> {
     for seed in from..to {
         if !agrees(rt, alloc, seed)? {
             return Ok(false);

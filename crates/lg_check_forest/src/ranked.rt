@@ -42,12 +42,7 @@ fn agrees<R: Threads + Sync>(rt: &R, alloc: Global, seed: u32) -> Result<bool, F
     Ok(are_same(all.as_slice(), plain.as_slice()) && are_same(list.as_slice(), plain.as_slice()))
 }
 
-fn all_agree<R: Threads + Sync>(
-    rt: &R,
-    alloc: Global,
-    from: u32,
-    to: u32,
-) -> Result<bool, Fail> {
+fn all_agree<R: Threads + Sync>(rt: &R, alloc: Global, from: u32, to: u32) -> Result<bool, Fail> {
     for seed in from..to {
         if !agrees(rt, alloc, seed)? {
             return Ok(false);
