@@ -2,13 +2,14 @@
 use Rattle.std.proofs.Common.{◌≡◌, ℕ, zero, suc, ◌+◌, ◌-◌, ◌<◌, ◌≤◌, List, [], ◌∷◌, length, get_or, refl, sym, ap, ◌∙◌, subst, Option, Some, None, inl, inr, Contains, arith}
 use Rattle.std.specs.List.{slice_get}
 use Rattle.std.proofs.lemmas.Option.{same_Some, slice_get_within}
+use Rattle.std.proofs.lemmas.List.Elements.{Contains-append_right, Contains-append_cases, Contains-push_cases}
 use Rattle.lg_gram.specs.Connectors.{Connector}
 use Rattle.lg_gram.specs.Linkages.{Linkage}
 use Rattle.lg_gram.specs.Rules.{chosen_at, left_list, right_list, rights_of, lefts_of, HasLink, Rules, Good}
 use Rattle.lg_gram.specs.declared.disjunct.Disjunct.{Disjunct}
 use Rattle.lg_gram.specs.declared.linkage.Link.{Link}
 use Rattle.lg_pprune.specs.Alive.{ArePartners, SupportsItself, IsAlive, PruningKeepsLinkages}
-use Rattle.lg_pprune.proofs.Elements.{contains_none, contains_cases, contains_later, get_in, pair_same}
+use Rattle.lg_pprune.proofs.Elements.{get_in}
 
 -- the linked positions from i on, with their disjuncts
 abbrev pub chosen_from : ℕ → List (Option Disjunct) → List (ℕ × Disjunct)
@@ -20,15 +21,18 @@ chosen_in : (i : ℕ) (os : List (Option Disjunct)) (k j : ℕ) (d : Disjunct) �
 chosen_in i [] k j d f e = absurd cc
 chosen_in i (None ∷ os) zero j d f e = absurd cc
 chosen_in i (None ∷ os) (suc k) j d f e = chosen_in (suc i) os k j d (omega arith) e
-chosen_in i (Some c ∷ os) zero j d f e = (zero, omega arith, pair_same i j c d (omega arith) (same_Some c d e))
-chosen_in i (Some c ∷ os) (suc k) j d f e = contains_later (i, c) (chosen_from (suc i) os) (j, d) (chosen_in (suc i) os k j d (omega arith) e)
+chosen_in i (Some c ∷ os) zero j d f e = let ei : i ≡ j = omega arith in let ec = same_Some c d e in (zero, omega arith, λ t. (ei t, ec t))
+chosen_in i (Some c ∷ os) (suc k) j d f e = Contains-append_right ((i, c) ∷ []) (chosen_from (suc i) os) (j, d) (chosen_in (suc i) os k j d (omega arith) e)
 
 chosen_out : (i : ℕ) (os : List (Option Disjunct)) (x : ℕ × Disjunct) → Contains (chosen_from i os) x → (k : ℕ) × (x.0 ≡ i + k) × (get_or os k None ≡ Some x.1)
-chosen_out i [] x c = absurd (contains_none x c)
+chosen_out i [] x c = absurd (let l = c.1 in omega arith)
 chosen_out i (None ∷ os) x c = let r = chosen_out (suc i) os x c in let e = r.1 in (suc r.0, omega arith, r.2)
 chosen_out i (Some d ∷ os) x c =
-    elim (contains_cases (i, d) (chosen_from (suc i) os) x c) [
-      | inl e ↦ (let f : i ≡ x.0 = ap (λ z. z.0) e in (zero, omega arith, ap (λ z. Some z.1) e))
+    elim (Contains-append_cases ((i, d) ∷ []) (chosen_from (suc i) os) x c) [
+      | inl o ↦ elim (Contains-push_cases [] (i, d) x o) [
+        | inl n ↦ absurd (let l = n.1 in omega arith)
+        | inr e ↦ (let f : i ≡ x.0 = ap (λ z. z.0) e in (zero, omega arith, ap (λ z. Some z.1) e))
+      ]
       | inr h ↦ (let r = chosen_out (suc i) os x h in let e = r.1 in (suc r.0, omega arith, r.2))
     ]
 

@@ -3,5 +3,4 @@ pub mod Chosen
 pub mod Tables
 pub mod Settling
 pub mod Supporting
-pub mod Adding
 pub mod Pruned

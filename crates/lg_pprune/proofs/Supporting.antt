@@ -1,63 +1,19 @@
 -- What a round finds: which members have partners among all.
-use Rattle.std.proofs.Common.{◌≡◌, ℕ, zero, suc, ◌+◌, ◌-◌, ◌<◌, ◌≤◌, List, [], ◌∷◌, ◌++◌, length, get_or, set, take, map, replicate, refl, sym, ap, ◌∙◌, subst, ◌↔◌, Some, inl, inr, Bool, true, false, not, cond, ◌&&◌, Contains, arith}
-use Rattle.std.specs.List.{slice_get, All, filter}
-use Rattle.std.proofs.lemmas.Bool.{cases_eq, and_from, and_parts}
+use Rattle.std.proofs.Common.{◌≡◌, ℕ, zero, suc, ◌+◌, ◌-◌, List, [], ◌∷◌, length, get_or, refl, sym, ap, ◌∙◌, subst, ◌↔◌, Some, Bool, true, false, not, cond, Contains, arith}
+use Rattle.std.specs.List.{slice_get, All}
+use Rattle.std.proofs.lemmas.Bool.{and_from, and_parts}
 use Rattle.std.proofs.lemmas.Option.{same_Some, slice_get_within}
-use Rattle.std.proofs.lemmas.List.{length-set, length-replicate, take_more, take_all}
-use Rattle.std.proofs.lemmas.List.Elements.{All-contains, Contains-append_left, Contains-push, Contains-push_cases}
+use Rattle.std.proofs.lemmas.List.Elements.{All-contains}
 use Rattle.lg_gram.specs.Connectors.{Connector, Match}
 use Rattle.lg_gram.specs.declared.disjunct.Disjunct.{Disjunct}
 use Rattle.lg_pprune.specs.Alive.{ArePartners}
 use Rattle.lg_pprune.specs.Sites.{IsSiteOf, Meets, MeetsOn, Holds, IsTableOf, IsServed, AreServed}
-use Rattle.lg_pprune.specs.Members.{list_on, side_on, seen_of, IsSideAt, IsKnown, AreUsed, PartnersOn, IsSupportedOn, KeepsSupported}
-use Rattle.lg_pprune.specs.declared.side.Side.{Side}
-use Rattle.lg_pprune.specs.declared.side.Site.{Site}
-use Rattle.lg_pprune.specs.declared.member.Member.{Member}
-use Rattle.lg_pprune.proofs.Elements.{contains_none, get_in, get_set_same, get_set_other, map_in, map_out}
-
-none_true : (n k : ℕ) → slice_get (replicate n false) k ≡ Some true → ⊥
-none_true zero k e = absurd cc
-none_true (suc n) zero e = let f : ◌≡◌ {A = Bool} false true = same_Some false true e in absurd cc
-none_true (suc n) (suc k) e = none_true n k e
-
-pub used_none : (right : Bool) (count : ℕ) (used : List Bool) → used ≡ replicate count false → AreUsed right count [] used
-used_none right count used e = record {
-  length_is = ap length e ∙ length-replicate count false;
-  each = λ k. ((λ h. absurd (none_true count k (subst (λ z. slice_get z k ≡ Some true) e h))), (λ r. absurd (contains_none r.0 r.1)));
-}
-
-taken : (ms : List Member) (i : ℕ) (m : Member) → i < length ms → m ≡ get_or ms i m → take i ms ++ m ∷ [] ≡ take (i + 1) ms
-taken ms i m h e = subst (λ z. take i ms ++ z ∷ [] ≡ take (i + 1) ms) (sym e) (sym (take_more ms i m h))
-
-pub used_more : (right : Bool) (count : ℕ) (ms : List Member) (i : ℕ) (m : Member) (k : ℕ) (used : List Bool) → i < length ms → m ≡ get_or ms i m → k ≡ side_on right m → k < count
-    → AreUsed right count (take i ms) used → AreUsed right count (take (i + 1) ms) (set used k true)
-used_more right count ms i m k used h em ek l a =
-    let le = a.length_is in
-    subst (λ z. AreUsed right count z (set used k true)) (taken ms i m h em) (record {
-      length_is = length-set used k true ∙ a.length_is;
-      each = λ j. elim (cases_eq k j) [
-        | inl e ↦ ((λ g. (m, Contains-push (take i ms) m, sym ek ∙ e)), (λ r. subst (λ z. slice_get (set used k true) z ≡ Some true) e (get_set_same used k true (omega arith))))
-        | inr n ↦ (let g = get_set_other used k j true n in (
-          (λ b. let r = (a.each j).0 (sym g ∙ b) in (r.0, Contains-append_left (take i ms) (m ∷ []) r.0 r.1, r.2)),
-          (λ r. elim (Contains-push_cases (take i ms) m r.0 r.1) [
-            | inl c ↦ g ∙ (a.each j).1 (r.0, c, r.2)
-            | inr e ↦ absurd (n (ek ∙ ap (λ z. side_on right z) e ∙ r.2))
-          ]),
-        ))
-      ];
-    })
-
-pub used_all : (right : Bool) (count : ℕ) (ms : List Member) (i : ℕ) (used : List Bool) → length ms ≤ i → AreUsed right count (take i ms) used → AreUsed right count ms used
-used_all right count ms i used h a = subst (λ z. AreUsed right count z used) (take_all i ms h) a
-
--- the known side of a member
-side_known : (right : Bool) (lefts rights : List Side) (m : Member) → IsKnown lefts rights m → IsSideAt (cond right rights lefts) (side_on right m) m.position (list_on right m.disjunct.now)
-side_known true lefts rights m k = k.right
-side_known false lefts rights m k = k.left
-
-pub side_below : (right : Bool) (lefts rights : List Side) (ms : List Member) → All (IsKnown lefts rights) ms → All (λ m. side_on right m < length (cond right rights lefts)) ms
-side_below right lefts rights ms known = λ k d h.
-    let s = side_known right lefts rights (get_or ms k d) (known k d h) in slice_get_within (cond right rights lefts) (side_on right (get_or ms k d)) s.side s.at
+use Rattle.lg_member.specs.Members.{list_on, side_on, IsSideAt, IsKnown, AreUsed, Have, Keeps, are_on}
+use Rattle.lg_member.specs.declared.side.Side.{Side}
+use Rattle.lg_member.specs.declared.member.Member.{Member}
+use Rattle.lg_pprune.specs.Supports.{PartnersOn, IsSupportedOn, IsSupported, KeepsSupported}
+use Rattle.lg_pprune.specs.declared.site.Site.{Site}
+use Rattle.lg_pprune.proofs.Elements.{get_in}
 
 site_of_side : (right : Bool) (n : ℕ) (side : Side) (i : ℕ) (cs : List Connector) (q : ℕ) (s : Site) → side.position ≡ i → side.list.now ≡ cs → IsSiteOf right n side.position side.list.now q s → IsSiteOf right n i cs q s
 site_of_side right n side i cs q s ei ec is = subst (λ z. IsSiteOf right n i z q s) ec (subst (λ z. IsSiteOf right n z side.list.now q s) ei is)
@@ -135,18 +91,18 @@ made right n i cs p x e = (
 )
 
 served_supported : (right : Bool) (n : ℕ) (ms : List Member) (table : List (List Site)) → ((s : Site) → Holds table s ↔ HasSite (not right) n ms s) → (i : ℕ) (a : Disjunct)
-    → IsServed right n table i (list_on right a) ↔ IsSupportedOn right n (map seen_of ms) i a
+    → IsServed right n table i (list_on right a) ↔ IsSupportedOn right n (Have ms) i a
 served_supported right n ms table has i a = (
   (λ served p h.
       let x = get_in (list_on right a) p h in
       let s = made right n i (list_on right a) p x.0 x.1 in
       let o = served p s.0 s.1 in
       let m = (has o.0).0 o.1 in
-      (m.0.position, m.0.disjunct.now, m.2, map_in seen_of ms m.0 m.1, (meets_partners right n i a p s.0 m.0.position m.0.disjunct.now m.2 o.0 s.1 m.3).0 o.2)),
+      (m.0.position, m.0.disjunct.now, m.2, (m.0, m.1, refl, refl), (meets_partners right n i a p s.0 m.0.position m.0.disjunct.now m.2 o.0 s.1 m.3).0 o.2)),
   (λ supported p s is.
       let o = supported p (slice_get_within (list_on right a) p s.connector is.connector) in
-      let m = map_out seen_of ms (o.0, o.1) o.3 in
-      let r = subst (λ z. PartnersOn right n i a p z.0 z.1 o.2) (sym m.2) o.4 in
+      let m = o.3 in
+      let r = subst (λ z. PartnersOn right n i a p m.0.position z o.2) (sym m.3) (subst (λ z. PartnersOn right n i a p z o.1 o.2) (sym m.2) o.4) in
       let y = partner_place right n i a p m.0.position m.0.disjunct.now o.2 r in
       let t = made (not right) n m.0.position (list_on (not right) m.0.disjunct.now) o.2 y.0 y.1 in
       (t.0, (has t.0).1 (m.0, m.1, o.2, t.1), (meets_partners right n i a p s m.0.position m.0.disjunct.now o.2 t.0 is t.1).1 r)),
@@ -157,7 +113,7 @@ good_supported : (right : Bool) (n : ℕ) (sides others : List Side) (ms : List 
     → ((m : Member) → Contains ms m → IsSideAt sides (side_on right m) m.position (list_on right m.disjunct.now))
     → ((m : Member) → Contains ms m → IsSideAt others (side_on (not right) m) m.position (list_on (not right) m.disjunct.now))
     → AreUsed right (length sides) ms used → AreUsed (not right) (length others) ms used_others → IsTableOf (not right) n others used_others table → AreServed right n table sides used good
-    → (m : Member) → Contains ms m → (slice_get good (side_on right m) ≡ Some true) ↔ IsSupportedOn right n (map seen_of ms) m.position m.disjunct.now
+    → (m : Member) → Contains ms m → (slice_get good (side_on right m) ≡ Some true) ↔ IsSupportedOn right n (Have ms) m.position m.disjunct.now
 good_supported right n sides others ms used used_others table good known known_others u v t g m c =
     let a = known m c in
     let on = (u.each (side_on right m)).1 (m, c, refl) in
@@ -173,30 +129,25 @@ is_on [] k = ((λ e. absurd cc), (λ e. absurd cc))
 is_on (b ∷ good) zero = ((λ e. ap (λ z. Some z) e), (λ e. same_Some b true e))
 is_on (b ∷ good) (suc k) = is_on good k
 
-abbrev pub is_good : List Bool → List Bool → Member → Bool
-is_good lefts rights m = get_or lefts m.left false && get_or rights m.right false
-
 pub round_keeps : (n : ℕ) (lefts rights : List Side) (ms new : List Member) (lu ru lg rg : List Bool) (lt rt : List (List Site)) → All (IsKnown lefts rights) ms
     → AreUsed false (length lefts) ms lu → AreUsed true (length rights) ms ru → IsTableOf false n lefts lu lt → IsTableOf true n rights ru rt
-    → AreServed false n rt lefts lu lg → AreServed true n lt rights ru rg → new ≡ filter (is_good lg rg) ms → KeepsSupported n ms new
-round_keeps n lefts rights ms new lu ru lg rg lt rt known ul ur tl tr gl gr e =
+    → AreServed false n rt lefts lu lg → AreServed true n lt rights ru rg → Keeps (are_on lg rg) ms new → KeepsSupported n ms new
+round_keeps n lefts rights ms new lu ru lg rg lt rt known ul ur tl tr gl gr keeps =
     let kl : (m : Member) → Contains ms m → IsSideAt lefts m.left m.position m.disjunct.now.left = λ m c. (All-contains (IsKnown lefts rights) ms m known c).left in
     let kr : (m : Member) → Contains ms m → IsSideAt rights m.right m.position m.disjunct.now.right = λ m c. (All-contains (IsKnown lefts rights) ms m known c).right in
+    let on : (m : Member) → Contains ms m → (are_on lg rg m ≡ true) ↔ IsSupported n (Have ms) m.position m.disjunct.now =
+    λ m c.
+    let a = good_supported false n lefts rights ms lu ru rt lg kl kr ul ur tr gl m c in
+    let b = good_supported true n rights lefts ms ru lu lt rg kr kl ur ul tl gr m c in
+    let x = is_on lg m.left in
+    let y = is_on rg m.right in (
+      (λ h. let p = and_parts (get_or lg m.left false) (get_or rg m.right false) h in (b.0 (y.0 p.1), a.0 (x.0 p.0))),
+      (λ s. and_from (get_or lg m.left false) (get_or rg m.right false) (x.1 (a.1 s.1)) (y.1 (b.1 s.0))),
+    ) in
     record {
-      test = is_good lg rg;
-      filtered = e;
-      exact = λ m c.
-          let a = good_supported false n lefts rights ms lu ru rt lg kl kr ul ur tr gl m c in
-          let b = good_supported true n rights lefts ms ru lu lt rg kr kl ur ul tl gr m c in
-          let x = is_on lg m.left in
-          let y = is_on rg m.right in (
-            (λ h. let p = and_parts (get_or lg m.left false) (get_or rg m.right false) h in (b.0 (y.0 p.1), a.0 (x.0 p.0))),
-            (λ s. and_from (get_or lg m.left false) (get_or rg m.right false) (x.1 (a.1 s.1)) (y.1 (b.1 s.0))),
-          );
+      left = (are_on lg rg, keeps);
+      exactly = λ m. (
+        (λ c. let r = (keeps.exactly m).0 c in (r.0, (on m r.0).0 r.1)),
+        (λ r. (keeps.exactly m).1 (r.0, (on m r.0).1 r.1)),
+      );
     }
-
-pub below_at : (right : Bool) (count : ℕ) (ms : List Member) (i : ℕ) (m : Member) (k : ℕ) → i < length ms → m ≡ get_or ms i m → k ≡ side_on right m → All (λ m. side_on right m < count) ms → k < count
-below_at right count ms i m k h e ek all =
-    let w = all i m h in
-    let f = ap (λ z. side_on right z) e in
-    omega arith

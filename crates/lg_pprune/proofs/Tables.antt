@@ -2,15 +2,16 @@
 use Rattle.std.proofs.Common.{◌≡◌, ℕ, ◌+◌, ◌<◌, ◌≤◌, List, [], ◌∷◌, ◌++◌, length, length-append, get_or, set, refl, sym, ap, ◌∙◌, subst, ◌↔◌, Some, ◌⊎◌, inl, inr, Bool, true, false, Contains, arith}
 use Rattle.std.specs.Global.{Vec}
 use Rattle.std.specs.List.{slice_get, All, Any}
+use Rattle.std.specs.Option.{option_map}
 use Rattle.std.proofs.lemmas.Bool.{cases_eq, cases_lt}
-use Rattle.std.proofs.lemmas.Option.{same_Some, slice_get-get_or, slice_get_within, slice_get_read}
+use Rattle.std.proofs.lemmas.Option.{same_Some, slice_get_within, slice_get_read, slice_get-map, get_or_from_slice_get}
 use Rattle.std.proofs.lemmas.List.{length-set, length-map, map-set}
-use Rattle.std.proofs.lemmas.List.Elements.{All-contains, Contains-append_left, Contains-push, Contains-push_cases}
+use Rattle.std.proofs.lemmas.Grind.{elements}
+use Rattle.std.proofs.lemmas.List.Elements.{All-map, Contains-append_left, Contains-push, Contains-push_cases}
 use Rattle.lg_gram.specs.Connectors.{Connector}
 use Rattle.lg_pprune.specs.Sites.{IsSiteOf, MeetsOn, bucket_of, Holds, IsUsed, IsTableOf, HasPartner, IsServed, AreServed, AddsSites, table_in}
-use Rattle.lg_pprune.specs.declared.side.Side.{Side}
-use Rattle.lg_pprune.specs.declared.side.Site.{Site}
-use Rattle.lg_pprune.proofs.Elements.{contains_none, get_contains, get_set_same, get_set_other, get_front, get_last, get_map, get_map_out}
+use Rattle.lg_member.specs.declared.side.Side.{Side}
+use Rattle.lg_pprune.specs.declared.site.Site.{Site}
 
 abbrev HoldsBy : (Site → ℕ) → List (List Site) → Site → Type 0
 HoldsBy f table s = (bucket : List Site) × (slice_get table (f s) ≡ Some bucket) × Contains bucket s
@@ -19,7 +20,7 @@ holds_more : (f : Site → ℕ) (T : List (List Site)) (b : List Site) (s x : Si
 holds_more f T b s x e =
     let w = b ++ s ∷ [] in
     elim (cases_eq (f s) (f x)) [
-      | inl k ↦ (let g : slice_get (set T (f s) w) (f x) ≡ Some w = subst (λ z. slice_get (set T (f s) w) z ≡ Some w) k (get_set_same T (f s) w (slice_get_within T (f s) b e)) in
+      | inl k ↦ (let g : slice_get (set T (f s) w) (f x) ≡ Some w = (let l = slice_get_within T (f s) b e in grind (arith, elements)) in
           let e' : slice_get T (f x) ≡ Some b = subst (λ z. slice_get T z ≡ Some b) k e in (
             (λ h. elim (Contains-push_cases b s x (subst (λ z. Contains z x) (same_Some h.0 w (sym h.1 ∙ g)) h.2)) [ inl c ↦ inl (b, e', c) | inr q ↦ inr q ]),
             (λ h. elim h [
@@ -27,7 +28,7 @@ holds_more f T b s x e =
               | inr q ↦ (w, g, subst (λ z. Contains (b ++ s ∷ []) z) q (Contains-push b s))
             ]),
           ))
-      | inr n ↦ (let g = get_set_other T (f s) (f x) w n in (
+      | inr n ↦ (let g : slice_get (set T (f s) w) (f x) ≡ slice_get T (f x) = grind (arith, elements) in (
         (λ h. inl (h.0, sym g ∙ h.1, h.2)),
         (λ h. elim h [ inl o ↦ (o.0, g ∙ o.1, o.2) | inr q ↦ absurd (n (ap f q)) ]),
       ))
@@ -65,7 +66,7 @@ abbrev pub items_of : Vec Site → List Site
 items_of v = v.items
 
 bucket_at : (table : List (Vec Site)) (k : ℕ) (v : Vec Site) → k < length table → v ≡ get_or table k v → slice_get (table_in table) k ≡ Some v.items
-bucket_at table k v h e = get_map items_of table k v (slice_get_read table (length table) k v refl h e)
+bucket_at table k v h e = slice_get-map items_of table k ∙ ap (option_map items_of) (slice_get_read table (length table) k v refl h e)
 
 pub sites_step : (right : Bool) (n i : ℕ) (cs : List Connector) (p : ℕ) (old : List (List Site)) (table : List (Vec Site)) (k : ℕ) (v w : Vec Site) (s : Site)
     → k ≡ bucket_of s.connector.caps → k < length table → v ≡ get_or table k v → w.items ≡ v.items ++ s ∷ [] → IsSiteOf right n i cs p s
@@ -91,9 +92,9 @@ pub table_none : (right : Bool) (n : ℕ) (sides : List Side) (used : List Bool)
 table_none right n sides used items long none = record {
   long = length-map items items_of ∙ long;
   each = λ s. (
-    (λ h. let m = get_map_out items_of items (bucket_of s.connector.caps) h.0 h.1 in
-        let e = All-contains (λ b. b.items ≡ []) items m.0 none (get_contains items (bucket_of s.connector.caps) m.0 m.1) in
-        absurd (contains_none s (subst (λ z. Contains z s) (sym m.2 ∙ e) h.2))),
+    (λ h. let k = bucket_of s.connector.caps in
+        let e : h.0 ≡ [] = sym (get_or_from_slice_get (table_in items) k h.0 h.0 h.1) ∙ All-map (λ b. b ≡ []) items_of items none k h.0 (slice_get_within (table_in items) k h.0 h.1) in
+        absurd (let l = (subst (λ z. Contains z s) e h.2).1 in omega arith)),
     (λ r. absurd (let l = r.1 in omega arith)),
   );
 }
@@ -172,11 +173,12 @@ served_more right n table sides used k good side u b at is iff t =
       long = omega arith;
       each = λ j s below atj isj.
           elim (cases_lt j k) [
-            | inl h ↦ subst (λ z. (z ≡ Some true) ↔ IsServed right n table s.position s.list.now) (sym (get_front good (b ∷ []) j (omega arith))) (t.each j s h atj isj)
+            | inl h ↦ (let front : slice_get (good ++ b ∷ []) j ≡ slice_get good j = grind (arith, elements) in
+                subst (λ z. (z ≡ Some true) ↔ IsServed right n table s.position s.list.now) (sym front) (t.each j s h atj isj))
             | inr h ↦ (let q : j ≡ k = omega arith in
                 let e : side ≡ s = same_Some side s (sym at ∙ subst (λ z. slice_get sides z ≡ Some s) q atj) in
                 let f : u ≡ true = same_Some u true (sym is ∙ subst (λ z. slice_get used z ≡ Some true) q isj) in
-                let g = get_last good b j (omega arith) in
+                let g : slice_get (good ++ b ∷ []) j ≡ Some b = grind (arith, elements) in
                 let w = subst (λ z. (b ≡ true) ↔ IsServed right n table z.position z.list.now) e (iff f) in
                 ((λ x. w.0 (same_Some b true (sym g ∙ x))), (λ x. g ∙ ap (λ z. Some z) (w.1 x))))
           ];
@@ -200,9 +202,3 @@ up_to_more right n table i cs place s is has u p t below at =
 
 pub up_to_all : (right : Bool) (n : ℕ) (table : List (List Site)) (i : ℕ) (cs : List Connector) (place : ℕ) → length cs ≤ place → ServedUpTo right n table i cs place → IsServed right n table i cs
 up_to_all right n table i cs place h u p s is = let w = slice_get_within cs p s.connector is.connector in u p s (omega arith) is
-
-pub at_index : {X : Type 0} (xs : List X) (i : ℕ) (x : X) → i < length xs → x ≡ get_or xs i x → slice_get xs i ≡ Some x
-at_index xs i x h e = slice_get_read xs (length xs) i x refl h e
-
-pub flag_at : (flags : List Bool) (i : ℕ) (b : Bool) → i < length flags → get_or flags i false ≡ b → slice_get flags i ≡ Some b
-flag_at flags i b h e = slice_get-get_or flags i false h ∙ ap (λ z. Some z) e

@@ -1,3 +1,3 @@
 pub mod Alive
 pub mod Sites
-pub mod Members
+pub mod Supports

@@ -3,8 +3,8 @@ use Rattle.std.specs.Prelude.{◌≡◌, ◌↔◌, ℕ, ◌+◌, ◌-◌, ◌*�
 use Rattle.std.specs.List.{Contains}
 use Rattle.std.specs.Global.{Vec}
 use Rattle.lg_gram.specs.Connectors.{Connector, Match}
-use Rattle.lg_pprune.specs.declared.side.Side.{Side}
-use Rattle.lg_pprune.specs.declared.side.Site.{Site}
+use Rattle.lg_member.specs.declared.side.Side.{Side}
+use Rattle.lg_pprune.specs.declared.site.Site.{Site}
 
 -- Among n positions, the site of the connector at place p of a list of position i: a list to the right, or to the left. Its link
 -- ends from the first position that the connectors before it leave up to the last one that those behind it leave.

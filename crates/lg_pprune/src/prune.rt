@@ -1,13 +1,11 @@
 //! The disjuncts that are alive.
-ghost use Rattle.std.specs.Prelude.{◌≡◌, ◌==◌, ℕ, length, map, IfOk};
-ghost use Rattle.std.specs.List.{filter, range_with_len};
+ghost use Rattle.std.specs.Prelude.{IfOk};
 ghost use Rattle.lg_pprune.specs.Alive.{IsPruned};
-ghost use Rattle.lg_pprune.specs.Members.{row_at};
 
-use crate::member::{Member, members_of};
 use crate::rounds::settle;
 use lg_base::NoMemory;
-use lg_gram::{Disjunct, Disjuncts, Positions, Problem};
+use lg_gram::Problem;
+use lg_member::{members_of, rows_are_problems, rows_of};
 use std::alloc::Global;
 
 /// The problem of the disjuncts that are alive: those of the greatest set in which each connector of each disjunct has a partner,
@@ -32,37 +30,6 @@ fn alive(alloc: Global, problem: &Problem) -> Result<Problem, NoMemory>
     let mut members = members_of(alloc, positions, &mut lefts, &mut rights)?;
     settle(alloc, words, &lefts, &rights, &mut members)?;
     let rows = rows_of(alloc, words, &members)?;
+    rows_are_problems();
     Ok(Problem::of(rows).unwrap())
-}
-
-// The disjuncts of the members, by position.
-fn rows_of(alloc: Global, words: u32, members: &[Member<'_>]) -> Result<Positions, NoMemory>
-    ensures { IfOk result (λ rows. rows ≡ map (row_at members.now) (range_with_len 0 words)) }
-{
-    let mut rows = Vec::new(alloc);
-    for position in 0..words {
-        let row = row_of(alloc, position, members)?;
-        rows.push(row)?;
-    }
-    Ok(Positions::of(rows))
-}
-
-fn row_of(alloc: Global, position: u32, members: &[Member<'_>]) -> Result<Disjuncts, NoMemory>
-    ensures { IfOk result (λ row. row ≡ row_at members.now position) }
-{
-    let mut row = Vec::new(alloc);
-    for member in members {
-        if member.position == position {
-            let disjunct = copy_of(member.disjunct)?;
-            row.push(disjunct)?;
-        }
-    }
-    Ok(Disjuncts::of(row))
-}
-
-fn copy_of(disjunct: &Disjunct) -> Result<Disjunct, NoMemory>
-    ensures { IfOk result (λ copy. copy ≡ disjunct.now) }
-{
-    let copy = disjunct.clone()?;
-    Ok(copy)
 }

@@ -3,8 +3,9 @@ ghost use Rattle.std.specs.Prelude.{◌≡◌, ◌<◌, ◌↔◌, [], length, I
 ghost use Rattle.std.specs.List.{All, Any};
 ghost use Rattle.lg_pprune.specs.Sites.{AddsSites, AreServed, HasPartner, IsServed, IsTableOf, MeetsOn, bucket_of as bucket, table_in};
 
-use crate::side::{Side, Site, meets_on};
+use crate::site::{Site, meets_on, site_of};
 use lg_base::NoMemory;
+use lg_member::Side;
 use std::alloc::Global;
 
 // How many buckets a table has.
@@ -70,7 +71,7 @@ fn push_sites(
     ensures { OnOk result (AddsSites right words side.now.position side.now.list.now (length side.now.list.now) (table_in table.old) (table_in table.new)) }
 {
     for place in 0..side.list.len() {
-        let site = side.site(right, words, place);
+        let site = site_of(side, right, words, place);
         let number = bucket_of(site.connector.caps());
         table[number].push(site)?;
     }
@@ -123,7 +124,7 @@ fn is_served(right: bool, words: u32, side: &Side<'_>, table: &[Vec<Site>]) -> b
     ensures { IsTrue result ↔ IsServed right words (table_in table.now) side.now.position side.now.list.now }
 {
     for place in 0..side.list.len() {
-        let site = side.site(right, words, place);
+        let site = site_of(side, right, words, place);
         if !has_partner(right, &site, table) {
             return false;
         }

@@ -1,18 +1,17 @@
 -- What the rules say of a link, seen from either end.
 use Rattle.std.proofs.Common.{◌≡◌, ℕ, ◌+◌, ◌-◌, ◌<◌, ◌≤◌, List, length, refl, sym, ap, ◌∙◌, subst, Some, Bool, true, false, not, arith}
 use Rattle.std.specs.List.{slice_get}
-use Rattle.std.proofs.lemmas.Option.{same_Some}
+use Rattle.std.proofs.lemmas.Option.{same_Some, slice_get-get_or}
 use Rattle.lg_gram.specs.Connectors.{Connector}
 use Rattle.lg_gram.specs.Linkages.{Linkage, link_length}
 use Rattle.lg_gram.specs.Rules.{chosen_at, left_list, right_list, HasLink}
 use Rattle.lg_gram.specs.declared.disjunct.Disjunct.{Disjunct}
 use Rattle.lg_gram.specs.declared.linkage.Link.{Link}
 use Rattle.lg_sharpen.specs.Sites.{own, place_on, across, MatchOn}
-use Rattle.lg_sharpen.specs.Members.{list_on}
+use Rattle.lg_member.specs.Members.{list_on}
 use Rattle.lg_sharpen.specs.Bounds.{list_at, Fits, Allows, Covers}
-use Rattle.lg_sharpen.specs.declared.side.Site.{Site}
+use Rattle.lg_sharpen.specs.declared.site.Site.{Site}
 use Rattle.lg_sharpen.proofs.Apart.{linked_at, is_short}
-use Rattle.lg_sharpen.proofs.Elements.{get_in}
 
 pub served : (most : ℕ) (g : Linkage) → Fits most g → (right : Bool) (i p : ℕ) (c : Connector) → slice_get (list_at right g i) p ≡ Some c → (l : Link) × HasLink g l × (own right l ≡ i) × (place_on right l ≡ p)
 served most g f true i p c e = (f.rules.satisfied.on_right i p c e).some
@@ -58,8 +57,8 @@ pub covered : (most : ℕ) (g : Linkage) → Fits most g → (right : Bool) (i :
     → (k : Link) × HasLink g k × (own right k ≡ i) × (place_on right k ≡ q) × Allows g right k t
 covered most g f right i sites c q t e w =
     let same = c.same_length in
-    let x = get_in (list_at right g i) q (omega arith) in
-    let k = served most g f right i q x.0 x.1 in
+    let at = slice_get-get_or (list_at right g i) q t.connector (omega arith) in
+    let k = served most g f right i q _ at in
     let s = c.each k.0 k.1 k.2 in
     let es : s.0 ≡ t = same_Some s.0 t (sym s.1 ∙ subst (λ z. slice_get sites z ≡ Some t) (sym k.3) e) in
     (k.0, k.1, k.2, k.3, subst (λ z. Allows g right k.0 z) es s.2)

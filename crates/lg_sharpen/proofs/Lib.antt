@@ -1,6 +1,3 @@
-pub mod Elements
-pub mod Filters
-pub mod Adding
 pub mod Apart
 pub mod Ends
 pub mod Narrowing

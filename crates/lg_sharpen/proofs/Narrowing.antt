@@ -4,15 +4,15 @@ use Rattle.std.specs.List.{slice_get}
 use Rattle.std.proofs.lemmas.Bool.{cases_eq, cases_lt}
 use Rattle.std.proofs.lemmas.Option.{same_Some, slice_get_within}
 use Rattle.std.proofs.lemmas.List.{length-set}
+use Rattle.std.proofs.lemmas.Grind.{elements}
 use Rattle.lg_gram.specs.Connectors.{Connector}
 use Rattle.lg_gram.specs.Linkages.{Linkage, link_length}
 use Rattle.lg_gram.specs.Rules.{HasLink}
 use Rattle.lg_gram.specs.declared.linkage.Link.{Link}
 use Rattle.lg_sharpen.specs.Sites.{own, place_on, across, MatchOn, Holds, HasPartner, IsFrom, IsBelow, IsFromOf, IsEndOf, IsAfter, IsAhead}
 use Rattle.lg_sharpen.specs.Bounds.{Fits, Allows, Covers, AllowsAll, IsNarrowed, Narrows, NarrowsAll}
-use Rattle.lg_sharpen.specs.declared.side.Side.{Side}
-use Rattle.lg_sharpen.specs.declared.side.Site.{Site}
-use Rattle.lg_sharpen.proofs.Elements.{get_set_same, get_set_other}
+use Rattle.lg_member.specs.declared.side.Side.{Side}
+use Rattle.lg_sharpen.specs.declared.site.Site.{Site}
 use Rattle.lg_sharpen.proofs.Ends.{longer, joined, is_across, short_on, covered}
 
 match_same : (right : Bool) (a b c d : Connector) → a ≡ c → b ≡ d → MatchOn right a b → MatchOn right c d
@@ -75,8 +75,8 @@ narrow_set right most i table old now p r w is n g f a c =
     record {
       same_length = length-set now p r ∙ v.same_length;
       each = λ l h o. elim (cases_eq p (place_on right l)) [
-        | inl e ↦ (r, subst (λ z. slice_get (set now p r) z ≡ Some r) e (get_set_same now p r w), is g f a v l h o (sym e))
-        | inr e ↦ (let x = v.each l h o in (x.0, get_set_other now p (place_on right l) r e ∙ x.1, x.2))
+        | inl e ↦ (let q = place_on right l in let at : slice_get (set now p r) q ≡ Some r = grind (arith, elements) in (r, at, is g f a v l h o (sym e)))
+        | inr e ↦ (let q = place_on right l in let at : slice_get (set now p r) q ≡ slice_get now q = grind (arith, elements) in let x = v.each l h o in (x.0, at ∙ x.1, x.2))
       ];
     }
 
@@ -93,8 +93,10 @@ narrows_more right most sides table old now k side u w at is n all = record {
         | inl e ↦ (let es : s ≡ side = same_Some s side (sym atj ∙ subst (λ z. slice_get sides z ≡ Some side) e at) in
             let eu : v.0 ≡ u = same_Some v.0 u (sym v.1 ∙ subst (λ z. slice_get now z ≡ Some u) e is) in
             let cu : Covers g right side.position u = subst (λ z. Covers g right z.position u) es (subst (λ z. Covers g right s.position z) eu v.2) in
-            (w, subst (λ z. slice_get (set now k w) z ≡ Some w) e (get_set_same now k w (slice_get_within now k u is)), subst (λ z. Covers g right z.position w) (sym es) (n g f a cu)))
-        | inr e ↦ (v.0, get_set_other now k j w e ∙ v.1, v.2)
+            let inside = slice_get_within now k u is in
+            let new : slice_get (set now k w) j ≡ Some w = grind (arith, elements) in
+            (w, new, subst (λ z. Covers g right z.position w) (sym es) (n g f a cu)))
+        | inr e ↦ (let other : slice_get (set now k w) j ≡ slice_get now j = grind (arith, elements) in (v.0, other ∙ v.1, v.2))
       ];
 }
 

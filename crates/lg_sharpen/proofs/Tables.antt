@@ -2,27 +2,23 @@
 use Rattle.std.proofs.Common.{◌≡◌, ℕ, ◌+◌, ◌<◌, ◌≤◌, List, [], ◌∷◌, ◌++◌, length, length-append, get_or, set, refl, sym, ap, ◌∙◌, subst, ◌↔◌, Some, inl, inr, Bool, true, false, Contains, arith}
 use Rattle.std.specs.Global.{Vec}
 use Rattle.std.specs.List.{slice_get, Any}
+use Rattle.std.specs.Option.{option_map}
+use Rattle.std.proofs.lemmas.Grind.{elements}
 use Rattle.std.proofs.lemmas.Bool.{cases_eq, cases_lt}
-use Rattle.std.proofs.lemmas.Option.{same_Some, slice_get-get_or, slice_get_within, slice_get_read}
+use Rattle.std.proofs.lemmas.Option.{same_Some, slice_get_within, slice_get_read, slice_get-map}
 use Rattle.std.proofs.lemmas.List.{length-set, length-map, map-set, map-append}
 use Rattle.std.proofs.lemmas.List.Elements.{Contains-append_left, Contains-push}
 use Rattle.lg_sharpen.specs.Sites.{MeetsOver, IsWider, cell_of, across, Holds, IsHeld, AddsTo, AddsSites, IsTableOf, HasPartner, IsStarted, AreStarted, AreStartedAll, IsReach, items_in}
-use Rattle.lg_sharpen.specs.declared.side.Side.{Side}
-use Rattle.lg_sharpen.specs.declared.side.Site.{Site}
+use Rattle.lg_member.specs.declared.side.Side.{Side}
+use Rattle.lg_sharpen.specs.declared.site.Site.{Site}
+use Rattle.lg_sharpen.specs.declared.table.TheConstants.{CELLS}
 use Rattle.lg_gram.specs.Connectors.{Connector}
-use Rattle.lg_sharpen.proofs.Elements.{get_set_same, get_set_other, get_front, get_last, get_map}
 
 abbrev pub items_of : Vec Site → List Site
 items_of v = v.items
 
 pub list_in : (table : List (Vec Site)) (k : ℕ) (v : Vec Site) → k < length table → v ≡ get_or table k v → slice_get (items_in table) k ≡ Some v.items
-list_in table k v h e = get_map items_of table k v (slice_get_read table (length table) k v refl h e)
-
-pub at_index : {X : Type 0} (xs : List X) (i : ℕ) (x : X) → i < length xs → x ≡ get_or xs i x → slice_get xs i ≡ Some x
-at_index xs i x h e = slice_get_read xs (length xs) i x refl h e
-
-pub flag_at : (flags : List Bool) (i : ℕ) (b : Bool) → i < length flags → get_or flags i false ≡ b → slice_get flags i ≡ Some b
-flag_at flags i b h e = slice_get-get_or flags i false h ∙ ap (λ z. Some z) e
+list_in table k v h e = slice_get-map items_of table k ∙ ap (option_map items_of) (slice_get_read table (length table) k v refl h e)
 
 -- one site more in a cell
 pub adds_none : (s : Site) (old : List Site) → Any (λ w. IsWider w s) old → AddsTo s old old
@@ -40,10 +36,10 @@ holds_kept T k b b' e kept j x h =
     elim (cases_eq k (cell_of j x.connector.caps)) [
       | inl q ↦ (
         b',
-        subst (λ z. slice_get (set T k b') z ≡ Some b') q (get_set_same T k b' (slice_get_within T k b e)),
+        (let c = cell_of j x.connector.caps in let l = slice_get_within T k b e in let t : slice_get (set T k b') c ≡ Some b' = grind (arith, elements) in t),
         kept x (subst (λ z. Contains z x) (same_Some h.0 b (sym h.1 ∙ subst (λ z. slice_get T z ≡ Some b) q e)) h.2),
       )
-      | inr n ↦ (h.0, get_set_other T k (cell_of j x.connector.caps) b' n ∙ h.1, h.2)
+      | inr n ↦ (let c = cell_of j x.connector.caps in let t : slice_get (set T k b') c ≡ slice_get T c = grind (arith, elements) in (h.0, t ∙ h.1, h.2))
     ]
 
 sites_more : (i : ℕ) (sites : List Site) (p : ℕ) (old now : List (List Site)) (s : Site) (b b' : List Site) (k : ℕ) → slice_get sites p ≡ Some s → k ≡ cell_of i s.connector.caps → slice_get now k ≡ Some b → AddsTo s b b'
@@ -58,7 +54,9 @@ sites_more i sites p old now s b b' k at ek e add a = record {
             let es : s ≡ t = same_Some s t (sym at ∙ subst (λ z. slice_get sites z ≡ Some t) eq atq) in
             let w = add.held in
             let ew : k ≡ cell_of i w.0.connector.caps = ek ∙ ap (λ z. cell_of i z.caps) (sym w.2.connector) in
-            (w.0, (b', subst (λ z. slice_get (set now k b') z ≡ Some b') ew (get_set_same now k b' (slice_get_within now k b e)), w.1), subst (λ z. IsWider w.0 z) es w.2))
+            let l = slice_get_within now k b e in
+            let new : slice_get (set now k b') k ≡ Some b' = grind (arith, elements) in
+            (w.0, (b', subst (λ z. slice_get (set now k b') z ≡ Some b') ew new, w.1), subst (λ z. IsWider w.0 z) es w.2))
       ];
 }
 
@@ -75,10 +73,10 @@ sites_all i sites p old new h a = record { long = a.long; kept = a.kept; each = 
 
 -- the sites of the first lists of those in use
 pub record TableSoFar (sides : List Side) (used : List Bool) (lists : List (List Site)) (k : ℕ) (table : List (List Site)) : Type 0 where
-  pub long : length table ≡ 16384
+  pub long : length table ≡ CELLS
   pub each : (j : ℕ) (side : Side) (sites : List Site) (p : ℕ) (s : Site) → j < k → slice_get sides j ≡ Some side → slice_get used j ≡ Some true → slice_get lists j ≡ Some sites → slice_get sites p ≡ Some s → IsHeld table side.position s
 
-pub table_none : (sides : List Side) (used : List Bool) (lists : List (List Site)) (items : List (Vec Site)) → length items ≡ 16384 → TableSoFar sides used lists 0 (items_in items)
+pub table_none : (sides : List Side) (used : List Bool) (lists : List (List Site)) (items : List (Vec Site)) → length items ≡ CELLS → TableSoFar sides used lists 0 (items_in items)
 table_none sides used lists items long = record { long = length-map items items_of ∙ long; each = λ j side sites p s l. absurd (omega arith) }
 
 pub table_used : (sides : List Side) (used : List Bool) (lists : List (List Site)) (k : ℕ) (old new : List (List Site)) (side : Side) (sites : List Site) → slice_get sides k ≡ Some side → slice_get lists k ≡ Some sites
@@ -137,9 +135,10 @@ started_more cs end p now new s e is a = subst (λ z. StartedUpTo cs end (p + 1)
       let w = slice_get_within (now ++ s ∷ []) q t at in
       let n = length-append now (s ∷ []) in
       elim (cases_lt q p) [
-        | inl h ↦ a.each q t (sym (get_front now (s ∷ []) q (omega arith)) ∙ at)
+        | inl h ↦ (let front : slice_get (now ++ s ∷ []) q ≡ slice_get now q = grind (arith, elements) in a.each q t (sym front ∙ at))
         | inr h ↦ (let eq : q ≡ p = omega arith in
-            let es : s ≡ t = same_Some s t (sym (get_last now s q (omega arith)) ∙ at) in
+            let last : slice_get (now ++ s ∷ []) q ≡ Some s = grind (arith, elements) in
+            let es : s ≡ t = same_Some s t (sym last ∙ at) in
             subst (λ z. IsStarted cs end q z) es (subst (λ z. IsStarted cs end z s) (sym eq) is))
       ];
 })
@@ -160,13 +159,17 @@ all_started_more right n sides k now new side end v e at reach is a =
       each = λ j d w atj.
           let l = a.long in
           elim (cases_lt j k) [
-            | inl h ↦ (let r = a.each j d h atj in (r.0, r.1, r.2, get_front (items_in now) (v.items ∷ []) j (omega arith) ∙ r.3, r.4))
+            | inl h ↦ (let ls = items_in now in
+                let front : slice_get (ls ++ v.items ∷ []) j ≡ slice_get ls j = grind (arith, elements) in
+                let r = a.each j d h atj in (r.0, r.1, r.2, front ∙ r.3, r.4))
             | inr h ↦ (let eq : j ≡ k = omega arith in
+                let ls = items_in now in
+                let last : slice_get (ls ++ v.items ∷ []) j ≡ Some v.items = grind (arith, elements) in
                 let es : side ≡ d = same_Some side d (sym at ∙ subst (λ z. slice_get sides z ≡ Some d) eq atj) in (
                   end,
                   subst (λ z. IsReach right n z.position end) es reach,
                   v.items,
-                  get_last (items_in now) v.items j (omega arith),
+                  last,
                   subst (λ z. AreStarted z.list.now end v.items) es is,
                 ))
           ];

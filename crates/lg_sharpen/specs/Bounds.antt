@@ -1,16 +1,17 @@
 -- What holds of each linkage that keeps the rules and has few unlinked words.
 use Rattle.std.specs.Prelude.{◌≡◌, ℕ, ◌<◌, ◌≤◌, Bool, true, false, not, cond, List, length, Some, slice_get}
-use Rattle.std.specs.List.{Contains, All, filter}
+use Rattle.std.specs.List.{All}
 use Rattle.lg_gram.specs.Connectors.{Connector}
 use Rattle.lg_gram.specs.Linkages.{Linkage, unlinked, link_length}
 use Rattle.lg_gram.specs.Rules.{Rules, IsConnected, IsLinked, HasLink, rights_of, lefts_of, chosen_at}
 use Rattle.lg_gram.specs.Walks.{LinkFrom}
 use Rattle.lg_gram.specs.declared.disjunct.Disjunct.{Disjunct}
 use Rattle.lg_gram.specs.declared.linkage.Link.{Link}
+use Rattle.lg_member.specs.Members.{AreLeft, Have}
 use Rattle.lg_sharpen.specs.Sites.{own, place_on, Holds}
-use Rattle.lg_sharpen.specs.declared.side.Side.{Side}
-use Rattle.lg_sharpen.specs.declared.side.Site.{Site}
-use Rattle.lg_sharpen.specs.declared.member.Member.{Member}
+use Rattle.lg_member.specs.declared.side.Side.{Side}
+use Rattle.lg_sharpen.specs.declared.site.Site.{Site}
+use Rattle.lg_member.specs.declared.member.Member.{Member}
 
 -- what stands to the right, or to the left, of a position
 abbrev pub list_at : Bool → Linkage → ℕ → List Connector
@@ -64,7 +65,7 @@ pub record AreOpen (lists : List (List Site)) (flags : List Bool) : Type 0 where
 
 -- what the linkage uses is a member
 abbrev pub AreChosen : Linkage → List Member → Type 0
-AreChosen g members = (i : ℕ) (d : Disjunct) → chosen_at g i ≡ Some d → (m : Member) × Contains members m × (m.position ≡ i) × (m.disjunct.now ≡ d)
+AreChosen g members = (i : ℕ) (d : Disjunct) → chosen_at g i ≡ Some d → Have members i d
 
 -- the lists that the linkage uses, to the right, or to the left, have sites that allow all links
 abbrev pub CoversAll : Linkage → Bool → List Side → List (List Site) → Type 0
@@ -77,14 +78,12 @@ pub record Stands (g : Linkage) (lefts rights : List Side) (left_lists right_lis
 
 -- some members go, and what stood for a linkage with few unlinked words still does
 pub record KeepsStanding (most : ℕ) (lefts rights : List Side) (old_left old_right : List (List Site)) (old : List Member) (new_left new_right : List (List Site)) (new : List Member) : Type 0 where
-  pub test : Member → Bool
-  pub filtered : new ≡ filter test old
+  pub left : AreLeft old new
   pub long_left : length new_left ≡ length old_left
   pub long_right : length new_right ≡ length old_right
   pub stands : (g : Linkage) → Fits most g → Stands g lefts rights old_left old_right old → Stands g lefts rights new_left new_right new
 
 -- some members go that no linkage of n words with few unlinked ones uses
 pub record KeepsChosen (n most : ℕ) (old new : List Member) : Type 0 where
-  pub test : Member → Bool
-  pub filtered : new ≡ filter test old
+  pub left : AreLeft old new
   pub chosen : (g : Linkage) → Fits most g → length g.chosen ≡ n → AreChosen g old → AreChosen g new

@@ -1,4 +1,3 @@
 pub mod Sharp
 pub mod Sites
-pub mod Members
 pub mod Bounds

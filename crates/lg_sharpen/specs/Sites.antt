@@ -5,8 +5,8 @@ use Rattle.std.specs.Global.{Vec}
 use Rattle.lg_gram.specs.Connectors.{Connector, Match}
 use Rattle.lg_gram.specs.Linkages.{link_length}
 use Rattle.lg_gram.specs.declared.linkage.Link.{Link}
-use Rattle.lg_sharpen.specs.declared.side.Side.{Side}
-use Rattle.lg_sharpen.specs.declared.side.Site.{Site}
+use Rattle.lg_member.specs.declared.side.Side.{Side}
+use Rattle.lg_sharpen.specs.declared.site.Site.{Site}
 
 -- the position at this end of a link, and the place there: the end of the list to the right, or to the left
 abbrev pub own : Bool → Link → ℕ

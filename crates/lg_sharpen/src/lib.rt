@@ -1,12 +1,10 @@
 //! A sharper problem: without disjuncts that no linkage with few unlinked words can use.
 #![tactic(auto)]
 
-mod hints;
-mod member;
 mod narrow;
 mod problem;
 mod rounds;
-mod side;
+mod site;
 mod start;
 mod table;
 

@@ -2,9 +2,11 @@
 ghost use Rattle.std.specs.Prelude.{◌≡◌, ◌<◌, length};
 ghost use Rattle.lg_sharpen.specs.Sites.{IsAfter, IsAhead, IsBelow, IsEndOf, IsFrom, IsFromOf, items_in};
 ghost use Rattle.lg_sharpen.specs.Bounds.{IsNarrowed, Narrows, NarrowsAll};
+ghost use Rattle.lg_sharpen.specs.declared.table.TheConstants.{CELLS};
 
-use crate::side::{Side, Site, Span};
+use crate::site::{Site, Span};
 use crate::table::has_partner;
+use lg_member::Side;
 
 /// Narrows the sites of each list in use, of lists to the right, or to the left, to where the table has partners.
 pub(crate) fn narrow_all(
@@ -17,7 +19,7 @@ pub(crate) fn narrow_all(
 )
     requires same_length { length used.now ≡ length sides.now }
     requires long { length lists.old ≡ length sides.now }
-    requires cells { length table.now ≡ 16384 }
+    requires cells { length table.now ≡ CELLS }
     ensures { NarrowsAll right most sides.now (items_in table.now) (items_in lists.old) (items_in lists.new) }
 {
     for index in 0..sides.len() {
@@ -28,7 +30,7 @@ pub(crate) fn narrow_all(
 }
 
 fn narrow(right: bool, most: u64, position: u32, table: &[Vec<Site>], sites: &mut Vec<Site>)
-    requires { length table.now ≡ 16384 }
+    requires { length table.now ≡ CELLS }
     ensures { Narrows right most position (items_in table.now) sites.old.items sites.new.items }
 {
     narrow_up(right, most, position, table, sites);
@@ -37,7 +39,7 @@ fn narrow(right: bool, most: u64, position: u32, table: &[Vec<Site>], sites: &mu
 
 // From the first place to the last, so that each is farther than the one before.
 fn narrow_up(right: bool, most: u64, position: u32, table: &[Vec<Site>], sites: &mut Vec<Site>)
-    requires { length table.now ≡ 16384 }
+    requires { length table.now ≡ CELLS }
     ensures { Narrows right most position (items_in table.now) sites.old.items sites.new.items }
 {
     let count = sites.len();
@@ -48,7 +50,7 @@ fn narrow_up(right: bool, most: u64, position: u32, table: &[Vec<Site>], sites: 
 
 // From the last place to the first, so that each is nearer than the next.
 fn narrow_down(right: bool, most: u64, position: u32, table: &[Vec<Site>], sites: &mut Vec<Site>)
-    requires { length table.now ≡ 16384 }
+    requires { length table.now ≡ CELLS }
     ensures { Narrows right most position (items_in table.now) sites.old.items sites.new.items }
 {
     let count = sites.len();
@@ -67,7 +69,7 @@ fn narrowed(
     sites: &[Site],
     place: usize,
 ) -> Site
-    requires cells { length table.now ≡ 16384 }
+    requires cells { length table.now ≡ CELLS }
     requires within { place < length sites.now }
     ensures { IsNarrowed right most position (items_in table.now) sites.now place result }
 {
@@ -139,7 +141,7 @@ fn ahead(end: u32, behind: u32) -> u32
 
 // The distance of the first partner, or the end.
 fn first(right: bool, most: u64, position: u32, table: &[Vec<Site>], site: &Site) -> u32
-    requires { length table.now ≡ 16384 }
+    requires { length table.now ≡ CELLS }
     ensures { IsFrom right most position (items_in table.now) site.now result }
 {
     for distance in site.span.from..site.span.end {
@@ -152,7 +154,7 @@ fn first(right: bool, most: u64, position: u32, table: &[Vec<Site>], site: &Site
 
 // The distance behind the last partner.
 fn last(right: bool, most: u64, position: u32, table: &[Vec<Site>], site: &Site) -> u32
-    requires { length table.now ≡ 16384 }
+    requires { length table.now ≡ CELLS }
     ensures { IsBelow right most position (items_in table.now) site.now result }
 {
     let mut end = site.span.end;

@@ -1,14 +1,12 @@
 //! Sharper problems.
-ghost use Rattle.std.specs.Prelude.{◌≡◌, ◌==◌, ℕ, length, map, IfOk, IfSome};
-ghost use Rattle.std.specs.List.{filter, range_with_len};
+ghost use Rattle.std.specs.Prelude.{IfOk, IfSome};
 ghost use Rattle.lg_gram.specs.Problems.{IsProblem};
-ghost use Rattle.lg_sharpen.specs.Members.{row_at};
 ghost use Rattle.lg_sharpen.specs.Sharp.{IsSharpened};
 
-use crate::member::{Member, members_of};
 use crate::rounds::settle;
 use lg_base::NoMemory;
-use lg_gram::{Disjunct, Disjuncts, Positions, Problem};
+use lg_gram::Problem;
+use lg_member::{members_of, rows_are_problems, rows_of};
 use std::alloc::Global;
 
 // With fewer disjuncts than this a problem stays as it is.
@@ -68,37 +66,6 @@ fn sharper(alloc: Global, problem: &Problem, nulls: u32) -> Result<Problem, NoMe
     let mut members = members_of(alloc, positions, &mut lefts, &mut rights)?;
     settle(alloc, words, most, &lefts, &rights, &mut members)?;
     let rows = rows_of(alloc, words, &members)?;
+    rows_are_problems();
     Ok(Problem::of(rows).unwrap())
-}
-
-// The disjuncts of the members, by position.
-fn rows_of(alloc: Global, words: u32, members: &[Member<'_>]) -> Result<Positions, NoMemory>
-    ensures { IfOk result (λ rows. rows ≡ map (row_at members.now) (range_with_len 0 words)) }
-{
-    let mut rows = Vec::new(alloc);
-    for position in 0..words {
-        let row = row_of(alloc, position, members)?;
-        rows.push(row)?;
-    }
-    Ok(Positions::of(rows))
-}
-
-fn row_of(alloc: Global, position: u32, members: &[Member<'_>]) -> Result<Disjuncts, NoMemory>
-    ensures { IfOk result (λ row. row ≡ row_at members.now position) }
-{
-    let mut row = Vec::new(alloc);
-    for member in members {
-        if member.position == position {
-            let disjunct = copy_of(member.disjunct)?;
-            row.push(disjunct)?;
-        }
-    }
-    Ok(Disjuncts::of(row))
-}
-
-fn copy_of(disjunct: &Disjunct) -> Result<Disjunct, NoMemory>
-    ensures { IfOk result (λ copy. copy ≡ disjunct.now) }
-{
-    let copy = disjunct.clone()?;
-    Ok(copy)
 }

@@ -1,16 +1,16 @@
 //! Rounds of sharpening.
-ghost use Rattle.std.specs.Prelude.{◌≡◌, ◌<◌, ◌↔◌, false, length, slice_index_or, IfOk, IsTrue, OnOk};
+ghost use Rattle.std.specs.Prelude.{◌≡◌, ◌↔◌, length, IfOk, IsTrue, OnOk};
 ghost use Rattle.std.specs.List.{All};
+ghost use Rattle.lg_member.specs.Members.{IsKnown};
 ghost use Rattle.lg_sharpen.specs.Bounds.{AreOpen, IsOpen, KeepsChosen, KeepsStanding};
-ghost use Rattle.lg_sharpen.specs.Members.{AreUsed, IsKnown, side_on};
 ghost use Rattle.lg_sharpen.specs.Sites.{items_in};
 
-use crate::member::Member;
 use crate::narrow::narrow_all;
-use crate::side::{Side, Site};
+use crate::site::Site;
 use crate::start::sites_of;
 use crate::table::table_of;
 use lg_base::NoMemory;
+use lg_member::{Member, Side, keep, members_go_by_rounds, used};
 use std::alloc::Global;
 
 /// Takes members away that no linkage can choose in which fewer than `most` words are unlinked.
@@ -54,6 +54,7 @@ fn rounds(
     requires right { length right_lists.old ≡ length rights.now }
     ensures { OnOk result (KeepsStanding most lefts.now rights.now (items_in left_lists.old) (items_in right_lists.old) members.old.items (items_in left_lists.new) (items_in right_lists.new) members.new.items) }
 {
+    members_go_by_rounds();
     let mut before = u64::MAX;
     let mut size = size_of(left_lists, right_lists, members.len());
     while size < before {
@@ -79,33 +80,16 @@ fn round(
     requires right { length right_lists.old ≡ length rights.now }
     ensures { OnOk result (KeepsStanding most lefts.now rights.now (items_in left_lists.old) (items_in right_lists.old) members.old.items (items_in left_lists.new) (items_in right_lists.new) members.new.items) }
 {
-    let left_used = used(alloc, false, lefts.len(), members)?;
-    let right_used = used(alloc, true, rights.len(), members)?;
+    let left_used = used(alloc, false, lefts, rights, members)?;
+    let right_used = used(alloc, true, lefts, rights, members)?;
     let left_sites = table_of(alloc, lefts, &left_used, left_lists)?;
     narrow_all(true, most, rights, &right_used, &left_sites, right_lists);
     let right_sites = table_of(alloc, rights, &right_used, right_lists)?;
     narrow_all(false, most, lefts, &left_used, &right_sites, left_lists);
     let left_open = which_open(alloc, left_lists)?;
     let right_open = which_open(alloc, right_lists)?;
-    members.retain(|m| is_true(&left_open, m.left) && is_true(&right_open, m.right));
+    keep(&left_open, &right_open, members);
     Ok(())
-}
-
-// Which of so many lists members have.
-fn used(
-    alloc: Global,
-    right: bool,
-    count: usize,
-    members: &[Member<'_>],
-) -> Result<Vec<bool>, NoMemory>
-    requires { All (λ m. side_on right m < count) members.now }
-    ensures { IfOk result (λ used. AreUsed right count members.now used.items) }
-{
-    let mut used = vec![in alloc; false; count]?;
-    for member in members {
-        used[member.side(right)] = true;
-    }
-    Ok(used)
 }
 
 // Which lists have a distance left for each of their sites.
@@ -124,12 +108,6 @@ fn is_open(sites: &[Site]) -> bool
     ensures { IsTrue result ↔ All IsOpen sites.now }
 {
     sites.iter().all(|s| s.span.from < s.span.end)
-}
-
-fn is_true(flags: &[bool], index: usize) -> bool
-    ensures { result ≡ slice_index_or flags.now index false }
-{
-    flags.get(index).copied().unwrap_or(false)
 }
 
 // How much is left: the members, and the distances of all sites. Rounds go on while it falls.

@@ -2,9 +2,10 @@
 ghost use Rattle.std.specs.Prelude.{◌≡◌, ◌<◌, length, IfOk};
 ghost use Rattle.lg_sharpen.specs.Sites.{AreStarted, AreStartedAll, IsReach, IsStarted, items_in};
 
-use crate::side::{Side, Site, Span};
+use crate::site::{Site, Span};
 use lg_base::NoMemory;
 use lg_gram::Connector;
+use lg_member::Side;
 use std::alloc::Global;
 
 /// The sites of each list, which are lists to the right, or to the left, among so many words.

@@ -3,8 +3,9 @@ ghost use Rattle.std.specs.Prelude.{◌≡◌, ◌<◌, ◌↔◌, [], length, I
 ghost use Rattle.std.specs.List.{All, Any};
 ghost use Rattle.lg_sharpen.specs.Sites.{AddsSites, AddsTo, HasPartner, IsTableOf, IsWider, MeetsOver, across as position_across, bucket_of as bucket, cell_of as cell, items_in};
 
-use crate::side::{Side, Site, is_wider, meets};
+use crate::site::{Site, is_wider, meets};
 use lg_base::NoMemory;
+use lg_member::Side;
 use std::alloc::Global;
 
 // How many buckets a position has, and how many a table.

@@ -1,8 +1,7 @@
-use Rattle.std.proofs.Common.{true, false, length, subst, rules}
-use Rattle.std.proofs.lemmas.Fn.{filter_same}
+use Rattle.std.proofs.Common.{true, false, length, subst}
 use Rattle.lg_pprune.specs.Sites.{IsTableOf, AreServed, table_in}
-use Rattle.lg_pprune.specs.Members.{AreUsed}
-use Rattle.lg_pprune.proofs.Supporting.{round_keeps, is_good}
+use Rattle.lg_member.specs.Members.{AreUsed, Keeps, are_on}
+use Rattle.lg_pprune.proofs.Supporting.{round_keeps}
 use Rattle.lg_pprune.proofs.rounds.round.Goals as goal
 
 pub returns : goal.returns
@@ -16,11 +15,11 @@ returns c =
     let rt = table_in c.in_ok-right_sites.right_sites.items in
     let lg = c.in_ok-left_good.left_good.items in
     let rg = c.in_ok-right_good.right_good.items in
-    round_keeps c.args.words lefts rights ms c.retain.new.self.items lu ru lg rg lt rt c.requires
+    round_keeps c.args.words lefts rights ms c.keep.new.members.items lu ru lg rg lt rt c.requires
     (subst (λ z. AreUsed false (length lefts) z lu) c.deref.ensures.value c.in_ok-left_used.ensures)
     (subst (λ z. AreUsed true (length rights) z ru) c.deref-2.ensures.value c.in_ok-right_used.ensures)
     (subst (λ z. IsTableOf false c.args.words lefts z lt) c.deref-3.ensures.value c.in_ok-left_sites.ensures.sites)
     (subst (λ z. IsTableOf true c.args.words rights z rt) c.deref-4.ensures.value c.in_ok-right_sites.ensures.sites)
     (subst (λ z. AreServed false c.args.words (table_in z) lefts lu lg) c.deref-6.ensures.value (subst (λ z. AreServed false c.args.words (table_in c.deref-6.result.now) lefts z lg) c.deref-5.ensures.value c.in_ok-left_good.ensures))
     (subst (λ z. AreServed true c.args.words (table_in z) rights ru rg) c.deref-8.ensures.value (subst (λ z. AreServed true c.args.words (table_in c.deref-8.result.now) rights z rg) c.deref-7.ensures.value c.in_ok-right_good.ensures))
-    (filter_same _ (is_good lg rg) _ (λ x b f k. search rules) _ _ c.retain.ensures.filtered)
+    (subst (λ z. Keeps (are_on z rg) ms c.keep.new.members.items) c.deref-9.ensures.value (subst (λ z. Keeps (are_on c.deref-9.result.now z) ms c.keep.new.members.items) c.deref-10.ensures.value c.keep.ensures))

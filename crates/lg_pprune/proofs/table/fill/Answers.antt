@@ -1,7 +1,8 @@
-use Rattle.std.proofs.Common.{◌+◌, ◌<◌, length, sym, subst, arith}
+use Rattle.std.proofs.Common.{◌+◌, ◌<◌, length, sym, subst, arith, ap, ◌∙◌, Some, refl, false}
 use Rattle.std.proofs.lemmas.List.{length-map}
+use Rattle.std.proofs.lemmas.Option.{slice_get_read, slice_get-get_or}
 use Rattle.lg_pprune.specs.Sites.{table_in}
-use Rattle.lg_pprune.proofs.Tables.{TableSoFar, items_of, table_none, table_used, table_unused, table_all, at_index, flag_at}
+use Rattle.lg_pprune.proofs.Tables.{TableSoFar, items_of, table_none, table_used, table_unused, table_all}
 use Rattle.lg_pprune.proofs.table.fill.Goals as goal
 use Rattle.lg_pprune.proofs.table.fill.Goals.{then-used-index+in_ok-push_sites, else-used-index}
 
@@ -19,9 +20,9 @@ loop-index-preserved c =
     elim c.if-used-index.branch [
       | then-used-index+in_ok-push_sites w ↦ subst (λ z. TableSoFar c.args.right c.args.words c.args.sides.now c.args.used.now (c.loop-index.index + 1) (table_in z)) (sym w.table-is)
           (table_used c.args.right c.args.words c.args.sides.now c.args.used.now c.loop-index.index (table_in c.loop-index.table) (table_in w.push_sites.new.table) w.index-sides-index.result
-          (at_index c.args.sides.now c.loop-index.index w.index-sides-index.result h w.index-sides-index.is) (flag_at c.args.used.now c.loop-index.index _ l w.if-used-index.true) c.loop-index.invariant w.in_ok-push_sites.ensures)
+          (slice_get_read c.args.sides.now (length c.args.sides.now) c.loop-index.index w.index-sides-index.result refl h w.index-sides-index.is) (slice_get-get_or c.args.used.now c.loop-index.index false l ∙ ap (λ z. Some z) w.if-used-index.true) c.loop-index.invariant w.in_ok-push_sites.ensures)
       | else-used-index w ↦ subst (λ z. TableSoFar c.args.right c.args.words c.args.sides.now c.args.used.now (c.loop-index.index + 1) (table_in z)) (sym w.table-is)
-          (table_unused c.args.right c.args.words c.args.sides.now c.args.used.now c.loop-index.index (table_in c.loop-index.table) (flag_at c.args.used.now c.loop-index.index _ l w.if-used-index.false) c.loop-index.invariant)
+          (table_unused c.args.right c.args.words c.args.sides.now c.args.used.now c.loop-index.index (table_in c.loop-index.table) (slice_get-get_or c.args.used.now c.loop-index.index false l ∙ ap (λ z. Some z) w.if-used-index.false) c.loop-index.invariant)
     ]
 
 pub returns : goal.returns

@@ -1,0 +1,5 @@
+pub mod Keeping
+pub mod Adding
+pub mod Written
+pub mod Using
+pub mod Same

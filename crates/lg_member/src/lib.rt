@@ -1,0 +1,17 @@
+//! The members of a problem: its disjuncts, each with its position and the numbers of its two lists.
+//!
+//! What takes disjuncts away works over members, since many of them share a list, and writes those that are left by position.
+#![tactic(auto)]
+
+mod hints;
+pub mod law;
+pub mod member;
+pub mod rows;
+pub mod side;
+pub mod uses;
+
+pub use law::{members_go_by_rounds, rows_are_problems};
+pub use member::{Member, members_of};
+pub use rows::rows_of;
+pub use side::Side;
+pub use uses::{keep, used};

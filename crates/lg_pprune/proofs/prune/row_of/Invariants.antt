@@ -1,6 +1,0 @@
-use Rattle.std.proofs.Common.{◌≡◌, take}
-use Rattle.lg_pprune.specs.Members.{row_at}
-use Rattle.lg_pprune.proofs.prune.row_of.Given as goal
-
-abbrev pub invariant-loop-member : goal.invariant-loop-member
-invariant-loop-member l = l.row.items ≡ row_at (take l.member-index l.members) l.position
