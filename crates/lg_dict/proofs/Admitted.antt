@@ -4,8 +4,8 @@ use Rattle.std.proofs.lemmas.List.Elements.{Contains-append_left, Contains-appen
 use Rattle.std.proofs.lemmas.List.Folds.{list_any_more}
 use Rattle.std.specs.List.{list_any}
 use Rattle.std.specs.Option.{unwrap_or}
-use Rattle.lg_dict.specs.Changed.{change_at, IsNamed, IsGiven, IsLaid, HasSame}
-use Rattle.lg_dict.specs.Tables.{at_text, texts_at, same_text, is_under, IsMacro}
+use Rattle.lg_dict.specs.Changed.{change_at, IsNamed, KeepsToLevel, IsGiven, IsLaid, HasSame}
+use Rattle.lg_dict.specs.Tables.{at_text, texts_at, same_text, is_under}
 use Rattle.lg_dict.specs.declared.changes.Change.{Change}
 use Rattle.lg_dict.specs.declared.changes.Change.TheVariants.{Same}
 use Rattle.lg_dict.specs.declared.changes.Changes.{Changes}
@@ -42,7 +42,7 @@ module _ (old new : Changes) (word : List ℕ) (laid : IsLaid old) (same : HasSa
     pub listed_laid : IsLaid new
     listed_laid = record {
       words = λ w. subst (λ fs. IsGiven fs (change_at new w)) (sym same.formulas) (subst (IsGiven old.formulas.items) (sym (same.words w)) (laid.words w));
-      macros = λ name. subst (λ fs. IfSome (at_text new.macros name) (IsMacro fs)) (sym same.formulas) (subst (λ o. IfSome o (IsMacro old.formulas.items)) (sym (same.macros name)) (laid.macros name));
+      macros = λ name. subst (λ o. IfSome o KeepsToLevel) (sym (same.macros name)) (laid.macros name);
       only = λ stem w h. only_by stem w (is_under stem word) refl h;
       all = all_by;
     }

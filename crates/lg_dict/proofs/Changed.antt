@@ -15,14 +15,14 @@ use Rattle.std.specs.Ordering.{nat_cmp}
 use Rattle.lg_gram.specs.Fits.{Fits, AllFit}
 use Rattle.lg_gram.specs.Trees.{Tree, empty, tree_of}
 use Rattle.lg_gram.specs.declared.expr.Expr.{Expr}
-use Rattle.lg_dict.specs.Changed.{set_key, laid_over, word_by, changed, change_at, IsNamed, IsGiven, IsLaid, HasSame}
+use Rattle.lg_dict.specs.Changed.{set_key, laid_over, word_by, named_by, changed, change_at, IsNamed, KeepsToLevel, IsGiven, IsLaid, HasSame}
 use Rattle.lg_dict.specs.Dictionary.{Dictionary, TextMap, insert_all, macros_of, IsWordOf}
 use Rattle.lg_dict.specs.Subscripts.{stem_of}
-use Rattle.lg_dict.specs.Tables.{at_text, texts_at, same_text, is_under, tree_at, macro_at, IsMacro}
+use Rattle.lg_dict.specs.Tables.{at_text, texts_at, same_text, is_under, tree_at}
 use Rattle.lg_dict.specs.declared.changes.Change.{Change}
-use Rattle.lg_dict.specs.declared.changes.Change.TheVariants.{Same, Removed, Given}
+use Rattle.lg_dict.specs.declared.changes.Change.TheVariants.{Same, Removed, Own, Given}
 use Rattle.lg_dict.specs.declared.changes.Changes.{Changes}
-use Rattle.lg_dict.specs.declared.tables.Macro.{Macro}
+use Rattle.lg_dict.specs.declared.changes.Named.{Named}
 use Rattle.lg_dict.proofs.Lookups.{under_stem, stem_under}
 use Rattle.lg_dict.proofs.Words.{text_is, text_is_itself, Contains-among}
 
@@ -101,9 +101,17 @@ module _ (dict : Dictionary) where
       get-laid_over (word_by dict.words c.formulas.items) c.words.entries dict.words word
       ∙ over_word dict.words c.formulas.items word (at_text c.words word)
 
+  pub get-found : (c : Changes) (word : List ℕ) (change : Change) → at_text c.words word ≡ Some change → get (changed dict c).words word ≡ word_by dict.words c.formulas.items word change
+  get-found c word change is = get-word c word ∙ ap (λ o. word_by dict.words c.formulas.items word (unwrap_or o Same)) is
+
   -- and a macro
-  pub get-macro : (c : Changes) (name : List ℕ) → get (changed dict c).macros name ≡ over (option_map (λ m. Some (macro_at c.formulas.items m)) (at_text c.macros name)) (get dict.macros name)
-  get-macro c name = get-laid_over (λ name m. Some (macro_at c.formulas.items m)) c.macros.entries dict.macros name
+  pub get-macro : (c : Changes) (name : List ℕ) → get (changed dict c).macros name ≡ over (option_map (λ m. Some (named_by m)) (at_text c.macros name)) (get dict.macros name)
+  get-macro c name = get-laid_over (λ name m. Some (named_by m)) c.macros.entries dict.macros name
+
+  -- where the changes of macros stay, so do the macros
+  kept_macros : (old new : Changes) → ((name : List ℕ) → at_text new.macros name ≡ at_text old.macros name) → (name : List ℕ) → get (changed dict new).macros name ≡ get (changed dict old).macros name
+  kept_macros old new same name =
+      get-macro new name ∙ ap (λ o. over (option_map (λ m. Some (named_by m)) o) (get dict.macros name)) (same name) ∙ sym (get-macro old name)
 
   dictionaries : (words : TextMap Tree) (macros : TextMap (Tree × ℕ)) (c : Changes)
       → ((word : List ℕ) → get (changed dict c).words word ≡ get words word) → ((name : List ℕ) → get (changed dict c).macros name ≡ get macros name)
@@ -117,7 +125,7 @@ module _ (dict : Dictionary) where
   pub nothing_changed : (c : Changes) → c.words.entries ≡ [] → c.macros.entries ≡ [] → changed dict c ≡ dict
   nothing_changed c no_words no_macros =
       let words = none_laid (word_by dict.words c.formulas.items) c.words.entries dict.words no_words in
-      let macros = none_laid (λ name m. Some (macro_at c.formulas.items m)) c.macros.entries dict.macros no_macros in
+      let macros = none_laid (λ name m. Some (named_by m)) c.macros.entries dict.macros no_macros in
       λ i. record { words = words i; macros = macros i }
 
   -- where nothing is changed, the dictionary is the same
@@ -125,9 +133,7 @@ module _ (dict : Dictionary) where
   same_dictionary old new h =
       dictionaries (changed dict old).words (changed dict old).macros new
       (λ word. get-word new word ∙ (λ i. word_by dict.words (h.formulas i) word (h.words word i)) ∙ sym (get-word old word))
-      (λ name. get-macro new name
-      ∙ (λ i. over (option_map (λ m. Some (macro_at (h.formulas i) m)) (h.macros name i)) (get dict.macros name))
-      ∙ sym (get-macro old name))
+      (kept_macros old new h.macros)
 
 -- ---- one formula more
 
@@ -151,43 +157,14 @@ module _ (formulas : List Expr) (e : Expr) where
   old_word : (words : TextMap Tree) (word : List ℕ) (change : Change) → IsGiven formulas change → word_by words (formulas ++ e ∷ []) word change ≡ word_by words formulas word change
   old_word words word Same h = refl
   old_word words word Removed h = refl
+  old_word words word (Own formula) h = refl
   old_word words word (Given place) h = ap Some (old_tree place h)
 
   still_given : (change : Change) → IsGiven formulas change → IsGiven (formulas ++ e ∷ []) change
   still_given Same h = tt
   still_given Removed h = tt
+  still_given (Own formula) h = tt
   still_given (Given place) h = omega (arith, length-append formulas (e ∷ []))
-
-  still_macro : (m : Macro) → IsMacro formulas m → IsMacro (formulas ++ e ∷ []) m
-  still_macro m h = record {
-    within = let low = h.within in omega (arith, length-append formulas (e ∷ []));
-    fits = subst (Fits m.level) (sym (old_tree m.formula h.within)) h.fits;
-  }
-
-  still_macros : (found : Option Macro) → IfSome found (IsMacro formulas) → IfSome found (IsMacro (formulas ++ e ∷ []))
-  still_macros None h = tt
-  still_macros (Some m) h = still_macro m h
-
-  old_macros : (found : Option Macro) (old : Option (Tree × ℕ)) → IfSome found (IsMacro formulas)
-      → over (option_map (λ m. Some (macro_at (formulas ++ e ∷ []) m)) found) old ≡ over (option_map (λ m. Some (macro_at formulas m)) found) old
-  old_macros None old h = refl
-  old_macros (Some m) old h = (λ i. Some (old_tree m.formula h.within i, m.level))
-
--- ---- a formula that nothing has yet
-
-module _ (old new : Changes) (e : Expr) (laid : IsLaid old) (grown : new.formulas.items ≡ old.formulas.items ++ e ∷ []) (words : (word : List ℕ) → at_text new.words word ≡ at_text old.words word)
-    (macros : (name : List ℕ) → at_text new.macros name ≡ at_text old.macros name) where
-  pub spare_formula : (dict : Dictionary) → changed dict new ≡ changed dict old
-  spare_formula dict =
-      dictionaries dict (changed dict old).words (changed dict old).macros new
-      (λ word. get-word dict new word
-      ∙ (λ i. word_by dict.words (grown i) word (unwrap_or (words word i) Same))
-      ∙ old_word old.formulas.items e dict.words word (change_at old word) (laid.words word)
-      ∙ sym (get-word dict old word))
-      (λ name. get-macro dict new name
-      ∙ (λ i. over (option_map (λ m. Some (macro_at (grown i) m)) (macros name i)) (get dict.macros name))
-      ∙ old_macros old.formulas.items e (at_text old.macros name) (get dict.macros name) (laid.macros name)
-      ∙ sym (get-macro dict old name))
 
 -- ---- words that get a formula
 
@@ -199,13 +176,6 @@ module _ (old new : Changes) (e : Expr) (laid : IsLaid old) (grown : new.formula
   kept_word : (dict : Dictionary) (word : List ℕ) → word_by dict.words new.formulas.items word (change_at old word) ≡ get (changed dict old).words word
   kept_word dict word =
       ap (λ fs. word_by dict.words fs word (change_at old word)) grown ∙ old_word olds e dict.words word (change_at old word) (laid.words word) ∙ sym (get-word dict old word)
-
-  kept_macros : (dict : Dictionary) → new.macros ≡ old.macros → (name : List ℕ) → get (changed dict new).macros name ≡ get (changed dict old).macros name
-  kept_macros dict same name =
-      get-macro dict new name
-      ∙ (λ i. over (option_map (λ m. Some (macro_at (grown i) m)) (at_text (same i) name)) (get dict.macros name))
-      ∙ old_macros olds e (at_text old.macros name) (get dict.macros name) (laid.macros name)
-      ∙ sym (get-macro dict old name)
 
   module _ (names : List (List ℕ)) (set : (text : List ℕ) → change_at new text ≡ (if list_any (same_text text) names then Given (length olds) else change_at old text)) where
     word_at : (dict : Dictionary) (word : List ℕ) (b : Bool) → list_any (same_text word) names ≡ b → get (changed dict new).words word ≡ cond b (Some (tree_of e)) (get (changed dict old).words word)
@@ -223,7 +193,7 @@ module _ (old new : Changes) (e : Expr) (laid : IsLaid old) (grown : new.formula
     words_given dict same =
         dictionaries dict (insert_all names (tree_of e) (changed dict old).words) (changed dict old).macros new
         (λ word. word_at dict word (list_any (same_text word) names) refl ∙ sym (get-insert_all names (tree_of e) (changed dict old).words word))
-        (kept_macros dict same)
+        (kept_macros dict old new (λ name i. at_text (same i) name))
 
     given_at : (word : List ℕ) (b : Bool) → list_any (same_text word) names ≡ b → IsGiven (olds ++ e ∷ []) (change_at new word)
     given_at word true is =
@@ -234,96 +204,67 @@ module _ (old new : Changes) (e : Expr) (laid : IsLaid old) (grown : new.formula
     pub laid_given : new.macros ≡ old.macros → new.stems ≡ old.stems → ((text : List ℕ) → is_some (at_text new.words text) ≡ is_some (at_text old.words text)) → IsLaid new
     laid_given same stems named = record {
       words = λ word. subst (λ fs. IsGiven fs (change_at new word)) (sym grown) (given_at word (list_any (same_text word) names) refl);
-      macros = λ name. subst (λ fs. IfSome (at_text new.macros name) (IsMacro fs)) (sym grown)
-          (subst (λ ms. IfSome (at_text ms name) (IsMacro (olds ++ e ∷ []))) (sym same) (still_macros olds e (at_text old.macros name) (laid.macros name)));
+      macros = λ name. subst (λ ms. IfSome (at_text ms name) KeepsToLevel) (sym same) (laid.macros name);
       only = λ stem word h. laid.only stem word (subst (λ t. Contains (texts_at t stem) word) stems h);
       all = λ stem word h under. subst (λ t. Contains (texts_at t stem) word) (sym stems) (laid.all stem word (sym (named word) ∙ h) under);
     }
 
--- ---- a macro
+-- ---- one word
 
-module _ (old new : Changes) (e : Expr) (laid : IsLaid old) (grown : new.formulas.items ≡ old.formulas.items ++ e ∷ []) (words : new.words ≡ old.words) where
-  changed_words : (dict : Dictionary) (word : List ℕ) → get (changed dict new).words word ≡ get (changed dict old).words word
-  changed_words dict word =
-      get-word dict new word ∙ ap (λ t. word_by dict.words new.formulas.items word (unwrap_or (at_text t word) Same)) words ∙ kept_word old new e laid grown dict word
+-- what a word has by a change of it alone
+module _ (old new : Changes) (formulas : new.formulas.items ≡ old.formulas.items) (macros : new.macros ≡ old.macros) (word : List ℕ) (change : Change)
+    (set : (text : List ℕ) → at_text new.words text ≡ (if same_text text word then Some change else at_text old.words text)) where
+  change_now : (text : List ℕ) (b : Bool) → same_text text word ≡ b → change_at new text ≡ cond b change (change_at old text)
+  change_now text true is = ap (λ o. unwrap_or o Same) (set text ∙ ap (λ b. if b then Some change else at_text old.words text) is)
+  change_now text false is = ap (λ o. unwrap_or o Same) (set text ∙ ap (λ b. if b then Some change else at_text old.words text) is)
 
-  module _ (name : List ℕ) (level : ℕ) (set : (text : List ℕ) → at_text new.macros text ≡ cond (same_text text name) (Some (record { formula = length old.formulas.items; level = level })) (at_text old.macros text)) where
-    abbrev here : Macro
-    here = record { formula = length old.formulas.items; level = level }
+  module _ (found : Option Tree) (means : (words : TextMap Tree) (formulas : List Expr) (text : List ℕ) → word_by words formulas text change ≡ found) where
+    word_now : (dict : Dictionary) (text : List ℕ) (b : Bool) → same_text text word ≡ b → get (changed dict new).words text ≡ cond b found (get (changed dict old).words text)
+    word_now dict text true is = get-word dict new text ∙ ap (word_by dict.words new.formulas.items text) (change_now text true is) ∙ means dict.words new.formulas.items text
+    word_now dict text false is =
+        get-word dict new text ∙ ap (word_by dict.words new.formulas.items text) (change_now text false is)
+        ∙ ap (λ fs. word_by dict.words fs text (change_at old text)) formulas ∙ sym (get-word dict old text)
 
-    macro_now : (dict : Dictionary) (text : List ℕ) (b : Bool) → same_text text name ≡ b → get (changed dict new).macros text ≡ cond b (Some (tree_of e, level)) (get (changed dict old).macros text)
-    macro_now dict text true is =
-        get-macro dict new text
-        ∙ ap (λ o. over (option_map (λ m. Some (macro_at new.formulas.items m)) o) (get dict.macros text)) (set text ∙ ap (λ b. cond b (Some here) (at_text old.macros text)) is)
-        ∙ ap (λ fs. Some (tree_at fs (length old.formulas.items), level)) grown
-        ∙ ap (λ t. Some (t, level)) (new_tree old.formulas.items e)
-    macro_now dict text false is =
-        get-macro dict new text
-        ∙ ap (λ o. over (option_map (λ m. Some (macro_at new.formulas.items m)) o) (get dict.macros text)) (set text ∙ ap (λ b. cond b (Some here) (at_text old.macros text)) is)
-        ∙ ap (λ fs. over (option_map (λ m. Some (macro_at fs m)) (at_text old.macros text)) (get dict.macros text)) grown
-        ∙ old_macros old.formulas.items e (at_text old.macros text) (get dict.macros text) (laid.macros text)
-        ∙ sym (get-macro dict old text)
+    pub word_set : (dict : Dictionary) → changed dict new ≡ record (changed dict old) { words = set_key (changed dict old).words word found }
+    word_set dict =
+        dictionaries dict (set_key (changed dict old).words word found) (changed dict old).macros new
+        (λ text. word_now dict text (same_text text word) refl ∙ sym (get-set_key (changed dict old).words word found text))
+        (kept_macros dict old new (λ name i. at_text (macros i) name))
 
-    pub macro_set : (dict : Dictionary) → changed dict new ≡ record (changed dict old) { macros = insert (changed dict old).macros name (tree_of e, level) }
-    macro_set dict =
-        dictionaries dict (changed dict old).words (insert (changed dict old).macros name (tree_of e, level)) new (changed_words dict)
-        (λ text. macro_now dict text (same_text text name) refl ∙ sym (get-inserted (changed dict old).macros name (tree_of e, level) text))
+-- ---- one macro
 
-    module _ (fits : Fits level (tree_of e)) where
-      here_fits : IsMacro (old.formulas.items ++ e ∷ []) here
-      here_fits = record {
-        within = omega (arith, length-append old.formulas.items (e ∷ []));
-        fits = subst (Fits level) (sym (new_tree old.formulas.items e)) fits;
-      }
+module _ (old new : Changes) (formulas : new.formulas ≡ old.formulas) (words : new.words ≡ old.words) (name : List ℕ) (found : Named)
+    (set : (text : List ℕ) → at_text new.macros text ≡ cond (same_text text name) (Some found) (at_text old.macros text)) where
+  macro_now : (dict : Dictionary) (text : List ℕ) (b : Bool) → same_text text name ≡ b → get (changed dict new).macros text ≡ cond b (Some (named_by found)) (get (changed dict old).macros text)
+  macro_now dict text true is =
+      get-macro dict new text ∙ ap (λ o. over (option_map (λ m. Some (named_by m)) o) (get dict.macros text)) (set text ∙ ap (λ b. cond b (Some found) (at_text old.macros text)) is)
+  macro_now dict text false is =
+      get-macro dict new text ∙ ap (λ o. over (option_map (λ m. Some (named_by m)) o) (get dict.macros text)) (set text ∙ ap (λ b. cond b (Some found) (at_text old.macros text)) is)
+      ∙ sym (get-macro dict old text)
 
-      macro_laid : (text : List ℕ) (b : Bool) → same_text text name ≡ b → IfSome (at_text new.macros text) (IsMacro (old.formulas.items ++ e ∷ []))
-      macro_laid text true is =
-          subst (λ o. IfSome o (IsMacro (old.formulas.items ++ e ∷ []))) (sym (set text ∙ ap (λ b. cond b (Some here) (at_text old.macros text)) is)) here_fits
-      macro_laid text false is =
-          subst (λ o. IfSome o (IsMacro (old.formulas.items ++ e ∷ []))) (sym (set text ∙ ap (λ b. cond b (Some here) (at_text old.macros text)) is))
-          (still_macros old.formulas.items e (at_text old.macros text) (laid.macros text))
+  pub macro_set : (dict : Dictionary) → changed dict new ≡ record (changed dict old) { macros = insert (changed dict old).macros name (named_by found) }
+  macro_set dict =
+      dictionaries dict (changed dict old).words (insert (changed dict old).macros name (named_by found)) new
+      (λ word. get-word dict new word ∙ (λ i. word_by dict.words (formulas i).items word (unwrap_or (at_text (words i) word) Same)) ∙ sym (get-word dict old word))
+      (λ text. macro_now dict text (same_text text name) refl ∙ sym (get-inserted (changed dict old).macros name (named_by found) text))
 
-      pub laid_macro : new.stems ≡ old.stems → IsLaid new
-      laid_macro stems = record {
-        words = λ word. subst (λ fs. IsGiven fs (change_at new word)) (sym grown)
-            (subst (λ t. IsGiven (old.formulas.items ++ e ∷ []) (unwrap_or (at_text t word) Same)) (sym words) (still_given old.formulas.items e (change_at old word) (laid.words word)));
-        macros = λ text. subst (λ fs. IfSome (at_text new.macros text) (IsMacro fs)) (sym grown) (macro_laid text (same_text text name) refl);
-        only = λ stem word h. laid.only stem word (subst (λ t. Contains (texts_at t stem) word) stems h);
-        all = λ stem word h under. subst (λ t. Contains (texts_at t stem) word) (sym stems) (laid.all stem word (subst (λ t. IsSome (at_text t word)) words h) under);
-      }
-
--- ---- a word that is removed
-
-module _ (old new : Changes) (formulas : new.formulas.items ≡ old.formulas.items) (macros : new.macros ≡ old.macros) (word : List ℕ)
-    (set : (text : List ℕ) → at_text new.words text ≡ (if same_text text word then Some Removed else at_text old.words text)) where
-  change_now : (text : List ℕ) (b : Bool) → same_text text word ≡ b → change_at new text ≡ cond b Removed (change_at old text)
-  change_now text true is = ap (λ o. unwrap_or o Same) (set text ∙ ap (λ b. if b then Some Removed else at_text old.words text) is)
-  change_now text false is = ap (λ o. unwrap_or o Same) (set text ∙ ap (λ b. if b then Some Removed else at_text old.words text) is)
-
-  word_now : (dict : Dictionary) (text : List ℕ) (b : Bool) → same_text text word ≡ b → get (changed dict new).words text ≡ cond b None (get (changed dict old).words text)
-  word_now dict text true is = get-word dict new text ∙ ap (word_by dict.words new.formulas.items text) (change_now text true is)
-  word_now dict text false is =
-      get-word dict new text ∙ ap (word_by dict.words new.formulas.items text) (change_now text false is)
-      ∙ ap (λ fs. word_by dict.words fs text (change_at old text)) formulas ∙ sym (get-word dict old text)
-
-  pub word_gone : (dict : Dictionary) → changed dict new ≡ record (changed dict old) { words = remove (changed dict old).words word }
-  word_gone dict =
-      dictionaries dict (remove (changed dict old).words word) (changed dict old).macros new
-      (λ text. word_now dict text (same_text text word) refl ∙ sym (get-removed (changed dict old).words word text))
-      (λ name. get-macro dict new name
-      ∙ (λ i. over (option_map (λ m. Some (macro_at (formulas i) m)) (at_text (macros i) name)) (get dict.macros name))
-      ∙ sym (get-macro dict old name))
+  -- each macro still keeps to its level
+  pub still_kept : KeepsToLevel found → ((text : List ℕ) → IfSome (at_text old.macros text) KeepsToLevel) → (text : List ℕ) → IfSome (at_text new.macros text) KeepsToLevel
+  still_kept fits before text = by (same_text text name) refl
+    where
+      by : (b : Bool) → same_text text name ≡ b → IfSome (at_text new.macros text) KeepsToLevel
+      by true is = subst (λ o. IfSome o KeepsToLevel) (sym (set text ∙ ap (λ b. cond b (Some found) (at_text old.macros text)) is)) fits
+      by false is = subst (λ o. IfSome o KeepsToLevel) (sym (set text ∙ ap (λ b. cond b (Some found) (at_text old.macros text)) is)) (before text)
 
 -- ---- macros keep to their levels
 
-fits_over : (formulas : List Expr) (found : Option Macro) (old : Option (Tree × ℕ)) → IfSome found (IsMacro formulas) → IfSome old (λ m. Fits m.1 m.0)
-    → IfSome (over (option_map (λ m. Some (macro_at formulas m)) found) old) (λ m. Fits m.1 m.0)
-fits_over formulas None old h k = k
-fits_over formulas (Some m) old h k = h.fits
+fits_over : (found : Option Named) (old : Option (Tree × ℕ)) → IfSome found KeepsToLevel → IfSome old (λ m. Fits m.1 m.0) → IfSome (over (option_map (λ m. Some (named_by m)) found) old) (λ m. Fits m.1 m.0)
+fits_over None old h k = k
+fits_over (Some m) old h k = h
 
 pub fit_changed : (dict : Dictionary) (c : Changes) → IsLaid c → AllFit (macros_of dict) → AllFit (macros_of (changed dict c))
 fit_changed dict c laid below =
-    λ name. subst (λ o. IfSome o (λ m. Fits m.1 m.0)) (sym (get-macro dict c name)) (fits_over c.formulas.items (at_text c.macros name) (get dict.macros name) (laid.macros name) (below name))
+    λ name. subst (λ o. IfSome o (λ m. Fits m.1 m.0)) (sym (get-macro dict c name)) (fits_over (at_text c.macros name) (get dict.macros name) (laid.macros name) (below name))
 
 -- ---- words of a text
 

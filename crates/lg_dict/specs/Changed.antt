@@ -2,13 +2,15 @@
 use Rattle.std.specs.Prelude.{◌≡◌, ◌<◌, ℕ, List, [], ◌∷◌, length, Contains, Option, Some, None, IsSome, IfSome, true}
 use Rattle.std.specs.FinMap.{get, insert, remove}
 use Rattle.std.specs.Option.{unwrap_or}
-use Rattle.lg_gram.specs.Trees.{Tree}
+use Rattle.lg_gram.specs.Trees.{Tree, tree_of}
+use Rattle.lg_gram.specs.Fits.{Fits}
 use Rattle.lg_gram.specs.declared.expr.Expr.{Expr}
 use Rattle.lg_dict.specs.Dictionary.{Dictionary, TextMap}
-use Rattle.lg_dict.specs.Tables.{text_entries, at_text, texts_at, is_under, tree_at, macro_at, IsMacro}
+use Rattle.lg_dict.specs.Tables.{text_entries, at_text, texts_at, is_under, tree_at}
 use Rattle.lg_dict.specs.declared.changes.Change.{Change}
-use Rattle.lg_dict.specs.declared.changes.Change.TheVariants.{Same, Removed, Given}
+use Rattle.lg_dict.specs.declared.changes.Change.TheVariants.{Same, Removed, Own, Given}
 use Rattle.lg_dict.specs.declared.changes.Changes.{Changes}
+use Rattle.lg_dict.specs.declared.changes.Named.{Named}
 
 -- at this key the map has this value, or nothing
 abbrev pub set_key : {X : Type 0} → TextMap X → List ℕ → Option X → TextMap X
@@ -24,13 +26,18 @@ laid_over means (e ∷ es) m = set_key (laid_over means es m) e.0 (means e.0 e.1
 abbrev pub word_by : TextMap Tree → List Expr → List ℕ → Change → Option Tree
 word_by words formulas word Same = get words word
 word_by words formulas word Removed = None
+word_by words formulas word (Own formula) = Some (tree_of formula)
 word_by words formulas word (Given place) = Some (tree_at formulas place)
+
+-- what a macro stands for now, and its level
+abbrev pub named_by : Named → Tree × ℕ
+named_by m = (tree_of m.formula, m.level)
 
 -- a dictionary with changes laid over it
 abbrev pub changed : Dictionary → Changes → Dictionary
 changed dict c = record {
   words = laid_over (word_by dict.words c.formulas.items) (text_entries c.words) dict.words;
-  macros = laid_over (λ name m. Some (macro_at c.formulas.items m)) (text_entries c.macros) dict.macros;
+  macros = laid_over (λ name m. Some (named_by m)) (text_entries c.macros) dict.macros;
 }
 
 -- what is changed at a word
@@ -41,16 +48,21 @@ change_at c word = unwrap_or (at_text c.words word) Same
 abbrev pub IsNamed : Changes → List ℕ → Type 0
 IsNamed c word = IsSome (at_text c.words word)
 
--- the formula that a change gives is there
+-- a formula that a change gives by its place is there
 abbrev pub IsGiven : List Expr → Change → Type 0
 IsGiven formulas Same = Unit {0}
 IsGiven formulas Removed = Unit {0}
+IsGiven formulas (Own formula) = Unit {0}
 IsGiven formulas (Given place) = place < length formulas
 
--- each formula is there, each macro keeps to its level, and each stem lists words that have it, among them each that is named
+-- a macro keeps to its level
+abbrev pub KeepsToLevel : Named → Type 0
+KeepsToLevel m = Fits m.level (tree_of m.formula)
+
+-- each formula that is given by its place is there, each macro keeps to its level, and each stem lists words that have it, among them each that is named
 pub record IsLaid (c : Changes) : Type 0 where
   pub words : (word : List ℕ) → IsGiven c.formulas.items (change_at c word)
-  pub macros : (name : List ℕ) → IfSome (at_text c.macros name) (IsMacro c.formulas.items)
+  pub macros : (name : List ℕ) → IfSome (at_text c.macros name) KeepsToLevel
   pub only : (stem word : List ℕ) → Contains (texts_at c.stems stem) word → is_under stem word ≡ true
   pub all : (stem word : List ℕ) → IsNamed c word → is_under stem word ≡ true → Contains (texts_at c.stems stem) word
 

@@ -9,33 +9,44 @@ ghost use Rattle.lg_gram.specs.Trees.{tree_of};
 ghost use Rattle.lg_dict.specs.Changed.{change_at, changed, HasSame, IsLaid, IsNamed};
 ghost use Rattle.lg_dict.specs.Dictionary.{Dictionary, insert_all};
 ghost use Rattle.lg_dict.specs.Tables.{at_text, same_text};
+ghost use Rattle.lg_dict.specs.declared.changes.Change.TheVariants.{Given};
 
 use crate::dict::Dict;
-use crate::tables::{Macro, Table, copied, list_text};
+use crate::tables::{Table, copied, list_text};
 use indexmap::IndexMap;
 use lg_base::{NoMemory, Text};
 use lg_gram::Formula;
 use std::alloc::Global;
 
 /// What is changed at a word.
-#[derive(Clone, Copy, Debug, PartialEq, Eq)]
+#[derive(Drop)]
 pub enum Change {
     /// Nothing.
     Same,
     Removed,
-    /// The place of the word's formula among those of the changes.
+    /// The formula that was given to this word alone. It goes when the word is changed again.
+    Own(Formula),
+    /// The place, among those of the changes, of a formula that was given to several words at once.
     Given(usize),
+}
+
+/// What a macro stands for now. The formula goes when the macro is set again.
+#[derive(Drop)]
+pub(crate) struct Named {
+    pub(crate) formula: Formula,
+    pub(crate) level: u32,
 }
 
 /// Changes: of words, with the words of each stem, and of macros.
 ///
-/// The words that a stem lists may be unchanged, and may stand twice.
+/// The formulas are those that were given to several words at once; they stay until the changes are given back, also where
+/// no word has them any more. The words that a stem lists may be unchanged, and may stand twice.
 #[derive(Drop)]
 pub(crate) struct Changes {
     pub(crate) formulas: Vec<Formula>,
     pub(crate) words: Table<Change>,
     pub(crate) stems: Table<Vec<Text>>,
-    pub(crate) macros: Table<Macro>,
+    pub(crate) macros: Table<Named>,
 }
 
 impl Changes {
@@ -53,16 +64,6 @@ impl Changes {
         }
     }
 
-    /// What is changed at a word. No memory.
-    pub(crate) fn at(&self, word: &[u8]) -> Change
-        ensures { result ≡ change_at self.now word.now }
-    {
-        match self.words.get(word) {
-            Some(change) => *change,
-            None => Change::Same,
-        }
-    }
-
     /// Gives each of these words the formula. Out of memory, nothing is changed.
     pub(crate) fn put(
         &mut self,
@@ -75,11 +76,10 @@ impl Changes {
         ensures put { OnOk result ((dict : Dictionary) → changed dict self.new ≡ record (changed dict self.old) { words = insert_all words.now (tree_of formula) (changed dict self.old).words }) }
         ensures unchanged { OnErr result ((dict : Dictionary) → changed dict self.new ≡ changed dict self.old) }
     {
-        self.admit_all(alloc, words)?;
-        let place = self.formulas.len();
-        self.formulas.push(formula)?;
-        self.set_all(words, Change::Given(place));
-        Ok(())
+        match words {
+            [word] => self.put_one(alloc, word.bytes(), formula),
+            _ => self.put_all(alloc, words, formula),
+        }
     }
 
     /// Sets a macro. Out of memory, nothing is changed.
@@ -97,13 +97,7 @@ impl Changes {
         ensures unchanged { OnErr result ((dict : Dictionary) → changed dict self.new ≡ changed dict self.old) }
     {
         let key = copied(alloc, name)?;
-        let place = self.formulas.len();
-        self.formulas.push(formula)?;
-        let found = Macro {
-            formula: place,
-            level,
-        };
-        self.macros.insert(key, found)?;
+        self.macros.insert(key, Named { formula, level })?;
         Ok(())
     }
 
@@ -116,6 +110,32 @@ impl Changes {
     {
         self.admit(alloc, word)?;
         set_change(&mut self.words, word, Change::Removed);
+        Ok(())
+    }
+
+    // Gives this word alone the formula. Out of memory, nothing is changed.
+    fn put_one(&mut self, alloc: Global, word: &[u8], formula: Formula) -> Result<(), NoMemory>
+        requires { IsLaid self.old }
+        ensures laid { IsLaid self.new }
+        ensures put { OnOk result ((dict : Dictionary) → changed dict self.new ≡ record (changed dict self.old) { words = finite.insert (changed dict self.old).words word.now (tree_of formula) }) }
+        ensures unchanged { OnErr result ((dict : Dictionary) → changed dict self.new ≡ changed dict self.old) }
+    {
+        self.admit(alloc, word)?;
+        set_change(&mut self.words, word, Change::Own(formula));
+        Ok(())
+    }
+
+    // Gives each of these words the formula. Out of memory, nothing is changed.
+    fn put_all(&mut self, alloc: Global, words: &[Text], formula: Formula) -> Result<(), NoMemory>
+        requires { IsLaid self.old }
+        ensures laid { IsLaid self.new }
+        ensures put { OnOk result ((dict : Dictionary) → changed dict self.new ≡ record (changed dict self.old) { words = insert_all words.now (tree_of formula) (changed dict self.old).words }) }
+        ensures unchanged { OnErr result ((dict : Dictionary) → changed dict self.new ≡ changed dict self.old) }
+    {
+        self.admit_all(alloc, words)?;
+        let place = self.formulas.len();
+        self.formulas.push(formula)?;
+        self.set_all(words, place);
         Ok(())
     }
 
@@ -149,17 +169,17 @@ impl Changes {
         Ok(())
     }
 
-    // Changes each of these words, for which there is room.
-    fn set_all(&mut self, words: &[Text], change: Change)
+    // Gives each of these words, for which there is room, the formula at this place.
+    fn set_all(&mut self, words: &[Text], place: usize)
         requires named { All (IsNamed self.old) words.now }
-        ensures words { (text : List ℕ) → change_at self.new text ≡ (if list_any (same_text text) words.now then change else change_at self.old text) }
+        ensures words { (text : List ℕ) → change_at self.new text ≡ (if list_any (same_text text) words.now then Given place else change_at self.old text) }
         ensures names { (text : List ℕ) → is_some (at_text self.new.words text) ≡ is_some (at_text self.old.words text) }
         ensures stems { self.new.stems ≡ self.old.stems }
         ensures formulas { self.new.formulas ≡ self.old.formulas }
         ensures macros { self.new.macros ≡ self.old.macros }
     {
         for word in words {
-            set_change(&mut self.words, word.bytes(), change);
+            set_change(&mut self.words, word.bytes(), Change::Given(place));
         }
     }
 }
@@ -184,10 +204,12 @@ pub(crate) fn looked_up<'b>(
     requires { IsLaid changes.now }
     ensures { option_map (λ formula. tree_of formula.now) result ≡ finite.get (changed base.now changes.now).words word.now }
 {
-    match changes.at(word) {
-        Change::Same => base.get(word),
-        Change::Removed => None,
-        Change::Given(place) => Some(&changes.formulas[place]),
+    match changes.words.get(word) {
+        None => base.get(word),
+        Some(Change::Same) => base.get(word),
+        Some(Change::Removed) => None,
+        Some(Change::Own(formula)) => Some(formula),
+        Some(Change::Given(place)) => Some(&changes.formulas[*place]),
     }
 }
 
@@ -202,7 +224,7 @@ pub(crate) fn named_in<'b>(
     ensures level { IfSome result (λ found. LevelFits found.1 (tree_of found.0.now)) }
 {
     match changes.macros.get(name) {
-        Some(found) => Some((&changes.formulas[found.formula], found.level)),
+        Some(found) => Some((&found.formula, found.level)),
         None => base.named(name),
     }
 }

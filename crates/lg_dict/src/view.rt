@@ -22,8 +22,9 @@ use std::marker::Model;
 
 /// A dictionary with changes laid over it. Contracts see the same two finite maps.
 ///
-/// The dictionary below stays as it is. A change takes the memory of its words and of one formula; memory of what it
-/// replaces is given back with the view.
+/// The dictionary below stays as it is. A change takes the memory of its words and of one formula. What a macro had, or a
+/// word by a change of it alone, goes when the macro or the word is changed again; a formula that was given to several words
+/// at once stays until the view is given back.
 #[derive(Drop)]
 pub struct View<'a> {
     alloc: Global,

@@ -8,7 +8,7 @@ use Rattle.lg_dict.specs.declared.changes.Change.TheVariants.{Given}
 use Rattle.lg_dict.specs.declared.changes.Changes.{Changes}
 use Rattle.lg_dict.proofs.Admitted.{on_err}
 use Rattle.lg_dict.proofs.Changed.{same_dictionary, words_given, laid_given}
-use Rattle.lg_dict.proofs.changes.Changes.put.Goals as goal
+use Rattle.lg_dict.proofs.changes.Changes.put_all.Goals as goal
 
 pub returns-in_err-admit_all-clause-unchanged : goal.returns-in_err-admit_all-clause-unchanged
 returns-in_err-admit_all-clause-unchanged c = on_err c.from_residual.result (λ dict. same_dictionary dict c.args.self.now c.admit_all.new.self c.admit_all.ensures.same)
