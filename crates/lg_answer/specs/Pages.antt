@@ -51,7 +51,7 @@ pub record IsPage (positions : List (List Disjunct)) (know : Knowledge) (nulls :
 abbrev pub HasLinkagesOf : List (List Disjunct) → List (List Disjunct) → Type 0
 HasLinkagesOf positions kept = (g : Linkage) → Good positions g ↔ Good kept g
 
--- What contracts see of a listing. The problem of its course is what pruning has left of the sentence's.
+-- What contracts see of a listing. The problem of its course is what pruning, and often sharpening, has left of the sentence's.
 pub record Listing : Type 0 where
   pub tokens : List Token
   pub course : Course

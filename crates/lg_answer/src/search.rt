@@ -10,7 +10,7 @@ ghost use Rattle.lg_answer.specs.Searches.{Begins, BeginsSharper, HasFew, blanks
 
 use crate::options::Options;
 use lg_base::{NoMemory, Own, Steps};
-use lg_forest::{Forest, solve, solve_at};
+use lg_forest::{Forest, solve, solve_at, solve_at_by};
 use lg_gram::{Linkage, Problem};
 use lg_rank::Ranked;
 use lg_region::Key;
@@ -204,7 +204,8 @@ fn first_of<R: Threads + Sync>(
     ensures { IfOk result (λ ranked. IfSome ranked (BeginsSharper problem.now)) }
 {
     let nulls = blanks_of(problem);
-    let forest = forest_of(rt, alloc, &sharp, nulls, workers)?;
+    let mut steps = Steps::<Own>::start();
+    let forest = solve_at_by(rt, alloc, &sharp, nulls, workers, &mut steps)?;
     if !has_few(&forest, nulls) {
         return Ok(None);
     }
@@ -228,26 +229,6 @@ fn blanks_of(problem: &Problem) -> u32
         .iter()
         .filter(|position| position.items().is_empty())
         .count() as u32
-}
-
-// The forest of a problem with so many unlinked words, where one worker looks for it, and else that with the fewest.
-fn forest_of<R: Threads + Sync>(
-    rt: &R,
-    alloc: Global,
-    problem: &Problem,
-    nulls: u32,
-    workers: u32,
-) -> Result<Forest, NoMemory>
-    requires workers { AreWorkers workers }
-    requires nulls { nulls ≤ length problem.now }
-    ensures { IfOk result (λ forest. (from : ℕ) × IsForest problem.now from forest) }
-{
-    let mut steps = Steps::<Own>::start();
-    if workers == 1 {
-        solve_at(alloc, problem, nulls, &mut steps)
-    } else {
-        solve(rt, alloc, problem, workers, &mut steps)
-    }
 }
 
 // Whether the sentence has a linkage in its forest, with at most so many unlinked words.

@@ -30,8 +30,7 @@ fn listed(alloc: Global, problem: Problem, forest: Forest) -> Result<Vec<Linkage
 }
 
 // Whether the slow lister, the forest and the ranked listing have the same linkages in the same order.
-fn agrees<R: Threads + Sync>(rt: &R, alloc: Global, seed: u32) -> Result<bool, Fail> {
-    let problem = made(alloc, seed)?;
+fn agrees<R: Threads + Sync>(rt: &R, alloc: Global, problem: Problem) -> Result<bool, Fail> {
     if problem.positions().len() > PLAIN_POSITIONS {
         return Err("too many positions")?;
     }
@@ -44,11 +43,38 @@ fn agrees<R: Threads + Sync>(rt: &R, alloc: Global, seed: u32) -> Result<bool, F
 
 fn all_agree<R: Threads + Sync>(rt: &R, alloc: Global, from: u32, to: u32) -> Result<bool, Fail> {
     for seed in from..to {
-        if !agrees(rt, alloc, seed)? {
+        let problem = made(alloc, seed)?;
+        if !agrees(rt, alloc, problem)? {
             return Ok(false);
         }
     }
     Ok(true)
+}
+
+// Sentences of which each shows one rule: all words linked, none, one under a link, two links of one pair, connectors that take
+// more links, disjuncts without connectors, no words, and chains.
+const SENTENCES: [&[&str]; 12] = [
+    &["D", "dS|do", "sO", "D", "dS|do"],
+    &["S|o", "s"],
+    &["D", "S|o", "sO", "dS|do"],
+    &["D", "dS|do", "S|o", "s"],
+    &["AB", "ab"],
+    &["A|B", "a|b"],
+    &["A", "A", "|@a"],
+    &["@A@A", "a", "a", "a"],
+    &["", ""],
+    &[],
+    &["|X|x|xX", "|X|x|xX", "|X|x|xX", "|X|x|xX"],
+    &["A|B", "aA|aB|bA|bB", "aA|aB|bA|bB", "a|b"],
+];
+
+#[test]
+fn as_the_slow_lister_by_rules(rt: HostRuntime) -> Result<(), Fail> {
+    let alloc = rt.alloc();
+    for words in SENTENCES {
+        assert!(rt; agrees(&rt, alloc, problem(alloc, words)?)?);
+    }
+    Ok(())
 }
 
 // 500 problems, in five tests for the time that a test may take.

@@ -2,7 +2,7 @@
 use crate::problems::problem;
 use indexmap::IndexMap;
 use lg_base::{Own, Steps};
-use lg_forest::{Forest, solve};
+use lg_forest::{Forest, solve, solve_at, solve_at_by};
 use lg_gram::Problem;
 use lg_region::{Alt, Alts, Key};
 use std::alloc::Global;
@@ -113,6 +113,22 @@ fn sixteen_workers(rt: HostRuntime) -> Result<(), Fail> {
     let problem = chain(alloc)?;
     let (alone, _all) = solved(&rt, alloc, &problem, 1)?;
     let (shared, _fewer) = solved(&rt, alloc, &problem, 16)?;
+    assert!(rt; are_same(alloc, &alone, &shared)?);
+    Ok(())
+}
+
+#[test]
+fn workers_at_one_number(rt: HostRuntime) -> Result<(), Fail> {
+    let alloc = rt.alloc();
+    let problem = chain(alloc)?;
+    if problem.positions().is_empty() {
+        return Err("no words")?;
+    }
+    let mut steps = Steps::<Own>::start();
+    let alone = solve_at(alloc, &problem, 1, &mut steps)?;
+    let mut fewer = Steps::<Own>::start();
+    let shared = solve_at_by(&rt, alloc, &problem, 1, 4, &mut fewer)?;
+    assert!(rt; fewer.count() < steps.count());
     assert!(rt; are_same(alloc, &alone, &shared)?);
     Ok(())
 }

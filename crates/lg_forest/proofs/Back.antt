@@ -1,6 +1,6 @@
 -- Seats that come back from their workers.
-use Rattle.std.proofs.Common.{◌≡◌, ℕ, List, [], ◌∷◌, ◌++◌, take, drop, Option, Some, None, sym, ap, ◌∙◌, append-nil, take-append-drop, ◌<◌, length, arith}
-use Rattle.std.specs.Prelude.{option_to_list}
+use Rattle.std.proofs.Common.{◌≡◌, ℕ, List, [], ◌∷◌, ◌++◌, take, drop, Option, Some, None, sym, ap, ◌∙◌, subst, append-nil, take-append-drop, ◌<◌, length, arith}
+use Rattle.std.specs.Prelude.{option_to_list, IfSome}
 use Rattle.std.proofs.lemmas.List.{length-append}
 use Rattle.std.specs.List.{All, flat_map}
 use Rattle.std.proofs.lemmas.List.Elements.{All-pop, All-push, All-same, All-append}
@@ -33,6 +33,10 @@ module _ {A B : Type 0} where
         All-same Free new (first ++ second) are (All-append Free first second a.0 b.0),
         ap (λ l. flat_map numbers l) are ∙ flat_map-append numbers first second ∙ (λ i. a.1 i ++ b.1 i) ∙ sym (flat_map-append numbers low high) ∙ ap (λ l. flat_map numbers l) (sym split),
       )
+
+-- what holds of all holds of the last and of what is left
+pub all_but_last : {A : Type 0} (old rest : List A) (r : Option A) (x : A) → old ≡ rest ++ option_to_list r → r ≡ Some x → (P : A → Type 0) → All P old → P x × All P rest
+all_but_last old rest r x e is P all = let parts = All-pop P old rest r e all in (subst (λ o. IfSome o P) is parts.1, parts.0)
 
 -- one less is left
 pub pop_shorter : {A : Type 0} (old rest : List A) (r : Option A) (x : A) → old ≡ rest ++ option_to_list r → r ≡ Some x → length rest < length old

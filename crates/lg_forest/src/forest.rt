@@ -17,6 +17,7 @@ use crate::known::Known;
 use crate::law::keys_are_decided;
 use crate::search::visit;
 use crate::table::Table;
+use crate::worker::Levels;
 use crate::workers::known_of;
 use lg_base::{NoMemory, Steps};
 use lg_gram::Problem;
@@ -102,7 +103,8 @@ pub fn solve<R: Threads + Sync, L>(
     keys_are_decided();
     let last = problem.positions().len() as u32;
     let lists = Lists::of(alloc, problem)?;
-    let mut known = known_of(rt, alloc, problem, &lists, workers)?;
+    let levels = Levels { from: 0, end: last };
+    let mut known = known_of(rt, alloc, problem, &lists, levels, workers)?;
     let mut table = Table::new(alloc);
     let unused = fewest(alloc, &lists, last, &mut table, &mut known, steps)?;
     Ok(Forest::of(unused, table))
@@ -121,14 +123,67 @@ pub fn solve_at<L>(
     ensures unused { IfOk result (λ forest. forest.unused ≡ nulls) }
     ensures steps { IfOk result (λ forest. (lists : List (List Connector)) → AreListsOf problem.now lists → (n : ℕ) × CountsKeys (IsDemanded problem.now lists nulls nulls) n × (steps.new ≡ steps.old + n)) }
 {
-    keys_are_decided();
     // the call tells that there are few positions
     let _positions = problem.positions();
     let lists = Lists::of(alloc, problem)?;
-    let mut known = Known::nothing(alloc);
+    let known = Known::nothing(alloc);
+    let forest = forest_at(alloc, problem, &lists, nulls, known, steps)?;
+    Ok(forest)
+}
+
+/// The same as `solve_at`, where from 1 to 16 workers first share what they find, as in `solve`: with more than one the steps are at
+/// most the demanded keys.
+pub fn solve_at_by<R: Threads + Sync, L>(
+    rt: &R,
+    alloc: Global,
+    problem: &Problem,
+    nulls: u32,
+    workers: u32,
+    steps: &mut Steps<L>,
+) -> Result<Forest, NoMemory>
+    requires workers { AreWorkers workers }
+    requires nulls { nulls ≤ length problem.now }
+    requires room { steps.old < 2 ^ 126 }
+    ensures forest { IfOk result (IsForest problem.now nulls) }
+    ensures unused { IfOk result (λ forest. forest.unused ≡ nulls) }
+    ensures steps { IfOk result (λ forest. (lists : List (List Connector)) → AreListsOf problem.now lists → (n : ℕ) × CountsKeys (IsDemanded problem.now lists nulls nulls) n × HasStepped workers steps.old steps.new n) }
+{
+    // the call tells that there are few positions
+    let _positions = problem.positions();
+    let lists = Lists::of(alloc, problem)?;
+    let levels = Levels {
+        from: nulls,
+        end: nulls + 1,
+    };
+    let known = known_of(rt, alloc, problem, &lists, levels, workers)?;
+    let forest = forest_at(alloc, problem, &lists, nulls, known, steps)?;
+    Ok(forest)
+}
+
+// The same, where the alternatives of some keys are known.
+fn forest_at<L>(
+    alloc: Global,
+    problem: &Problem,
+    lists: &Lists<'_>,
+    nulls: u32,
+    mut known: Known,
+    steps: &mut Steps<L>,
+) -> Result<Forest, NoMemory>
+    requires positions { lists.now.positions ≡ problem.now }
+    requires nulls { nulls ≤ length problem.now }
+    requires known { AreKnown lists.now known }
+    requires room { steps.old < 2 ^ 126 }
+    ensures forest { IfOk result (IsForest problem.now nulls) }
+    ensures unused { IfOk result (λ forest. forest.unused ≡ nulls) }
+    ensures steps { IfOk result (λ forest. (numbers : List (List Connector)) → AreListsOf problem.now numbers → (n : ℕ) × CountsKeys (IsDemanded problem.now numbers nulls nulls) n × (steps.new ≤ steps.old + n) × (known ≡ [] → steps.new ≡ steps.old + n)) }
+{
+    keys_are_decided();
+    lists.are_numbered();
+    // the call tells that there are few positions
+    let _positions = problem.positions();
     let mut table = Table::new(alloc);
     let key = Key::Whole { nulls };
-    visit(alloc, &lists, &mut table, &mut known, key, steps)?;
+    visit(alloc, lists, &mut table, &mut known, key, steps)?;
     Ok(Forest::of(nulls, table))
 }
 

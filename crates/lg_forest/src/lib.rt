@@ -13,5 +13,5 @@ mod table;
 mod worker;
 mod workers;
 
-pub use forest::{Forest, solve, solve_at};
+pub use forest::{Forest, solve, solve_at, solve_at_by};
 pub use spell::spell_all;

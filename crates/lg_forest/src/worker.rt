@@ -1,5 +1,5 @@
 //! What one worker does: it walks as the caller will, but in an order of its own, and keeps what it finds in the memo.
-ghost use Rattle.std.specs.Prelude.{◌≡◌, ◌<◌, ◌≤◌, length, IfOk, IfSome};
+ghost use Rattle.std.specs.Prelude.{◌≡◌, ◌+◌, ◌<◌, ◌≤◌, length, IfOk, IfSome};
 ghost use Rattle.lg_region.specs.Keys.{IsValidKey};
 ghost use Rattle.lg_memo.specs.Entries.{AreRight};
 ghost use Rattle.lg_memo.specs.Steps.{IsFree};
@@ -15,6 +15,13 @@ use std::alloc::Global;
 
 /// So many entries go into a shard.
 const ROOM: usize = 1 << 40;
+
+/// Numbers of unlinked words: from one number up to the end, which is none of them.
+#[derive(Clone, Copy)]
+pub(crate) struct Levels {
+    pub from: u32,
+    pub end: u32,
+}
 
 /// A worker: its number, its seat, and the keys that it has done, each with whether it found a linkage there.
 #[derive(Drop)]
@@ -33,19 +40,19 @@ impl Worker {
     }
 }
 
-/// Walks from the whole sentence with no unlinked word, with one, and so on, up to the first number with a linkage, or until
-/// memory runs out. The seat comes back with no shard.
+/// Walks from the whole sentence with each of these numbers of unlinked words, up to the first that has a linkage, or until memory
+/// runs out. The seat comes back with no shard.
 pub(crate) fn walk(
     alloc: Global,
     lists: &Lists<'_>,
     memo: &Memo<Expansion>,
     number: usize,
-    words: u32,
+    levels: Levels,
     seat: MemoSeat<Expansion>,
 ) -> MemoSeat<Expansion>
     requires decided { KeysAreDecided lists.now }
     requires name { memo.now.table.shared.key.name.value ≡ lists.now.positions }
-    requires words { words ≡ length lists.now.positions }
+    requires levels { levels.end ≤ length lists.now.positions + 1 }
     requires free { IsFree memo.now.table.shared.table_id memo.now.table.shared.key seat.seat.table_id seat.seat.me }
     ensures free { IsFree memo.now.table.shared.table_id memo.now.table.shared.key result.seat.table_id result.seat.me }
     ensures numbers { result.seat.me.0.numbers ≡ seat.seat.me.0.numbers }
@@ -55,7 +62,7 @@ pub(crate) fn walk(
         seat,
         done: IndexMap::new(alloc),
     };
-    for nulls in 0..words {
+    for nulls in levels.from..levels.end {
         let key = Key::Whole { nulls };
         let is_over = visit(alloc, lists, memo, key, &mut worker).unwrap_or(true);
         if is_over {

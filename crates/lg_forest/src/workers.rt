@@ -1,5 +1,5 @@
 //! Workers, who find alternatives beside one another before the caller walks alone.
-ghost use Rattle.std.specs.Prelude.{◌≡◌, ◌<◌, [], length, IfOk, OnOk};
+ghost use Rattle.std.specs.Prelude.{◌≡◌, ◌+◌, ◌<◌, ◌≤◌, [], length, IfOk, OnOk};
 ghost use Rattle.std.specs.List.{All, flat_map};
 ghost use Rattle.std.specs.Thread.{IsSync};
 ghost use Rattle.lg_memo.specs.Entries.{AreRight};
@@ -10,7 +10,7 @@ ghost use Rattle.lg_forest.specs.Known.{AreKept, AreKnown};
 use crate::fact::Expansion;
 use crate::known::Known;
 use crate::law::keys_are_decided;
-use crate::worker::walk;
+use crate::worker::{Levels, walk};
 use lg_base::NoMemory;
 use lg_gram::{Disjuncts, Problem};
 use lg_memo::{Memo, MemoSeat, Shard};
@@ -24,17 +24,19 @@ const FEW_DISJUNCTS: usize = 400;
 /// The shards of a memo: so many that two workers seldom want the same one.
 const SHARDS: u32 = 1_024;
 
-/// The alternatives that these workers find. One worker finds none, and none are found where there are few disjuncts. The only
-/// error is running out of memory.
+/// The alternatives that these workers find from the whole sentence with these numbers of unlinked words. One worker finds none, and
+/// none are found where there are few disjuncts. The only error is running out of memory.
 pub(crate) fn known_of<R: Threads + Sync>(
     rt: &R,
     alloc: Global,
     problem: &Problem,
     lists: &Lists<'_>,
+    levels: Levels,
     workers: u32,
 ) -> Result<Known, NoMemory>
     requires workers { AreWorkers workers }
     requires positions { lists.now.positions ≡ problem.now }
+    requires levels { levels.end ≤ length problem.now + 1 }
     ensures known { IfOk result (AreKnown lists.entry.now) }
     ensures alone { workers ≡ 1 → IfOk result (λ known. known ≡ []) }
 {
@@ -43,7 +45,7 @@ pub(crate) fn known_of<R: Threads + Sync>(
         return Ok(Known::nothing(alloc));
     }
     let (memo, seats) = Memo::make(alloc, problem, SHARDS, workers)?;
-    let seats = walk_all(rt, alloc, problem, &memo, 0, seats)?;
+    let seats = walk_all(rt, alloc, problem, &memo, levels, 0, seats)?;
     let shards = memo.close(alloc, seats)?;
     gathered(alloc, lists, shards)
 }
@@ -64,10 +66,12 @@ fn walk_all<R: Threads + Sync>(
     alloc: Global,
     problem: &Problem,
     memo: &Memo<Expansion>,
+    levels: Levels,
     number: usize,
     mut seats: Vec<MemoSeat<Expansion>>,
 ) -> Result<Vec<MemoSeat<Expansion>>, NoMemory>
     requires name { memo.now.table.shared.key.name.value ≡ problem.now }
+    requires levels { levels.end ≤ length problem.now + 1 }
     requires free { All (λ s. IsFree memo.now.table.shared.table_id memo.now.table.shared.key s.seat.table_id s.seat.me) seats.items }
     ensures { IfOk result (λ back. All (λ s. IsFree memo.now.table.shared.table_id memo.now.table.shared.key s.seat.table_id s.seat.me) back.items × (flat_map (λ s. s.seat.me.0.numbers) back.items ≡ flat_map (λ s. s.seat.me.0.numbers) seats.items)) }
 {
@@ -75,7 +79,7 @@ fn walk_all<R: Threads + Sync>(
         let Some(seat) = seats.pop() else {
             return Ok(seats);
         };
-        let back = work(alloc, problem, memo, number, seat);
+        let back = work(alloc, problem, memo, levels, number, seat);
         seats.push(back)?;
         return Ok(seats);
     }
@@ -86,13 +90,13 @@ fn walk_all<R: Threads + Sync>(
     let (first, second) = join(
         rt,
         move || -> Result<Vec<MemoSeat<Expansion>>, NoMemory>
-            requires { IsSync R.row × (memo.now.table.shared.key.name.value ≡ problem.now) × All (λ s. IsFree memo.now.table.shared.table_id memo.now.table.shared.key s.seat.table_id s.seat.me) low.items }
+            requires { IsSync R.row × (memo.now.table.shared.key.name.value ≡ problem.now) × (levels.end ≤ length problem.now + 1) × All (λ s. IsFree memo.now.table.shared.table_id memo.now.table.shared.key s.seat.table_id s.seat.me) low.items }
             ensures { IfOk result (λ back. All (λ s. IsFree memo.entry.now.table.shared.table_id memo.entry.now.table.shared.key s.seat.table_id s.seat.me) back.items × (flat_map (λ s. s.seat.me.0.numbers) back.items ≡ flat_map (λ s. s.seat.me.0.numbers) low.items)) }
-        { walk_all(rt, alloc, problem, memo, number, low) },
+        { walk_all(rt, alloc, problem, memo, levels, number, low) },
         move || -> Result<Vec<MemoSeat<Expansion>>, NoMemory>
-            requires { IsSync R.row × (memo.now.table.shared.key.name.value ≡ problem.now) × All (λ s. IsFree memo.now.table.shared.table_id memo.now.table.shared.key s.seat.table_id s.seat.me) high.items }
+            requires { IsSync R.row × (memo.now.table.shared.key.name.value ≡ problem.now) × (levels.end ≤ length problem.now + 1) × All (λ s. IsFree memo.now.table.shared.table_id memo.now.table.shared.key s.seat.table_id s.seat.me) high.items }
             ensures { IfOk result (λ back. All (λ s. IsFree memo.entry.now.table.shared.table_id memo.entry.now.table.shared.key s.seat.table_id s.seat.me) back.items × (flat_map (λ s. s.seat.me.0.numbers) back.items ≡ flat_map (λ s. s.seat.me.0.numbers) high.items)) }
-        { walk_all(rt, alloc, problem, memo, next, high) },
+        { walk_all(rt, alloc, problem, memo, levels, next, high) },
     );
     let mut firsts = first?;
     let mut others = second?;
@@ -105,18 +109,19 @@ fn work(
     alloc: Global,
     problem: &Problem,
     memo: &Memo<Expansion>,
+    levels: Levels,
     number: usize,
     seat: MemoSeat<Expansion>,
 ) -> MemoSeat<Expansion>
     requires name { memo.now.table.shared.key.name.value ≡ problem.now }
+    requires levels { levels.end ≤ length problem.now + 1 }
     requires free { IsFree memo.now.table.shared.table_id memo.now.table.shared.key seat.seat.table_id seat.seat.me }
     ensures free { IsFree memo.now.table.shared.table_id memo.now.table.shared.key result.seat.table_id result.seat.me }
     ensures numbers { result.seat.me.0.numbers ≡ seat.seat.me.0.numbers }
 {
     keys_are_decided();
-    let words = problem.positions().len() as u32;
     match Lists::of(alloc, problem) {
-        Ok(lists) => walk(alloc, &lists, memo, number, words, seat),
+        Ok(lists) => walk(alloc, &lists, memo, number, levels, seat),
         Err(NoMemory) => seat,
     }
 }

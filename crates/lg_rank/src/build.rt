@@ -23,8 +23,8 @@ use lg_base::NoMemory;
 use lg_forest::Forest;
 use lg_gram::{Link, Problem};
 use lg_region::{
-    Alt, Joint, Key, alternatives_decide, cuts_are_valid, numbers_tell_lists_apart,
-    regions_are_cut_once,
+    Alt, Joint, Key, alternatives_are_small, alternatives_decide, cuts_are_valid,
+    numbers_tell_lists_apart, regions_are_cut_once,
 };
 use std::alloc::Global;
 
@@ -255,6 +255,7 @@ fn ways_of(
     requires within { k < length keys.now }
     ensures { IfOk result (λ ways. (from : ℕ) (is : IsForest problem.now from forest.now) → AreWaysOf problem.now (subjects_of is.lists keys.now) k ways.items) }
 {
+    alternatives_are_small();
     alternatives_decide();
     cuts_are_valid();
     numbers_tell_lists_apart();

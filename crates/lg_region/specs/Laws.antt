@@ -2,12 +2,14 @@
 use Rattle.std.specs.Prelude.{◌≡◌, ◌↔◌, ℕ, ◌<◌, ◌≤◌, List, length, Some, ◌⊎◌}
 use Rattle.lg_gram.specs.Connectors.{Connector}
 use Rattle.lg_gram.specs.Linkages.{Linkage}
+use Rattle.lg_gram.specs.Problems.{IsProblem}
 use Rattle.lg_gram.specs.declared.disjunct.Disjunct.{Disjunct}
 use Rattle.lg_region.specs.Parts.{Region, Under, UnderWhole, part_of}
 use Rattle.lg_region.specs.Cuts.{Alternative, all_null, split, Split, IsAlternative, IsCut, Spells, SpelledBy, IsValid}
 use Rattle.lg_region.specs.Whole.{First, IsFirst, SpellsFirst, WholeAlternative, nothing, first, IsWholeAlternative, WholeSpelledBy}
-use Rattle.lg_region.specs.Fronts.{list_of}
+use Rattle.lg_region.specs.Fronts.{AreListsOf, list_of}
 use Rattle.lg_region.specs.Keys.{IsKeyOf, IsValidKey, IsAltOf}
+use Rattle.lg_region.specs.Small.{IsSmall}
 use Rattle.lg_region.specs.declared.key.Key.{Key}
 use Rattle.lg_region.specs.declared.alternative.Alt.{Alt}
 use Rattle.lg_region.specs.declared.alternative.Alt.TheVariants.{AllNull, Split as At}
@@ -73,3 +75,8 @@ pub record NumbersTellListsApart (positions : List (List Disjunct)) (lists : Lis
   pub some_key : (k : Region) → IsValid positions k → (key : Key) × IsKeyOf lists key k
   pub valid_key : (key : Key) (k : Region) → IsKeyOf lists key k → IsValid positions k → IsValidKey positions lists key
   pub valid_below : (key : Key) (a : Alt) (below : Key) → IsValidKey positions lists key → IsAltOf positions lists key a → HasKey a below → IsValidKey positions lists below
+
+-- the words, places and numbers of unlinked words of an alternative are below 256
+abbrev pub AlternativesAreSmall : Type 0
+AlternativesAreSmall =
+    (positions : List (List Disjunct)) (lists : List (List Connector)) (key : Key) (a : Alt) → IsProblem positions → AreListsOf positions lists → IsValidKey positions lists key → IsAltOf positions lists key a → IsSmall a

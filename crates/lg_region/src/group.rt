@@ -7,7 +7,7 @@ use crate::alternative::Alt;
 use crate::chains::Side;
 use crate::key::Key;
 use crate::lists::Lists;
-use crate::ways::{Way, ways_between};
+use crate::ways::{Way, set_ways, ways_between};
 use lg_base::NoMemory;
 use std::alloc::Global;
 
@@ -85,10 +85,11 @@ fn rights(
     ensures { IfOk result (λ rights. AreExactly rights.items (IsRightOf lists.entry.now gap.now group.now)) }
 {
     let mut rights = Vec::new(alloc);
+    let mut ways = Vec::new(alloc);
     let mut number = group.from;
     while number < group.to {
         let sides = lists.sides(group.word, number);
-        let ways = ways_between(alloc, lists, sides.right, gap.rlist, gap.llist != 0)?;
+        set_ways(lists, sides.right, gap.rlist, gap.llist != 0, &mut ways)?;
         push_rights(number, &ways, &mut rights)?;
         number = lists.next(gap.lead.side, group.word, number);
     }

@@ -3,7 +3,7 @@ ghost use Rattle.std.specs.Prelude.{List};
 ghost use Rattle.lg_gram.specs.Connectors.{Connector};
 ghost use Rattle.lg_gram.specs.declared.disjunct.Disjunct.{Disjunct};
 ghost use Rattle.lg_region.specs.Fronts.{AreListsOf};
-ghost use Rattle.lg_region.specs.Laws.{RegionsAreCutOnce, SentencesAreCutOnce, CutsAreValid, AlternativesDecide, WholeAlternativesDecide, PartsMakeLinkages, NumbersTellListsApart};
+ghost use Rattle.lg_region.specs.Laws.{RegionsAreCutOnce, SentencesAreCutOnce, CutsAreValid, AlternativesDecide, WholeAlternativesDecide, PartsMakeLinkages, NumbersTellListsApart, AlternativesAreSmall};
 
 /// Every linkage under a region is spelled by exactly one alternative of the region, and an alternative spells only linkages
 /// under it.
@@ -38,4 +38,9 @@ pub fn parts_make_linkages()
 /// keys of an alternative may be asked for.
 pub fn numbers_tell_lists_apart()
     ensures { (positions : List (List Disjunct)) (lists : List (List Connector)) → AreListsOf positions lists → NumbersTellListsApart positions lists }
+{}
+
+/// The alternatives of a key of a problem have room in few bytes.
+pub fn alternatives_are_small()
+    ensures { AlternativesAreSmall }
 {}

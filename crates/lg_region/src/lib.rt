@@ -19,7 +19,7 @@ pub use alternative::{Alt, Alts};
 pub use expand::expand_key;
 pub use key::{Joint, Key};
 pub use law::{
-    alternatives_decide, cuts_are_valid, numbers_tell_lists_apart, parts_make_linkages,
-    regions_are_cut_once, sentences_are_cut_once,
+    alternatives_are_small, alternatives_decide, cuts_are_valid, numbers_tell_lists_apart,
+    parts_make_linkages, regions_are_cut_once, sentences_are_cut_once,
 };
 pub use lists::Lists;

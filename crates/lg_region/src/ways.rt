@@ -71,8 +71,25 @@ pub(crate) fn ways_between(
     requires far { far ≤ length lists.now.lists }
     ensures { IfOk result (λ ways. AreExactly ways.items (IsWayOf lists.entry.now.lists near far apart)) }
 {
-    lists.are_numbered();
     let mut ways = Vec::new(alloc);
+    set_ways(lists, near, far, apart, &mut ways)?;
+    Ok(ways)
+}
+
+/// The same, in place of what `ways` has.
+pub(crate) fn set_ways(
+    lists: &Lists<'_>,
+    near: u32,
+    far: u32,
+    apart: bool,
+    ways: &mut Vec<Way>,
+) -> Result<(), NoMemory>
+    requires near { near ≤ length lists.now.lists }
+    requires far { far ≤ length lists.now.lists }
+    ensures { OnOk result (AreExactly ways.new.items (IsWayOf lists.entry.now.lists near far apart)) }
+{
+    lists.are_numbered();
+    ways.clear();
     if apart {
         ways.push(Way {
             joint: None,
@@ -80,8 +97,8 @@ pub(crate) fn ways_between(
             far,
         })?;
     }
-    push_joints(lists, near, far, &mut ways)?;
-    Ok(ways)
+    push_joints(lists, near, far, ways)?;
+    Ok(())
 }
 
 // The ways on with a joint.

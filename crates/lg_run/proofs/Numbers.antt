@@ -14,13 +14,16 @@ use Rattle.lg_run.specs.declared.setup.Setup.{Setup}
 use Rattle.lg_script.specs.Commands.{CommandView}
 use Rattle.lg_script.specs.Histories.{numbered, is_published, published_by, reply_version}
 use Rattle.lg_text.specs.Shown.{IsPlain, IsPlainReply, IsPlace, shown_version}
-use Rattle.lg_text.proofs.TextLines.{all_both}
 use Rattle.lg_run.specs.Documents.{IsOutcome}
 use Rattle.lg_run.specs.Shown.{placed, all_placed, ArePlain, HasShortScripts, HasPlainTexts, OutcomesAreShown, RunsAreShown}
 
 pub from_all : {X : Type 0} (P : X → Type 0) (xs : List X) → All P xs → AllByRecursion P xs
 from_all P [] h = tt
 from_all P (x ∷ xs) h = (h 0 x (omega arith), from_all P xs (λ k d less. h (suc k) d (omega arith)))
+
+both_all : {X : Type 0} (P : X → Type 0) (xs ys : List X) → AllByRecursion P xs → AllByRecursion P ys → AllByRecursion P (xs ++ ys)
+both_all P [] ys p q = q
+both_all P (x ∷ xs) ys p q = (p.0, both_all P xs ys p.1 q)
 
 -- ---- answers
 
@@ -54,7 +57,7 @@ sessions_plain session most [] (rs ∷ replies) few less short there plain = tt
 sessions_plain session most (commands ∷ scripts) [] few less short there plain = tt
 sessions_plain session most (commands ∷ scripts) (rs ∷ replies) few less short there plain =
     let short_one : length commands < 2 ^ 32 = short.0 in
-    all_both IsPlain (placed session 1 commands rs) (all_placed (session + 1) scripts replies)
+    both_all IsPlain (placed session 1 commands rs) (all_placed (session + 1) scripts replies)
     (session_plain session 1 most commands rs (omega arith) (omega arith) less (there 0 commands rs refl refl) plain.0)
     (sessions_plain (session + 1) most scripts replies (omega arith) less short.1 (λ n. there (suc n)) plain.1)
 

@@ -1,11 +1,10 @@
 use Rattle.lg_memo.specs.Entries.{AreRight}
-use Rattle.lg_memo.proofs.Gathered.{all_but_last}
 use Rattle.lg_region.specs.declared.key.Key.{Key}
 use Rattle.lg_region.specs.declared.alternative.Alt.{Alt}
 use Rattle.std.proofs.Common.{List}
 use Rattle.lg_forest.specs.Known.{AreKept}
 use Rattle.lg_forest.proofs.Kept.{known_more}
-use Rattle.lg_forest.proofs.Back.{pop_shorter}
+use Rattle.lg_forest.proofs.Back.{all_but_last, pop_shorter}
 use Rattle.lg_forest.proofs.workers.add_all.Goals as goal
 
 pub loop-entry-preserved : goal.loop-entry-preserved

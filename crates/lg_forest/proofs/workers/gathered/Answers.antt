@@ -1,8 +1,7 @@
 use Rattle.std.proofs.Common.{subst, sym}
 use Rattle.lg_memo.specs.Entries.{AreRight}
-use Rattle.lg_memo.proofs.Gathered.{all_but_last}
 use Rattle.lg_forest.specs.Known.{AreKept}
-use Rattle.lg_forest.proofs.Back.{pop_shorter}
+use Rattle.lg_forest.proofs.Back.{all_but_last, pop_shorter}
 use Rattle.lg_forest.proofs.workers.gathered.Goals as goal
 
 pub add_all-requires-clause-right : goal.add_all-requires-clause-right

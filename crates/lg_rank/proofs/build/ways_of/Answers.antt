@@ -1,7 +1,6 @@
 use Rattle.std.proofs.Common.{◌+◌, arith}
 use Rattle.lg_rank.proofs.Building.{Laws, ways_more, ways_all, ways_none}
 use Rattle.lg_rank.proofs.Keyed.{alt_for}
-use Rattle.lg_region.proofs.SmallFits.{alt_small}
 use Rattle.lg_rank.proofs.Short.{ends_short}
 use Rattle.lg_rank.proofs.Walking.{has_alt, alt_of}
 use Rattle.lg_rank.proofs.build.ways_of.Goals as goal
@@ -33,7 +32,7 @@ way_of-requires-clause-alt c =
     let key = c.get-key.result in
     let at = has_alt c.args.forest.now key c.in-Some.alts.now c.loop-index.index c.get.result c.in-Some.ensures c.get.ensures in
     let valid = (c.requires.placed.each c.args.k key c.get-key.ensures from is).valid in
-    alt_small c.args.problem.now is.lists key c.get.result c.positions-positions.ensures.limits is.numbered valid (alt_of c.args.problem.now from c.args.forest.now is key c.get.result at).0
+    c.alternatives_are_small.ensures c.args.problem.now is.lists key c.get.result c.positions-positions.ensures.limits is.numbered valid (alt_of c.args.problem.now from c.args.forest.now is key c.get.result at).0
 
 pub loop-index-preserved : goal.loop-index-preserved
 loop-index-preserved c =

@@ -27,8 +27,8 @@ loop-number-preserved c =
       later = omega arith;
       led = led_itself numbers gap.lead group.word (number + 1) c.next-number.result next;
       rights = rights_skip numbers gap group c.push_rights.new.rights.items (number + 1) c.next-number.result listed next
-          (rights_more numbers gap group number c.sides-sides.result _ c.loop-number.rights.items c.push_rights.new.rights.items c.in_ok-ways.ways.items
-          before test listed led.same c.sides-sides.ensures refl c.in_ok-ways.ensures (c.in_ok-push_rights.ensures ∙ ap (λ z. c.loop-number.rights.items ++ map (right_of number) z) c.deref.ensures.value) c.loop-number.invariant.rights);
+          (rights_more numbers gap group number c.sides-sides.result _ c.loop-number.rights.items c.push_rights.new.rights.items c.set_ways.new.ways.items
+          before test listed led.same c.sides-sides.ensures refl c.in_ok-set_ways.ensures (c.in_ok-push_rights.ensures ∙ ap (λ z. c.loop-number.rights.items ++ map (right_of number) z) c.deref.ensures.value) c.loop-number.invariant.rights);
     }
 
 pub loop-number-smaller : goal.loop-number-smaller
@@ -45,8 +45,8 @@ loop-number-smaller c =
 pub returns : goal.returns
 returns c = rights_all c.args.lists.now c.args.gap.now c.args.group.now c.loop-number.rights.items c.loop-number.number c.loop-number-test.false c.loop-number.invariant.rights
 
-pub ways_between-requires-clause-near : goal.ways_between-requires-clause-near
-ways_between-requires-clause-near c =
+pub set_ways-requires-clause-near : goal.set_ways-requires-clause-near
+set_ways-requires-clause-near c =
     let a = c.loop-number-test.true in
     let b = c.requires.group.listed in
     let l : c.loop-number.number < length (get_or c.args.lists.now.positions c.args.group.now.word []) = omega arith in

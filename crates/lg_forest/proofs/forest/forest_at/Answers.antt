@@ -1,0 +1,26 @@
+use Rattle.std.proofs.Common.{◌≡◌, ◌+◌, ◌≤◌, ap, suc, subst, sym, refl, length, arith}
+use Rattle.lg_region.specs.Fronts.{AreListsOf}
+use Rattle.lg_region.specs.declared.key.Key.TheVariants.{Whole}
+use Rattle.lg_forest.specs.Demands.{IsDemanded}
+use Rattle.lg_forest.specs.Forests.{CountsKeys}
+use Rattle.lg_forest.proofs.Solved.{is_forest, solved_counts, asked_one}
+use Rattle.lg_forest.proofs.forest.forest_at.Goals as goal
+
+pub returns-clause-forest : goal.returns-clause-forest
+returns-clause-forest g c =
+    let n = c.args.lists.now in
+    is_forest n c.args.problem.now c.args.nulls c.args.nulls c.new-table.result c.visit.new.table c.of.result (omega arith) c.requires.positions
+    (c.keys_are_decided.ensures n.positions n.lists c.are_numbered.ensures) (subst (λ z. AreListsOf z n.lists) c.requires.positions c.are_numbered.ensures) c.new-table.ensures (asked_one n c.args.nulls c.new-table.result c.visit.new.table c.in_ok-visit.ensures.asked) c.of.ensures.live c.of.ensures.once c.of.ensures.unused
+
+pub returns-clause-steps : goal.returns-clause-steps
+returns-clause-steps g c =
+    let n = c.args.lists.now in
+    let known = c.args.known in
+    let left = c.visit.new.known in
+    let all = solved_counts n c.args.problem.now c.args.nulls c.args.nulls (c.args.steps.now + length left) (c.visit.new.steps + length known) c.new-table.result c.visit.new.table c.requires.positions (subst (λ z. AreListsOf z n.lists) c.requires.positions c.are_numbered.ensures) c.new-table.ensures
+    (asked_one n c.args.nulls c.new-table.result c.visit.new.table c.in_ok-visit.ensures.asked) c.of.ensures.were_once c.in_ok-visit.ensures.steps in
+    let fewer : length left ≤ length known = c.in_ok-visit.ensures.left.fewer in
+    λ lists first. let r = all lists first in let count = r.2 in (r.0, r.1, omega arith, λ none. (let empty = ap length none in omega arith))
+
+pub visit-requires-clause-decided : goal.visit-requires-clause-decided
+visit-requires-clause-decided g c = c.keys_are_decided.ensures c.args.lists.now.positions c.args.lists.now.lists c.are_numbered.ensures
