@@ -5,8 +5,9 @@
 
 FOLDER has `en.dict`, a dictionary of this program's format; `lp`, the same dictionary as a language directory of link-parser; and
 files `sentences-N.txt` with a sentence of N words a line. The program is the one that `bin/lgparse --build` builds. For each file
-it prints, for each sentence, the numbers of disjuncts before and after pruning (by a run that counts them, which is not timed), and the processor seconds and the megabytes of
-both programs beyond those that they take for the dictionary alone; and then the medians. A run ends after LIMIT seconds (60).
+it prints, for each sentence, the numbers of disjuncts before and after pruning (by a run that counts them, which is not timed), and the
+processor milliseconds and the megabytes of both programs beyond those that they take for the dictionary alone; and then the medians. Each
+figure is the least of three runs. A run ends after LIMIT seconds (60).
 """
 import glob
 import os
@@ -15,27 +16,43 @@ import shutil
 import statistics
 import subprocess
 import sys
-import tempfile
+import threading
 
 TOP = os.path.dirname(os.path.dirname(os.path.realpath(__file__)))
 PROGRAM = os.path.join(TOP, "crates/lgparse/out/lgparse")
 PARSER = ["-cost-max=1000", "-short=254", "-limit=1000", "-postscript=0", "-graphics=0", "-links=1", "-timeout=600", "-islands-ok=0", "-null=1"]
 
 
-def measured(folder, command, words, limit):
+RUNS = 3
+
+
+def one_run(folder, command, words, limit):
     """Processor seconds and megabytes of a run in the folder, and its output; nothing where it does not end in time."""
-    with tempfile.NamedTemporaryFile("r") as told:
-        try:
-            run = subprocess.run(["/usr/bin/time", "-q", "-o", told.name, "-f", "%U %S %M", *command],
-                                 cwd=folder, input=words, capture_output=True, text=True, timeout=limit, check=True)
-        except subprocess.TimeoutExpired:
-            return None
-        user, system, most = told.read().split()
-    return float(user) + float(system), int(most) / 1024, run.stdout
+    run = subprocess.Popen(command, cwd=folder, stdin=subprocess.PIPE, stdout=subprocess.PIPE, stderr=subprocess.DEVNULL)
+    timer = threading.Timer(limit, run.kill)
+    timer.start()
+    run.stdin.write(words.encode())
+    run.stdin.close()
+    shown = run.stdout.read().decode(errors="replace")
+    _, status, used = os.wait4(run.pid, 0)
+    timer.cancel()
+    run.stdout.close()
+    run.returncode = os.waitstatus_to_exitcode(status)
+    if run.returncode != 0:
+        return None
+    return used.ru_utime + used.ru_stime, used.ru_maxrss / 1024, shown
 
 
-def ours(folder, sentence, limit, *options):
-    return measured(folder, [PROGRAM, "one", "--want", "10", *options, "en.dict", sentence], "", limit)
+def measured(folder, command, words, limit, runs=RUNS):
+    """The least of some runs."""
+    all_runs = [one_run(folder, command, words, limit) for _ in range(runs)]
+    if None in all_runs:
+        return None
+    return min(run[0] for run in all_runs), min(run[1] for run in all_runs), all_runs[0][2]
+
+
+def ours(folder, sentence, limit, *options, runs=RUNS):
+    return measured(folder, [PROGRAM, "one", "--want", "10", *options, "en.dict", sentence], "", limit, runs)
 
 
 def theirs(folder, sentence, limit):
@@ -49,7 +66,7 @@ def beyond(run, base):
 
 
 def shown(pair):
-    return "        -         -" if pair is None else f"{pair[0]:7.2f} s {pair[1]:6.0f} MB"
+    return "         -         -" if pair is None else f"{1000 * pair[0]:7.0f} ms {pair[1]:6.0f} MB"
 
 
 def middle(pairs):
@@ -67,7 +84,7 @@ def main():
         both = []
         for sentence in open(path, encoding="utf-8").read().splitlines():
             run = ours(folder, sentence, limit)
-            counted = ours(folder, sentence, limit, "--stats", "on")
+            counted = ours(folder, sentence, limit, "--stats", "on", runs=1)
             found = re.match(r"stats disjuncts (\d+) kept (\d+)", counted[2]) if counted else None
             counts = found.groups() if found else ("-", "-")
             both.append((beyond(run, base[0]), beyond(theirs(folder, sentence, limit), base[1])))
