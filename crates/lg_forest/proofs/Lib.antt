@@ -13,3 +13,4 @@ pub mod Spelled
 pub mod Forested
 pub mod GoodLinkage
 pub mod SameLinkage
+mod Among

@@ -3,3 +3,4 @@ pub mod Forests
 pub mod Known
 pub mod Search
 pub mod Drafts
+pub mod Halves

@@ -36,6 +36,11 @@ impl Known {
         }
     }
 
+    /// Whether the alternatives of a key are here. It only chooses the way on.
+    pub fn has(&self, key: &Key) -> bool {
+        self.found.contains_key(key)
+    }
+
     /// Takes the alternatives of a key out. None where the key is not there. No memory.
     pub fn take(&mut self, key: &Key) -> Option<Alts>
         ensures taken { MatchOption result (length self.new ≡ length self.old) (λ alts. Contains self.old (key.now, alts) × (length self.new + 1 ≡ length self.old)) }

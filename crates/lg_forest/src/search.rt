@@ -1,6 +1,9 @@
 //! The search: each key that is asked for is expanded once, depth first.
 ghost use Rattle.std.specs.Prelude.{◌≡◌, ◌↔◌, ◌+◌, ◌<◌, ◌^◌, suc, Some, length, IsTrue, IfOk, OnOk, IfSome};
+ghost use Rattle.lg_region.specs.Groups.{IsGroup, IsKnownGap, StandsIn};
 ghost use Rattle.lg_region.specs.Keys.{IsValidKey};
+ghost use Rattle.lg_region.specs.Openings.{AreGroups, BeginsSo, IsIn, IsKeyOfGap};
+ghost use Rattle.lg_forest.specs.Halves.{AddsLive, AsksAmong, IsEnding};
 ghost use Rattle.lg_forest.specs.Demands.{HasLinkageUnder, AsksNext};
 ghost use Rattle.lg_forest.specs.Forests.{IsLive, AreLive};
 ghost use Rattle.lg_forest.specs.Known.{AreAltsOf, AreKnown, IsLeft};
@@ -9,7 +12,10 @@ ghost use Rattle.lg_forest.specs.Search.{KeysAreDecided, IsTable, HasValidKeys, 
 use crate::known::Known;
 use crate::table::Table;
 use lg_base::{NoMemory, Steps};
-use lg_region::{Alt, Alts, Key, Lists, expand_key};
+use lg_region::{
+    Alt, Alts, Beginning, Gap, Group, Groups, Key, Lists, alternatives_are_small, beginnings,
+    expand_key, groups_of, push_endings,
+};
 use std::alloc::Global;
 
 /// The left key that was asked for last, and whether it has a linkage. Alternatives with the same left key stand together.
@@ -70,6 +76,40 @@ fn explore<L>(
 {
     // the call tells that the table is short
     let _size = table.len();
+    if known.has(&key) {
+        return explore_all(alloc, lists, table, known, key, steps);
+    }
+    match groups_of(alloc, lists, key)? {
+        None => explore_all(alloc, lists, table, known, key, steps),
+        Some(groups) => {
+            steps.tick();
+            explore_groups(alloc, lists, table, known, key, &groups, steps)
+        }
+    }
+}
+
+// The same from all alternatives of the key, which are known or are made.
+#[cycle(search)]
+fn explore_all<L>(
+    alloc: Global,
+    lists: &Lists<'_>,
+    table: &mut Table,
+    known: &mut Known,
+    key: Key,
+    steps: &mut Steps<L>,
+) -> Result<Alts, NoMemory>
+    requires decided { KeysAreDecided lists.now }
+    requires key { IsValidKey lists.now.positions lists.now.lists key }
+    requires table { IsTable lists.now table.old }
+    requires known { AreKnown lists.now known.old }
+    requires room { HasRoom (suc (key_width lists.now.positions key)) steps.old table.old }
+    ensures live { let n = lists.entry.now in IfOk result (AreLive n.positions n.lists key) }
+    ensures asked { let n = lists.entry.now in OnOk result (Asked n (AsksNext n.positions n.lists key) table.old table.new) }
+    ensures left { OnOk result (IsLeft lists.entry.now known.old known.new) }
+    ensures steps { OnOk result (IsCounted 1 (steps.old + length known.new) table.old (steps.new + length known.old) table.new) }
+{
+    // the call tells that the table is short
+    let _size = table.len();
     let alts = alts_of(alloc, lists, known, key, steps)?;
     let mut flags = Vec::new(alloc);
     let mut last = Last {
@@ -89,6 +129,132 @@ fn explore<L>(
         flags.push(live)?;
     }
     Ok(alts.keep(flags.as_slice()))
+}
+
+// The same by the groups of the key's region. The right half of an alternative is made only where its left key has a linkage.
+#[cycle(search)]
+fn explore_groups<L>(
+    alloc: Global,
+    lists: &Lists<'_>,
+    table: &mut Table,
+    known: &mut Known,
+    key: Key,
+    groups: &Groups,
+    steps: &mut Steps<L>,
+) -> Result<Alts, NoMemory>
+    requires decided { KeysAreDecided lists.now }
+    requires key { IsValidKey lists.now.positions lists.now.lists key }
+    requires groups { AreGroups lists.now key groups.now }
+    requires table { IsTable lists.now table.old }
+    requires known { AreKnown lists.now known.old }
+    requires room { HasRoom (key_width lists.now.positions key) steps.old table.old }
+    ensures live { let n = lists.entry.now in IfOk result (AreLive n.positions n.lists key) }
+    ensures asked { let n = lists.entry.now in OnOk result (Asked n (AsksNext n.positions n.lists key) table.old table.new) }
+    ensures left { OnOk result (IsLeft lists.entry.now known.old known.new) }
+    ensures steps { OnOk result (IsCounted 0 (steps.old + length known.new) table.old (steps.new + length known.old) table.new) }
+{
+    alternatives_are_small();
+    lists.are_numbered();
+    lists.keep_limits();
+    let mut live = Vec::new(alloc);
+    for index in 0..groups.items.len() {
+        let group = groups.items[index];
+        explore_group(
+            alloc,
+            lists,
+            table,
+            known,
+            key,
+            &groups.gap,
+            &group,
+            &mut live,
+            steps,
+        )?;
+    }
+    Alts::of(alloc, &live)
+}
+
+// Adds the live alternatives of a group.
+#[cycle(search)]
+fn explore_group<L>(
+    alloc: Global,
+    lists: &Lists<'_>,
+    table: &mut Table,
+    known: &mut Known,
+    key: Key,
+    gap: &Gap,
+    group: &Group,
+    live: &mut Vec<Alt>,
+    steps: &mut Steps<L>,
+) -> Result<(), NoMemory>
+    requires decided { KeysAreDecided lists.now }
+    requires key { IsValidKey lists.now.positions lists.now.lists key }
+    requires is_key { IsKeyOfGap key gap.now }
+    requires gap { IsKnownGap lists.now gap.now }
+    requires group { IsGroup lists.now gap.now group.now }
+    requires table { IsTable lists.now table.old }
+    requires known { AreKnown lists.now known.old }
+    requires room { HasRoom (key_width lists.now.positions key) steps.old table.old }
+    ensures live { OnOk result (AddsLive lists.entry.now key (StandsIn group.now.word group.now.from group.now.to) live.old.items live.new.items) }
+    ensures asked { OnOk result (Asked lists.entry.now (AsksAmong lists.entry.now key (StandsIn group.now.word group.now.from group.now.to)) table.old table.new) }
+    ensures left { OnOk result (IsLeft lists.entry.now known.old known.new) }
+    ensures steps { OnOk result (IsCounted 0 (steps.old + length known.new) table.old (steps.new + length known.old) table.new) }
+{
+    let begins = beginnings(alloc, lists, gap, group)?;
+    for index in 0..begins.len() {
+        let begin = begins[index];
+        explore_beginning(
+            alloc, lists, table, known, key, gap, group, &begin, live, steps,
+        )?;
+    }
+    Ok(())
+}
+
+// Adds the live alternatives of a group that begin so.
+#[cycle(search)]
+fn explore_beginning<L>(
+    alloc: Global,
+    lists: &Lists<'_>,
+    table: &mut Table,
+    known: &mut Known,
+    key: Key,
+    gap: &Gap,
+    group: &Group,
+    begin: &Beginning,
+    live: &mut Vec<Alt>,
+    steps: &mut Steps<L>,
+) -> Result<(), NoMemory>
+    requires decided { KeysAreDecided lists.now }
+    requires key { IsValidKey lists.now.positions lists.now.lists key }
+    requires is_key { IsKeyOfGap key gap.now }
+    requires gap { IsKnownGap lists.now gap.now }
+    requires group { IsGroup lists.now gap.now group.now }
+    requires begins { (a : _) × IsIn lists.now gap.now group.now a × BeginsSo gap.now group.now begin.now a }
+    requires table { IsTable lists.now table.old }
+    requires known { AreKnown lists.now known.old }
+    requires room { HasRoom (key_width lists.now.positions key) steps.old table.old }
+    ensures live { OnOk result (AddsLive lists.entry.now key (IsEnding gap.now group.now begin.now) live.old.items live.new.items) }
+    ensures asked { OnOk result (Asked lists.entry.now (AsksAmong lists.entry.now key (IsEnding gap.now group.now begin.now)) table.old table.new) }
+    ensures left { OnOk result (IsLeft lists.entry.now known.old known.new) }
+    ensures steps { OnOk result (IsCounted 0 (steps.old + length known.new) table.old (steps.new + length known.old) table.new) }
+{
+    let lkey = begin.key(gap, group);
+    if !visit(alloc, lists, table, known, lkey, steps)? {
+        return Ok(());
+    }
+    let mut last = Last {
+        key: Some(lkey),
+        live: true,
+    };
+    let mut alts = Vec::new(alloc);
+    push_endings(alloc, lists, gap, group, begin, &mut alts)?;
+    for index in 0..alts.len() {
+        let alt = alts[index];
+        if is_live(alloc, lists, table, known, alt, &mut last, steps)? {
+            live.push(alt)?;
+        }
+    }
+    Ok(())
 }
 
 // The alternatives of a key. Where they are known, they are taken, and that is no step.

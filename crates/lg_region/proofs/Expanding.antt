@@ -45,7 +45,7 @@ adds_then a b c P Q R p q d e = record {
   exactly = exactly_as (p.more ++ q.more) (λ x. P x ⊎ Q x) R e (exactly_append p.more q.more P Q p.exactly q.exactly d);
 }
 
-in_split : (word n m : ℕ) (a : Alt) → StandsIn word 0 m a → StandsIn word 0 n a ⊎ StandsIn word n m a
+pub in_split : (word n m : ℕ) (a : Alt) → StandsIn word 0 m a → StandsIn word 0 n a ⊎ StandsIn word n m a
 in_split word n m AllNull s = absurd s
 in_split word n m (At w number tl tr lk rk) s = let l = s.2 in elim (cases_lt number n) [ inl h ↦ inl (s.0, s.1, h) | inr h ↦ inr (s.0, h, s.2) ]
 
@@ -93,7 +93,7 @@ whole_names positions lists nulls w number None None (Some lk) rk i = absurd i
 whole_names positions lists nulls w number None (Some j) lk rk i = absurd i
 whole_names positions lists nulls w number (Some j) tr lk rk i = absurd i
 
-before_split : (positions : List (List Disjunct)) (I : Alt → Type 0) (word : ℕ) (a : Alt) → NamesDisjuncts positions I → I a → StandsBefore (word + 1) a → StandsBefore word a ⊎ StandsIn word 0 (length (get_or positions word [])) a
+pub before_split : (positions : List (List Disjunct)) (I : Alt → Type 0) (word : ℕ) (a : Alt) → NamesDisjuncts positions I → I a → StandsBefore (word + 1) a → StandsBefore word a ⊎ StandsIn word 0 (length (get_or positions word [])) a
 before_split positions I word AllNull names i s = inl tt
 before_split positions I word (At w number tl tr lk rk) names i s =
     elim (cases_lt w word) [
@@ -140,7 +140,7 @@ whole_lies positions lists nulls w number None None (Some lk) rk i = absurd i
 whole_lies positions lists nulls w number None (Some j) lk rk i = absurd i
 whole_lies positions lists nulls w number (Some j) tr lk rk i = absurd i
 
-before_all : (from to word : ℕ) (I : Alt → Type 0) → LiesIn from to I → to ≤ word → (a : Alt) → I a → StandsBefore word a
+pub before_all : (from to word : ℕ) (I : Alt → Type 0) → LiesIn from to I → to ≤ word → (a : Alt) → I a → StandsBefore word a
 before_all from to word I lies l AllNull i = tt
 before_all from to word I lies l (At w number tl tr lk rk) i = let b = lies w number tl tr lk rk i in let c = b.1 in omega arith
 

@@ -25,6 +25,8 @@ pub mod Growing
 pub mod Once
 pub mod Going
 pub mod Splitting
+mod Grouped
+mod Opened
 pub mod Expanding
 pub mod Keeps
 pub mod SmallFits

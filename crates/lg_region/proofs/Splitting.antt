@@ -154,7 +154,7 @@ exactly_flat g xs P Q a b one = record {
 }
 
 -- what an alternative tells of how it was made
-way_same : (w w' : Way) → w.joint ≡ w'.joint → w.near ≡ w'.near → w.far ≡ w'.far → w ≡ w'
+pub way_same : (w w' : Way) → w.joint ≡ w'.joint → w.near ≡ w'.near → w.far ≡ w'.far → w ≡ w'
 way_same w w' a b c = λ i. record { joint = a i; near = b i; far = c i }
 
 right_same : (r r' : Right) → r.disjunct ≡ r'.disjunct → r.way ≡ r'.way → r ≡ r'
@@ -170,17 +170,17 @@ at_same : (w n w' n' : ℕ) (tl tr : Option Joint) (a b c d m e f g h k a' b' e'
 at_same w n w' n' tl tr a b c d m e f g h k a' b' e' f' k' x y p q r s t = cc
 
 -- the alternative of chosen parts
-abbrev Made : Numbering → Gap → Group → Bool → ℕ → Alt → Type 0
+abbrev pub Made : Numbering → Gap → Group → Bool → ℕ → Alt → Type 0
 Made numbers gap group may nulls a = (left : Way) × (right : Right) × IsWayOf numbers.lists gap.llist group.left may left × IsRightOf numbers gap group right × (split_of gap group.word nulls left right ≡ a)
 
-split_parts : (gap : Gap) (word n n' : ℕ) (l l' : Way) (r r' : Right) → split_of gap word n l r ≡ split_of gap word n' l' r' → (n ≡ n') × (l ≡ l') × (r ≡ r')
+pub split_parts : (gap : Gap) (word n n' : ℕ) (l l' : Way) (r r' : Right) → split_of gap word n l r ≡ split_of gap word n' l' r' → (n ≡ n') × (l ≡ l') × (r ≡ r')
 split_parts gap word n n' l l' r r' e =
     let p = at_parts word r.disjunct word r'.disjunct l.joint r.way.joint l'.joint r'.way.joint gap.left word l.near l.far n word gap.right r.way.near r.way.far (gap.nulls - n)
     gap.left word l'.near l'.far n' word gap.right r'.way.near r'.way.far (gap.nulls - n') e in
     (p.5, way_same l l' p.1 p.3 p.4, right_same r r' p.0 (way_same r.way r'.way p.2 p.6 p.7))
 
 -- the numbers of unlinked words on the left for which both sides have room
-abbrev HasRoom : Gap → ℕ → ℕ → Type 0
+abbrev pub HasRoom : Gap → ℕ → ℕ → Type 0
 HasRoom gap word nulls = (nulls ≤ gap.nulls) × (nulls ≤ word - suc gap.left) × (gap.nulls - nulls ≤ gap.right - suc word)
 
 not_zero : (lists : List (List Connector)) (n : ℕ) → list_of lists n ≢ [] → (n == 0) ≡ false
@@ -188,7 +188,7 @@ not_zero lists zero h = absurd (h refl)
 not_zero lists (suc n) h = grind (arith, nat_tests)
 
 -- chosen parts make an alternative of the region
-made_is : (positions : List (List Disjunct)) (lists : List (List Connector)) (gap : Gap) (group : Group) (may : Bool) (nulls : ℕ) (l : Way) (r : Right) → IsGroup (record { positions = positions; lists = lists }) gap group → may ≡ (gap.llist == 0)
+pub made_is : (positions : List (List Disjunct)) (lists : List (List Connector)) (gap : Gap) (group : Group) (may : Bool) (nulls : ℕ) (l : Way) (r : Right) → IsGroup (record { positions = positions; lists = lists }) gap group → may ≡ (gap.llist == 0)
     → AreListsOf positions lists → gap.llist ≤ length lists → HasRoom gap group.word nulls → IsWayOf lists gap.llist group.left may l → IsRightOf (record { positions = positions; lists = lists }) gap group r
     → IsAltOfRegion positions lists (region_of_gap lists gap) (split_of gap group.word nulls l r) × StandsIn group.word group.from group.to (split_of gap group.word nulls l r)
 made_is positions lists gap group may nulls l r is m are known room il ir =
@@ -280,7 +280,7 @@ made_of positions lists gap group may l' r' ll rl n l2 r2 ll2 rl2 n2 w number tl
       ),
     )
 
-alt_made : (positions : List (List Disjunct)) (lists : List (List Connector)) (gap : Gap) (group : Group) (may : Bool) (a : Alt) → IsGroup (record { positions = positions; lists = lists }) gap group → may ≡ (gap.llist == 0) → AreListsOf positions lists → gap.llist ≤ length lists → Leads gap.lead positions (region_of_gap lists gap)
+pub alt_made : (positions : List (List Disjunct)) (lists : List (List Connector)) (gap : Gap) (group : Group) (may : Bool) (a : Alt) → IsGroup (record { positions = positions; lists = lists }) gap group → may ≡ (gap.llist == 0) → AreListsOf positions lists → gap.llist ≤ length lists → Leads gap.lead positions (region_of_gap lists gap)
     → IsAltOfRegion positions lists (region_of_gap lists gap) a → StandsIn group.word group.from group.to a → (n : ℕ) × HasRoom gap group.word n × Made (record { positions = positions; lists = lists }) gap group may n a
 alt_made positions lists gap group may AllNull is m are known led i s = absurd s
 alt_made positions lists gap group may (At w number tl tr None rk) is m are known led i s = absurd i

@@ -10,3 +10,4 @@ pub mod Ways
 pub mod Groups
 pub mod Small
 pub mod Chains
+pub mod Openings

@@ -47,7 +47,7 @@ impl Model for Alts {
 
 impl Alts {
     /// The list of these alternatives.
-    pub(crate) fn of(alloc: Global, alts: &[Alt]) -> Result<Alts, NoMemory>
+    pub fn of(alloc: Global, alts: &[Alt]) -> Result<Alts, NoMemory>
         requires { (a : Alt) → Contains alts.now a → IsSmall a }
         ensures { IfOk result (λ list. list ≡ alts.now) }
     {

@@ -13,7 +13,7 @@ const CLASSES: usize = 256;
 
 /// The one of its two lists by which a disjunct is found.
 #[derive(Clone, Copy, Debug, PartialEq, Eq)]
-pub(crate) enum Side {
+pub enum Side {
     Left,
     Right,
 }

@@ -65,7 +65,7 @@ fn alternatives(alloc: Global, lists: &Lists<'_>, key: Key) -> Result<Vec<Alt>, 
 
 // Which disjuncts can cut a region with these lists: those that can be joined with its left list, or, where that is empty,
 // with its right one.
-fn lead_of(lists: &Lists<'_>, llist: u32, rlist: u32) -> Lead
+pub(crate) fn lead_of(lists: &Lists<'_>, llist: u32, rlist: u32) -> Lead
     requires llist { llist ≤ length lists.now.lists }
     requires rlist { rlist ≤ length lists.now.lists }
     ensures small { result.class < 256 }
@@ -156,7 +156,7 @@ fn push_word(
 
 // Up to which number the disjuncts of a word that have the class have the left list of this one: the next one of the class
 // that has another, or how many disjuncts there are.
-fn run_end(lists: &Lists<'_>, lead: Lead, word: u32, from: u32, left: u32) -> u32
+pub(crate) fn run_end(lists: &Lists<'_>, lead: Lead, word: u32, from: u32, left: u32) -> u32
     requires within { word < length lists.now.positions }
     requires listed { from < length (slice_index_or lists.now.positions word []) }
     requires led { IsNextLed lists.now lead word from from }

@@ -13,30 +13,30 @@ use std::alloc::Global;
 
 /// The class of the disjuncts that can cut a region, on the side of the list that decides.
 #[derive(Clone, Copy, Debug)]
-pub(crate) struct Lead {
-    pub(crate) side: Side,
-    pub(crate) class: u32,
+pub struct Lead {
+    pub side: Side,
+    pub class: u32,
 }
 
 /// A region in numbers, and which disjuncts can cut it.
 #[derive(Clone, Copy, Debug)]
-pub(crate) struct Gap {
-    pub(crate) left: u32,
-    pub(crate) right: u32,
-    pub(crate) llist: u32,
-    pub(crate) rlist: u32,
-    pub(crate) nulls: u32,
-    pub(crate) lead: Lead,
+pub struct Gap {
+    pub left: u32,
+    pub right: u32,
+    pub llist: u32,
+    pub rlist: u32,
+    pub nulls: u32,
+    pub lead: Lead,
 }
 
 /// Disjuncts of a word, from one number up to another, of which those that can cut the region have the same left list, by its
 /// number.
 #[derive(Clone, Copy, Debug)]
-pub(crate) struct Group {
-    pub(crate) word: u32,
-    pub(crate) left: u32,
-    pub(crate) from: u32,
-    pub(crate) to: u32,
+pub struct Group {
+    pub word: u32,
+    pub left: u32,
+    pub from: u32,
+    pub to: u32,
 }
 
 /// A disjunct of a word by its number, and how its right list goes on.
@@ -74,7 +74,7 @@ pub(crate) fn push_group(
 }
 
 // The disjuncts of the group that can cut the region, with each way on of their right lists.
-fn rights(
+pub(crate) fn rights(
     alloc: Global,
     lists: &Lists<'_>,
     gap: &Gap,
@@ -126,7 +126,7 @@ fn push_splits(
     Ok(())
 }
 
-fn push_with_left(
+pub(crate) fn push_with_left(
     gap: &Gap,
     word: u32,
     nulls: u32,

@@ -5,21 +5,24 @@
 #![tactic(auto)]
 
 pub mod alternative;
-mod chains;
+pub mod chains;
 pub mod expand;
-mod group;
+pub mod group;
 pub mod key;
 pub mod law;
 pub mod lists;
 mod numbering;
+pub mod opening;
 mod small;
-mod ways;
+pub mod ways;
 
 pub use alternative::{Alt, Alts};
 pub use expand::expand_key;
+pub use group::{Gap, Group};
 pub use key::{Joint, Key};
 pub use law::{
     alternatives_are_small, alternatives_decide, cuts_are_valid, numbers_tell_lists_apart,
     parts_make_linkages, regions_are_cut_once, sentences_are_cut_once,
 };
 pub use lists::Lists;
+pub use opening::{Beginning, Groups, beginnings, groups_of, push_endings};

@@ -11,10 +11,10 @@ use std::alloc::Global;
 
 /// The joint between the last connectors of two lists, or none, and the numbers of the lists behind it.
 #[derive(Clone, Copy, Debug)]
-pub(crate) struct Way {
-    pub(crate) joint: Option<Joint>,
-    pub(crate) near: u32,
-    pub(crate) far: u32,
+pub struct Way {
+    pub joint: Option<Joint>,
+    pub near: u32,
+    pub far: u32,
 }
 
 /// The end of a list but the empty one: its number, its last place with the connector there, and the number of the list

@@ -1,4 +1,4 @@
-use Rattle.std.proofs.Common.{◌≡◌, ◌↔◌, ◌+◌, ◌∙◌, true≢false, Option, subst, sym, ap, Some, IsTrue, IfOk, OnOk, IfSome, length, take, slice_get, Contains, map, arith, rules}
+use Rattle.std.proofs.Common.{refl, List, [], ◌∷◌, ◌++◌, ◌≡◌, ◌↔◌, ◌+◌, ◌∙◌, true≢false, Option, subst, sym, ap, Some, IsTrue, IfOk, OnOk, IfSome, length, take, slice_get, Contains, map, arith, rules}
 use Rattle.lg_region.specs.Keys.{kept}
 use Rattle.lg_region.specs.Small.{full}
 use Rattle.lg_forest.specs.Demands.{HasLinkageUnder, left_key}
@@ -8,13 +8,22 @@ use Rattle.lg_region.specs.declared.key.Key.{Key}
 use Rattle.lg_region.specs.declared.alternative.Alt.TheVariants.{Split as At}
 use Rattle.lg_forest.proofs.Asked.{live_decides, not_there, asked_added, asked_as, asked_more, asked_all, asked_left, asked_both, ok_as, on_ok_as, last_kept, alt_at, exact}
 use Rattle.lg_forest.proofs.Flags.{Flags, kept_live, flags_long, flags_more, all_flags}
+use Rattle.lg_forest.specs.Halves.{AsksAmong, IsEnding}
+use Rattle.lg_forest.proofs.Among as part
+use Rattle.lg_forest.proofs.Among.{Among, In}
+use Rattle.lg_region.specs.declared.alternative.Alt.{Alt}
+use Rattle.lg_region.specs.Fronts.{AreOnce}
+use Rattle.lg_region.specs.Openings.{AreGroups, left_of}
+use Rattle.lg_region.specs.Ways.{AddsExactly}
+use Rattle.lg_forest.proofs.Once.{contains_at}
 use Rattle.lg_forest.proofs.search.+search.Goals as goal
+use Rattle.lg_forest.proofs.search.+search.Goals.{explore_beginning-then-branch+in_ok-push, explore_beginning-else-branch}
 
 same_key : (k m : Key) → ◌≡◌ {A = Option Key} (Some k) (Some m) → k ≡ m
 same_key k m e = cc
 
-pub explore-is_live-requires : goal.explore-is_live-requires
-explore-is_live-requires g t c κs within =
+pub explore_all-is_live-requires : goal.explore_all-is_live-requires
+explore_all-is_live-requires g t c κs within =
     let is = alt_at c.args.lists.now c.args.key c.in_ok-alts.alts c.loop-index.index c.get.result c.in_ok-alts.ensures.alts.exactly c.get.ensures in
     let below = c.requires.decided.below c.args.key c.get.result c.requires.key is in
     let steps = c.loop-index.invariant.steps in
@@ -22,8 +31,8 @@ explore-is_live-requires g t c κs within =
     let fewer = c.loop-index.invariant.left.fewer in
     (search rules, (search rules, (c.requires.decided, (c.requires.decided.valid c.args.key c.get.result c.requires.key is, (c.loop-index.invariant.asked.is_table, (c.loop-index.invariant.left.known, (c.loop-index.invariant.last, omega arith)))))))
 
-pub explore-loop-index-preserved : goal.explore-loop-index-preserved
-explore-loop-index-preserved g t c =
+pub explore_all-loop-index-preserved : goal.explore_all-loop-index-preserved
+explore_all-loop-index-preserved g t c =
     let at = subst (λ z. slice_get z c.loop-index.index ≡ Some c.get.result) (sym c.alts.view_is) c.get.ensures in
     let n = c.args.lists.now in
     let before = c.loop-index.invariant.steps in
@@ -39,20 +48,20 @@ explore-loop-index-preserved g t c =
       steps = omega arith;
     }
 
-pub explore-keep-requires : goal.explore-keep-requires
-explore-keep-requires g t c =
+pub explore_all-keep-requires : goal.explore_all-keep-requires
+explore_all-keep-requires g t c =
     let all = all_flags c.args.lists.now c.in_ok-alts.alts (map full c.alts.inside.items.items) c.loop-index.index c.loop-index.flags.items c.alts.view_is (omega arith) c.loop-index.invariant.flags in
     ap length c.as_slice.ensures.value ∙ flags_long c.args.lists.now c.in_ok-alts.alts c.loop-index.flags.items all
 
-pub explore-returns-clause-live : goal.explore-returns-clause-live
-explore-returns-clause-live g t c =
+pub explore_all-returns-clause-live : goal.explore_all-returns-clause-live
+explore_all-returns-clause-live g t c =
     let n = c.args.lists.now in
     let all = all_flags n c.in_ok-alts.alts (map full c.alts.inside.items.items) c.loop-index.index c.loop-index.flags.items c.alts.view_is (omega arith) c.loop-index.invariant.flags in
     let live = kept_live n c.args.key c.in_ok-alts.alts c.loop-index.flags.items c.in_ok-alts.ensures.alts.exactly c.in_ok-alts.ensures.alts.once all in
     subst (λ z. AreLive n.positions n.lists c.args.key z) (sym (c.keep.ensures ∙ ap (kept c.in_ok-alts.alts) c.as_slice.ensures.value)) live
 
-pub explore-returns-clause-asked : goal.explore-returns-clause-asked
-explore-returns-clause-asked g t c =
+pub explore_all-returns-clause-asked : goal.explore_all-returns-clause-asked
+explore_all-returns-clause-asked g t c =
     let e = ap length c.alts.view_is in
     asked_all c.args.lists.now c.args.key (map full c.alts.inside.items.items) c.loop-index.index c.args.table.now c.loop-index.table
     (exact c.args.lists.now c.args.key c.in_ok-alts.alts (map full c.alts.inside.items.items) c.alts.view_is c.in_ok-alts.ensures.alts.exactly) (omega arith) c.loop-index.invariant.asked
@@ -120,3 +129,220 @@ visit_part-returns-in-Some-clause-asked g t c =
     on_ok_as c.visit.result (Asked n (λ k. k ≡ c.in-Some.key) c.args.table.now c.visit.new.table) (Asked n (λ k. c.args.key ≡ Some k) c.args.table.now c.visit.new.table)
     (asked_as n (λ k. k ≡ c.in-Some.key) (λ k. c.args.key ≡ Some k) c.args.table.now c.visit.new.table (λ k e. c.in-Some.is ∙ ap Some (sym e)) (λ k e. same_key k c.in-Some.key (sym e ∙ c.in-Some.is)))
     c.visit.ensures.asked
+
+pub explore-tick-requires : goal.explore-tick-requires
+explore-tick-requires g t c =
+    let room = c.requires.room in
+    let size = c.len-size.ensures.value in
+    let few = c.len-size.ensures.small in
+    let fits = c.len-size.type_inv in
+    omega arith
+
+pub explore-explore_groups-requires : goal.explore-explore_groups-requires
+explore-explore_groups-requires g t c κs within =
+    let room = c.requires.room in
+    let ticked = c.tick.ensures in
+    (search rules, (search rules, (c.requires.decided, (c.requires.key, (subst (λ z. IfSome z (AreGroups c.args.lists.now c.args.key)) c.in-Some.is c.in_ok-groups_of.ensures, (c.requires.table, (c.requires.known, omega arith)))))))
+
+pub explore_beginning-visit-requires : goal.explore_beginning-visit-requires
+explore_beginning-visit-requires g t c κs within =
+    let valid = part.left_valid c.args.lists.now c.args.key c.args.gap.now c.args.group.now c.args.begin.now c.key-lkey.result c.requires.decided c.requires.key c.requires.is_key c.key-lkey.ensures c.requires.begins in
+    let narrow = valid.1 in
+    let room = c.requires.room in
+    (search rules, (search rules, (c.requires.decided, (valid.0, (c.requires.table, (c.requires.known, omega arith))))))
+
+pub explore_beginning-returns-then-not-branch-clause-live : goal.explore_beginning-returns-then-not-branch-clause-live
+explore_beginning-returns-then-not-branch-clause-live g t c =
+    part.dead_live c.args.lists.now c.args.key c.args.gap.now c.args.group.now c.args.begin.now c.key-lkey.result c.requires.is_key c.key-lkey.ensures
+    (λ h. true≢false (sym (c.in_ok-visit.ensures.found.1 h) ∙ c.if-not-branch.true)) c.args.live.now.items
+
+pub explore_beginning-returns-then-not-branch-clause-asked : goal.explore_beginning-returns-then-not-branch-clause-asked
+explore_beginning-returns-then-not-branch-clause-asked g t c =
+    part.dead_asked c.args.lists.now c.args.key c.args.gap.now c.args.group.now c.args.begin.now c.key-lkey.result c.requires.is_key c.key-lkey.ensures
+    (λ h. true≢false (sym (c.in_ok-visit.ensures.found.1 h) ∙ c.if-not-branch.true)) c.requires.begins c.args.table.now c.visit.new.table c.in_ok-visit.ensures.asked
+
+pub explore_beginning-loop-index-init : goal.explore_beginning-loop-index-init
+explore_beginning-loop-index-init g t c = record {
+  asked = part.first_asked c.args.lists.now c.args.key c.args.gap.now c.args.group.now c.args.begin.now c.key-lkey.result c.requires.is_key c.key-lkey.ensures c.push_endings.new.out.items c.args.table.now c.visit.new.table c.in_ok-visit.ensures.asked;
+  live = part.adds_none c.args.live.now.items _ (λ a (l, m). part.among_none (λ (x : Alt) (y : Alt). x ≡ y) c.push_endings.new.out.items a m);
+  last = record { live = ((λ yes. c.in_ok-visit.ensures.found.0 c.if-not-branch.false), (λ h. refl)); there = c.in_ok-visit.ensures.asked.there c.key-lkey.result refl };
+  left = c.in_ok-visit.ensures.left;
+  steps = c.in_ok-visit.ensures.steps;
+}
+
+pub explore_beginning-is_live-requires : goal.explore_beginning-is_live-requires
+explore_beginning-is_live-requires g t c κs within =
+    let n = c.args.lists.now in
+    let alts = c.push_endings.new.out.items in
+    let end : c.len-index-end.result ≡ length alts = c.len-index-end.ensures ∙ c.push_endings.new.out.ok.0 in
+    let test = c.loop-index-test.true in
+    let at = part.at_of alts c.loop-index.index c.index-alt.result.now (omega arith) c.index-alt.ensures in
+    let ends = part.from_none c.new-alts.result.items alts _ c.new-alts.ensures.items c.in_ok-push_endings.ensures in
+    let alt = part.alt_in n c.args.key c.args.gap.now c.index-alt.result.now c.requires.is_key ((ends.each c.index-alt.result.now).0 (contains_at alts c.loop-index.index c.index-alt.result.now at)).0 in
+    let below = c.requires.decided.below c.args.key c.index-alt.result.now c.requires.key alt in
+    let steps = c.loop-index.invariant.steps in
+    let room = c.requires.room in
+    let fewer = c.loop-index.invariant.left.fewer in
+    (search rules, (search rules, (c.requires.decided, (c.requires.decided.valid c.args.key c.index-alt.result.now c.requires.key alt, (c.loop-index.invariant.asked.is_table, (c.loop-index.invariant.left.known, (c.loop-index.invariant.last, omega arith)))))))
+
+pub explore_beginning-loop-index-preserved : goal.explore_beginning-loop-index-preserved
+explore_beginning-loop-index-preserved g t c =
+    let n = c.args.lists.now in
+    let alts = c.push_endings.new.out.items in
+    let i = c.loop-index.index in
+    let a = c.index-alt.result.now in
+    let end : c.len-index-end.result ≡ length alts = c.len-index-end.ensures ∙ c.push_endings.new.out.ok.0 in
+    let test = c.loop-index-test.true in
+    let at = part.at_of alts i a (omega arith) c.index-alt.ensures in
+    let before = c.loop-index.invariant.steps in
+    let after = c.in_ok-is_live.ensures.steps in
+    let fewer = c.loop-index.invariant.left.fewer in
+    let fewest = c.in_ok-is_live.ensures.left.fewer in
+    let once = (part.from_none c.new-alts.result.items alts _ c.new-alts.ensures.items c.in_ok-push_endings.ensures).once in
+    let old = c.args.live.now.items in
+    let lkey = left_of c.args.gap.now c.args.group.now c.args.begin.now in
+    record {
+      asked = part.next_asked n c.args.key c.args.gap.now c.args.group.now c.args.begin.now lkey c.requires.is_key refl alts i (i + 1) a c.args.table.now c.loop-index.table c.is_live.new.table (omega arith) at c.loop-index.invariant.asked c.in_ok-is_live.ensures.asked;
+      live = elim c.if-branch.branch [
+        | explore_beginning-then-branch+in_ok-push w ↦ subst (λ z. AddsExactly old z (λ x. IsLive n.positions n.lists x × Among (λ (u v : Alt). u ≡ v) alts (i + 1) x)) (sym (ap (λ v. v.items) w.live-is))
+            (part.live_kept n alts i (i + 1) a (omega arith) at once old c.loop-index.live.items _ (c.in_ok-is_live.ensures.live.0 w.if-branch.true) w.in_ok-push.ensures.items c.loop-index.invariant.live)
+        | explore_beginning-else-branch w ↦ subst (λ z. AddsExactly old z (λ x. IsLive n.positions n.lists x × Among (λ (u v : Alt). u ≡ v) alts (i + 1) x)) (sym (ap (λ v. v.items) w.live-is))
+            (part.live_dropped n alts i (i + 1) a (omega arith) at once old c.loop-index.live.items (λ l. true≢false (sym (c.in_ok-is_live.ensures.live.1 l) ∙ w.if-branch.false)) c.loop-index.invariant.live)
+      ];
+      last = c.in_ok-is_live.ensures.last;
+      left = record { known = c.in_ok-is_live.ensures.left.known; fewer = omega arith };
+      steps = omega arith;
+    }
+
+pub explore_beginning-returns-clause-live : goal.explore_beginning-returns-clause-live
+explore_beginning-returns-clause-live g t c =
+    let alts = c.push_endings.new.out.items in
+    let end : c.len-index-end.result ≡ length alts = c.len-index-end.ensures ∙ c.push_endings.new.out.ok.0 in
+    let test = c.loop-index-test.false in
+    let ends = part.from_none c.new-alts.result.items alts _ c.new-alts.ensures.items c.in_ok-push_endings.ensures in
+    part.all_live c.args.lists.now c.args.key c.args.gap.now c.args.group.now c.args.begin.now c.key-lkey.result c.requires.is_key c.key-lkey.ensures alts
+    (part.ends_all c.args.lists.now c.args.key c.args.gap.now c.args.group.now c.args.begin.now alts c.requires.is_key ends) c.loop-index.index (omega arith) c.args.live.now.items c.loop-index.live.items c.loop-index.invariant.live
+
+pub explore_beginning-returns-clause-asked : goal.explore_beginning-returns-clause-asked
+explore_beginning-returns-clause-asked g t c =
+    let alts = c.push_endings.new.out.items in
+    let end : c.len-index-end.result ≡ length alts = c.len-index-end.ensures ∙ c.push_endings.new.out.ok.0 in
+    let test = c.loop-index-test.false in
+    let ends = part.from_none c.new-alts.result.items alts _ c.new-alts.ensures.items c.in_ok-push_endings.ensures in
+    part.all_asked c.args.lists.now c.args.key c.args.gap.now c.args.group.now c.args.begin.now c.key-lkey.result c.requires.is_key c.key-lkey.ensures alts
+    (part.ends_all c.args.lists.now c.args.key c.args.gap.now c.args.group.now c.args.begin.now alts c.requires.is_key ends) c.loop-index.index (omega arith) c.requires.begins c.args.table.now c.loop-index.table c.loop-index.invariant.asked
+
+pub explore_group-loop-index-init : goal.explore_group-loop-index-init
+explore_group-loop-index-init g t c = record {
+  asked = part.asked_start c.args.lists.now _ c.args.table.now c.requires.table (λ k (a, alt, m, o). part.among_none (IsEnding c.args.gap.now c.args.group.now) c.in_ok-begins.begins.items a m);
+  live = part.adds_none c.args.live.now.items _ (λ a (alt, m, l). part.among_none (IsEnding c.args.gap.now c.args.group.now) c.in_ok-begins.begins.items a m);
+  left = record { known = c.requires.known; fewer = omega arith };
+  steps = omega arith;
+}
+
+pub explore_group-explore_beginning-requires : goal.explore_group-explore_beginning-requires
+explore_group-explore_beginning-requires g t c κs within =
+    let end : c.len-index-end.result ≡ length c.in_ok-begins.begins.items = c.len-index-end.ensures ∙ c.in_ok-begins.begins.ok.0 in
+    let test = c.loop-index-test.true in
+    let at = part.at_of c.in_ok-begins.begins.items c.loop-index.index c.index.result.now (omega arith) c.index.ensures in
+    let steps = c.loop-index.invariant.steps in
+    let room = c.requires.room in
+    let fewer = c.loop-index.invariant.left.fewer in
+    (search rules, (search rules, (c.requires.decided, (c.requires.key, (c.requires.is_key, (c.requires.gap, (c.requires.group, (c.in_ok-begins.ensures.each c.index.result.now (contains_at c.in_ok-begins.begins.items c.loop-index.index c.index.result.now at), (c.loop-index.invariant.asked.is_table, (c.loop-index.invariant.left.known, omega arith))))))))))
+
+pub explore_group-loop-index-preserved : goal.explore_group-loop-index-preserved
+explore_group-loop-index-preserved g t c =
+    let n = c.args.lists.now in
+    let end : c.len-index-end.result ≡ length c.in_ok-begins.begins.items = c.len-index-end.ensures ∙ c.in_ok-begins.begins.ok.0 in
+    let test = c.loop-index-test.true in
+    let at = part.at_of c.in_ok-begins.begins.items c.loop-index.index c.index.result.now (omega arith) c.index.ensures in
+    let bs = c.in_ok-begins.begins.items in
+    let i = c.loop-index.index in
+    let R = IsEnding c.args.gap.now c.args.group.now in
+    let step = part.among_next R bs i (i + 1) c.index.result.now (omega arith) at in
+    let before = c.loop-index.invariant.steps in
+    let after = c.in_ok-explore_beginning.ensures.steps in
+    let fewer = c.loop-index.invariant.left.fewer in
+    let fewest = c.in_ok-explore_beginning.ensures.left.fewer in
+    record {
+      asked = part.asked_parts n c.args.key (Among R bs i) (R c.index.result.now) (Among R bs (i + 1)) step c.args.table.now c.loop-index.table c.explore_beginning.new.table c.loop-index.invariant.asked c.in_ok-explore_beginning.ensures.asked;
+      live = part.live_parts n c.args.key (Among R bs i) (R c.index.result.now) (Among R bs (i + 1)) step c.args.live.now.items c.loop-index.live.items c.explore_beginning.new.live.items
+          (part.among_apart R bs (part.begins_apart c.args.gap.now c.args.group.now bs c.in_ok-begins.ensures.once) i c.index.result.now at) c.loop-index.invariant.live c.in_ok-explore_beginning.ensures.live;
+      left = record { known = c.in_ok-explore_beginning.ensures.left.known; fewer = omega arith };
+      steps = omega arith;
+    }
+
+pub explore_group-returns-clause-live : goal.explore_group-returns-clause-live
+explore_group-returns-clause-live g t c =
+    let bs = c.in_ok-begins.begins.items in
+    let end : c.len-index-end.result ≡ length bs = c.len-index-end.ensures ∙ c.in_ok-begins.begins.ok.0 in
+    let test = c.loop-index-test.false in
+    let R = IsEnding c.args.gap.now c.args.group.now in
+    part.live_same c.args.lists.now c.args.key (Among R bs c.loop-index.index) (In c.args.group.now)
+    (part.group_begun c.args.lists.now c.args.key c.args.gap.now c.args.group.now bs c.loop-index.index c.requires.is_key c.in_ok-begins.ensures (omega arith)) c.args.live.now.items c.loop-index.live.items c.loop-index.invariant.live
+
+pub explore_group-returns-clause-asked : goal.explore_group-returns-clause-asked
+explore_group-returns-clause-asked g t c =
+    let bs = c.in_ok-begins.begins.items in
+    let end : c.len-index-end.result ≡ length bs = c.len-index-end.ensures ∙ c.in_ok-begins.begins.ok.0 in
+    let test = c.loop-index-test.false in
+    let R = IsEnding c.args.gap.now c.args.group.now in
+    part.asked_same c.args.lists.now c.args.key (Among R bs c.loop-index.index) (In c.args.group.now)
+    (part.group_begun c.args.lists.now c.args.key c.args.gap.now c.args.group.now bs c.loop-index.index c.requires.is_key c.in_ok-begins.ensures (omega arith)) c.args.table.now c.loop-index.table c.loop-index.invariant.asked
+
+pub explore_groups-explore_group-requires : goal.explore_groups-explore_group-requires
+explore_groups-explore_group-requires g t c κs within =
+    let end : c.len-index-end.result ≡ length c.args.groups.now.items.items = c.len-index-end.ensures ∙ c.args.groups.now.items.ok.0 in
+    let test = c.loop-index-test.true in
+    let at = part.at_of c.args.groups.now.items.items c.loop-index.index c.index.result.now (omega arith) c.index.ensures in
+    let steps = c.loop-index.invariant.steps in
+    let room = c.requires.room in
+    let fewer = c.loop-index.invariant.left.fewer in
+    (search rules, (search rules, (c.requires.decided, (c.requires.key, (c.requires.groups.key_is, (c.requires.groups.known, (c.requires.groups.each c.index.result.now (contains_at c.args.groups.now.items.items c.loop-index.index c.index.result.now at), (c.loop-index.invariant.asked.is_table, (c.loop-index.invariant.left.known, omega arith)))))))))
+
+pub explore_groups-loop-index-preserved : goal.explore_groups-loop-index-preserved
+explore_groups-loop-index-preserved g t c =
+    let n = c.args.lists.now in
+    let end : c.len-index-end.result ≡ length c.args.groups.now.items.items = c.len-index-end.ensures ∙ c.args.groups.now.items.ok.0 in
+    let test = c.loop-index-test.true in
+    let at = part.at_of c.args.groups.now.items.items c.loop-index.index c.index.result.now (omega arith) c.index.ensures in
+    let gs = c.args.groups.now.items.items in
+    let i = c.loop-index.index in
+    let step = part.among_next In gs i (i + 1) c.index.result.now (omega arith) at in
+    let before = c.loop-index.invariant.steps in
+    let after = c.in_ok-explore_group.ensures.steps in
+    let fewer = c.loop-index.invariant.left.fewer in
+    let fewest = c.in_ok-explore_group.ensures.left.fewer in
+    record {
+      asked = part.asked_parts n c.args.key (Among In gs i) (In c.index.result.now) (Among In gs (i + 1)) step c.args.table.now c.loop-index.table c.explore_group.new.table c.loop-index.invariant.asked c.in_ok-explore_group.ensures.asked;
+      live = part.live_parts n c.args.key (Among In gs i) (In c.index.result.now) (Among In gs (i + 1)) step [] c.loop-index.live.items c.explore_group.new.live.items
+          (part.among_apart In gs c.requires.groups.apart i c.index.result.now at) c.loop-index.invariant.live c.in_ok-explore_group.ensures.live;
+      left = record { known = c.in_ok-explore_group.ensures.left.known; fewer = omega arith };
+      steps = omega arith;
+    }
+
+pub explore_groups-returns-clause-live : goal.explore_groups-returns-clause-live
+explore_groups-returns-clause-live g t c =
+    let gs = c.args.groups.now.items.items in
+    let n = c.args.lists.now in
+    let end : c.len-index-end.result ≡ length gs = c.len-index-end.ensures ∙ c.args.groups.now.items.ok.0 in
+    let test = c.loop-index-test.false in
+    let live = part.groups_live n c.args.key c.args.groups.now c.requires.groups c.loop-index.index (omega arith) c.loop-index.live.items c.loop-index.invariant.live in
+    ok_as c.of.result (λ list. list ≡ c.deref.result.now) (AreLive n.positions n.lists c.args.key) (λ list e. subst (λ z. AreLive n.positions n.lists c.args.key z) (sym (e ∙ c.deref.ensures.value)) live) c.of.ensures
+
+pub explore_groups-returns-clause-asked : goal.explore_groups-returns-clause-asked
+explore_groups-returns-clause-asked g t c =
+    let gs = c.args.groups.now.items.items in
+    let n = c.args.lists.now in
+    let end : c.len-index-end.result ≡ length gs = c.len-index-end.ensures ∙ c.args.groups.now.items.ok.0 in
+    let test = c.loop-index-test.false in
+    part.ok_any c.of.result _ (part.groups_asked n c.args.key c.args.groups.now c.requires.groups c.loop-index.index (omega arith) c.args.table.now c.loop-index.table c.loop-index.invariant.asked)
+
+pub explore_groups-of-requires : goal.explore_groups-of-requires
+explore_groups-of-requires g t c = λ a h.
+    let gs = c.args.groups.now.items.items in
+    let n = c.args.lists.now in
+    let end : c.len-index-end.result ≡ length gs = c.len-index-end.ensures ∙ c.args.groups.now.items.ok.0 in
+    let test = c.loop-index-test.false in
+    let live = part.groups_live n c.args.key c.args.groups.now c.requires.groups c.loop-index.index (omega arith) c.loop-index.live.items c.loop-index.invariant.live in
+    c.alternatives_are_small.ensures n.positions n.lists c.args.key a c.keep_limits.ensures c.are_numbered.ensures c.requires.key ((live.exactly a).0 (subst (λ z. Contains z a) c.deref.ensures.value h)).0

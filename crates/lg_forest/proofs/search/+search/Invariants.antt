@@ -1,33 +1,78 @@
-use Rattle.std.proofs.Common.{◌+◌, ◌*◌, take, map, length}
+use Rattle.std.proofs.Common.{◌≡◌, ◌+◌, ◌*◌, [], take, map, length}
+use Rattle.lg_region.specs.Openings.{left_of}
 use Rattle.lg_region.specs.Small.{full}
+use Rattle.lg_region.specs.Ways.{AddsExactly}
+use Rattle.lg_region.specs.declared.alternative.Alt.{Alt}
 use Rattle.lg_forest.specs.Forests.{IsLive}
+use Rattle.lg_forest.specs.Halves.{AddsLive, AsksAmong, IsEnding}
 use Rattle.lg_forest.specs.Known.{IsLeft}
 use Rattle.lg_forest.specs.Search.{Asked, IsLast, key_width, part_bound, alt_bound, IsCounted}
+use Rattle.lg_forest.proofs.Among.{Among, AsksFor, In}
 use Rattle.lg_forest.proofs.Asked.{AsksBy}
 use Rattle.lg_forest.proofs.Flags.{Flags}
 use Rattle.lg_forest.proofs.search.+search.Given as goal
 
+abbrev pub decreases-visit : goal.decreases-visit
+decreases-visit g l = 8 * key_width l.lists.now.positions l.key + 7
+
 abbrev pub decreases-explore : goal.decreases-explore
-decreases-explore g l = 5 * key_width l.lists.now.positions l.key + 3
+decreases-explore g l = 8 * key_width l.lists.now.positions l.key + 6
+
+abbrev pub decreases-explore_all : goal.decreases-explore_all
+decreases-explore_all g l = 8 * key_width l.lists.now.positions l.key + 5
+
+abbrev pub decreases-explore_groups : goal.decreases-explore_groups
+decreases-explore_groups g l = 8 * key_width l.lists.now.positions l.key + 5
+
+abbrev pub decreases-explore_group : goal.decreases-explore_group
+decreases-explore_group g l = 8 * key_width l.lists.now.positions l.key + 4
+
+abbrev pub decreases-explore_beginning : goal.decreases-explore_beginning
+decreases-explore_beginning g l = 8 * key_width l.lists.now.positions l.key + 3
 
 abbrev pub decreases-is_live : goal.decreases-is_live
-decreases-is_live g l = 5 * alt_bound l.lists.now.positions l.alt + 2
-
-abbrev pub decreases-visit : goal.decreases-visit
-decreases-visit g l = 5 * key_width l.lists.now.positions l.key + 4
-
-abbrev pub decreases-visit_part : goal.decreases-visit_part
-decreases-visit_part g l = 5 * part_bound l.lists.now.positions l.key
+decreases-is_live g l = 8 * alt_bound l.lists.now.positions l.alt + 2
 
 abbrev pub decreases-visit_left : goal.decreases-visit_left
-decreases-visit_left g l = 5 * part_bound l.lists.now.positions l.key + 1
+decreases-visit_left g l = 8 * part_bound l.lists.now.positions l.key + 1
+
+abbrev pub decreases-visit_part : goal.decreases-visit_part
+decreases-visit_part g l = 8 * part_bound l.lists.now.positions l.key
 
 -- what the alternatives so far ask for is in the table, and each has its flag
-abbrev pub invariant-explore-loop-index : goal.invariant-explore-loop-index
-invariant-explore-loop-index g l = record {
+abbrev pub invariant-explore_all-loop-index : goal.invariant-explore_all-loop-index
+invariant-explore_all-loop-index g l = record {
   asked : Asked l.lists (AsksBy l.lists (map full l.alts-inside.items.items) l.index) l.fn.table l.table;
   flags : Flags (IsLive l.lists.positions l.lists.lists) (take l.index (map full l.alts-inside.items.items)) l.flags.items;
   last : IsLast l.lists l.table l.last;
   left : IsLeft l.lists l.fn.known l.known;
   steps : IsCounted 1 (l.fn.steps + length l.known) l.fn.table (l.steps + length l.fn.known) l.table;
+}
+
+-- the groups so far
+abbrev pub invariant-explore_groups-loop-index : goal.invariant-explore_groups-loop-index
+invariant-explore_groups-loop-index g l = record {
+  asked : Asked l.lists (AsksAmong l.lists l.key (Among In l.groups.items.items l.index)) l.fn.table l.table;
+  live : AddsLive l.lists l.key (Among In l.groups.items.items l.index) [] l.live.items;
+  left : IsLeft l.lists l.fn.known l.known;
+  steps : IsCounted 0 (l.fn.steps + length l.known) l.fn.table (l.steps + length l.fn.known) l.table;
+}
+
+-- the beginnings so far
+abbrev pub invariant-explore_group-loop-index : goal.invariant-explore_group-loop-index
+invariant-explore_group-loop-index g l = record {
+  asked : Asked l.lists (AsksAmong l.lists l.key (Among (IsEnding l.gap l.group) l.begins.items l.index)) l.fn.table l.table;
+  live : AddsLive l.lists l.key (Among (IsEnding l.gap l.group) l.begins.items l.index) l.fn.live.items l.live.items;
+  left : IsLeft l.lists l.fn.known l.known;
+  steps : IsCounted 0 (l.fn.steps + length l.known) l.fn.table (l.steps + length l.fn.known) l.table;
+}
+
+-- the alternatives so far
+abbrev pub invariant-explore_beginning-loop-index : goal.invariant-explore_beginning-loop-index
+invariant-explore_beginning-loop-index g l = record {
+  asked : Asked l.lists (AsksFor l.lists (left_of l.gap l.group l.begin) l.alts.items l.index) l.fn.table l.table;
+  live : AddsExactly l.fn.live.items l.live.items (λ a. IsLive l.lists.positions l.lists.lists a × Among (λ (x : Alt) (y : Alt). x ≡ y) l.alts.items l.index a);
+  last : IsLast l.lists l.table l.last;
+  left : IsLeft l.lists l.fn.known l.known;
+  steps : IsCounted 0 (l.fn.steps + length l.known) l.fn.table (l.steps + length l.fn.known) l.table;
 }

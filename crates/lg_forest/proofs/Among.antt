@@ -1,0 +1,310 @@
+-- Alternatives of a key taken part by part.
+use Rattle.std.proofs.Common.{◌≡◌, ◌↔◌, ℕ, zero, suc, ◌+◌, ◌<◌, ◌≤◌, ◌⊎◌, inl, inr, refl, sym, ap, ◌∙◌, subst, List, [], ◌∷◌, ◌++◌, length, Option, Some, None, IfSome, Contains, slice_get, get_or, OnOk, IsTrue, true, false, true≢false, arith, append_assoc, append-nil}
+use Rattle.std.proofs.lemmas.Bool.{cases_lt}
+use Rattle.std.proofs.lemmas.Option.{same_Some, slice_get_within, slice_get-get_or}
+use Rattle.std.specs.declared.result.Result.{Result}
+use Rattle.std.specs.declared.result.Result.TheVariants.{Ok, Err}
+use Rattle.std.proofs.lemmas.List.Elements.{Contains-append_left, Contains-append_right, Contains-append_cases}
+use Rattle.std.specs.Map.{keys_of}
+use Rattle.lg_region.specs.Fronts.{AreOnce, Numbering}
+use Rattle.lg_region.specs.Keys.{IsAltOf, IsAltOfRegion}
+use Rattle.lg_region.specs.Groups.{StandsIn, region_of_gap}
+use Rattle.lg_region.specs.Openings.{AreApart, AreBeginnings, AreGroups, BeginsSo, IsIn, IsKeyOfGap, left_of}
+use Rattle.lg_region.specs.Keys.{IsValidKey}
+use Rattle.lg_region.specs.declared.opening.Groups.{Groups}
+use Rattle.lg_region.specs.Ways.{AddsExactly, AreExactly}
+use Rattle.lg_region.specs.declared.key.Key.{Key}
+use Rattle.lg_region.specs.declared.alternative.Alt.{Alt}
+use Rattle.lg_region.specs.declared.alternative.Alt.TheVariants.{AllNull, Split as At}
+use Rattle.lg_region.specs.declared.group.Gap.{Gap}
+use Rattle.lg_region.specs.declared.group.Group.{Group}
+use Rattle.lg_region.specs.declared.opening.Beginning.{Beginning}
+use Rattle.lg_forest.specs.Demands.{AsksNext, HasLinkageUnder, left_key, right_key}
+use Rattle.lg_forest.specs.Forests.{IsLive, AreLive}
+use Rattle.lg_forest.specs.Halves.{AddsLive, AsksAmong, IsEnding}
+use Rattle.lg_forest.specs.Search.{Asked, AsksOf, IsLast, IsTable, KeysAreDecided, HasValidKeys, key_width, alt_bound}
+use Rattle.lg_forest.specs.declared.search.Last.{Last}
+use Rattle.lg_forest.specs.Search.AsksOf.{left as asks_left, right as asks_right}
+use Rattle.lg_forest.specs.Demands.AsksNext.{left as next_left, right as next_right}
+use Rattle.lg_forest.proofs.Asked.{asked_as, asked_then, next_narrow}
+use Rattle.lg_forest.proofs.Once.{contains_at, contains_none, once_none}
+
+-- ---- lists that have values once
+
+append_cases : {X : Type 0} (xs ys : List X) (i : ℕ) (x : X) → slice_get (xs ++ ys) i ≡ Some x → (slice_get xs i ≡ Some x) ⊎ ((j : ℕ) × (i ≡ length xs + j) × (slice_get ys j ≡ Some x))
+append_cases [] ys i x e = inr (i, omega arith, e)
+append_cases (z ∷ xs) ys zero x e = inl e
+append_cases (z ∷ xs) ys (suc i) x e = elim (append_cases xs ys i x e) [ inl h ↦ inl h | inr h ↦ (let b = h.1 in inr (h.0, omega arith, h.2)) ]
+
+once_append : {X : Type 0} (xs ys : List X) → AreOnce xs → AreOnce ys → ((x : X) → Contains xs x → Contains ys x → ⊥) → AreOnce (xs ++ ys)
+once_append xs ys ox oy d i j x e f =
+    elim (append_cases xs ys i x e) [
+      | inl h ↦ elim (append_cases xs ys j x f) [
+        | inl k ↦ ox i j x h k
+        | inr k ↦ absurd (d x (contains_at xs i x h) (contains_at ys k.0 x k.2))
+      ]
+      | inr h ↦ elim (append_cases xs ys j x f) [
+        | inl k ↦ absurd (d x (contains_at xs j x k) (contains_at ys h.0 x h.2))
+        | inr k ↦ (let s = oy h.0 k.0 x h.2 k.2 in let a = h.1 in let b = k.1 in omega arith)
+      ]
+    ]
+
+pub adds_then : {X : Type 0} (a b c : List X) (P Q R : X → Type 0) → AddsExactly a b P → AddsExactly b c Q → ((x : X) → P x → Q x → ⊥) → ((x : X) → R x ↔ (P x ⊎ Q x)) → AddsExactly a c R
+adds_then a b c P Q R p q d e = record {
+  more = p.more ++ q.more;
+  added = q.added ∙ ap (λ z. z ++ q.more) p.added ∙ append_assoc a p.more q.more;
+  exactly = record {
+    each = λ x. (
+      λ h. (e x).1 (elim (Contains-append_cases p.more q.more x h) [ inl g ↦ inl ((p.exactly.each x).0 g) | inr g ↦ inr ((q.exactly.each x).0 g) ]),
+      λ r. elim ((e x).0 r) [ inl g ↦ Contains-append_left p.more q.more x ((p.exactly.each x).1 g) | inr g ↦ Contains-append_right p.more q.more x ((q.exactly.each x).1 g) ],
+    );
+    once = once_append p.more q.more p.exactly.once q.exactly.once (λ x g h. d x ((p.exactly.each x).0 g) ((q.exactly.each x).0 h));
+  };
+}
+
+pub adds_none : {X : Type 0} (xs : List X) (P : X → Type 0) → ((x : X) → P x → ⊥) → AddsExactly xs xs P
+adds_none xs P none = record { more = []; added = sym (append-nil xs); exactly = record { each = λ x. (λ h. absurd (contains_none x h), λ p. absurd (none x p)); once = once_none } }
+
+pub adds_one : {X : Type 0} (xs ys : List X) (x : X) → ys ≡ xs ++ x ∷ [] → AddsExactly xs ys (λ z. x ≡ z)
+adds_one xs ys x e = record {
+  more = x ∷ [];
+  added = e;
+  exactly = record {
+    each = λ z. (
+      λ (k, l, at). (let zeroth : k ≡ 0 = omega arith in first x z k l at zeroth),
+      λ q. (zero, omega arith, q),
+    );
+    once = λ i j z f g. let a = slice_get_within (x ∷ []) i z f in let b = slice_get_within (x ∷ []) j z g in omega arith;
+  };
+}
+  where
+    first : {X : Type 0} (x z : X) (k : ℕ) → (l : k < 1) → Rattle.std.proofs.Common.get_or (x ∷ []) k z ≡ z → k ≡ 0 → x ≡ z
+    first x z zero l at e = at
+    first x z (suc k) l at e = absurd (omega arith)
+
+pub adds_as : {X : Type 0} (a b : List X) (P Q : X → Type 0) → ((x : X) → P x ↔ Q x) → AddsExactly a b P → AddsExactly a b Q
+adds_as a b P Q h p = record { more = p.more; added = p.added; exactly = record { each = λ x. (λ c. (h x).0 ((p.exactly.each x).0 c), λ q. (p.exactly.each x).1 ((h x).1 q)); once = p.exactly.once } }
+
+-- ---- among the first of a list
+
+-- one of the first i has R
+abbrev pub Among : {X A : Type 0} → (X → A → Type 0) → List X → ℕ → A → Type 0
+Among {X} R xs i a = (j : ℕ) × (x : X) × (j < i) × (slice_get xs j ≡ Some x) × R x a
+
+module _ {X A : Type 0} (R : X → A → Type 0) (xs : List X) where
+  pub among_none : (a : A) → Among R xs 0 a → ⊥
+  among_none a (j, x, l, at, r) = omega arith
+
+  pub among_next : (i next : ℕ) (x : X) → next ≡ suc i → slice_get xs i ≡ Some x → (a : A) → Among R xs next a ↔ (Among R xs i a ⊎ R x a)
+  among_next i next x e at a = (
+    λ (j, y, l, at', r). elim (cases_lt j i) [
+      | inl h ↦ inl (j, y, h, at', r)
+      | inr h ↦ (let same : j ≡ i = omega arith in inr (subst (λ z. R z a) (same_Some y x (sym at' ∙ ap (slice_get xs) same ∙ at)) r))
+    ],
+    λ h. elim h [
+      | inl (j, y, l, at', r) ↦ (j, y, omega arith, at', r)
+      | inr r ↦ (i, x, omega arith, at, r)
+    ],
+  )
+
+  pub among_apart : ((i j : ℕ) (x y : X) (a : A) → slice_get xs i ≡ Some x → slice_get xs j ≡ Some y → R x a → R y a → i ≡ j) → (i : ℕ) (x : X) → slice_get xs i ≡ Some x → (a : A) → Among R xs i a → R x a → ⊥
+  among_apart apart i x at a (j, y, l, at', r) s = let e = apart i j x y a at at' s r in omega arith
+
+  pub among_all : (i : ℕ) (x : X) (a : A) → length xs ≤ i → Contains xs x → R x a → Among R xs i a
+  among_all i x a l has r = let p = Rattle.lg_forest.proofs.Once.place_of xs x has in let w = slice_get_within xs p.0 x p.1 in (p.0, x, omega arith, p.1, r)
+
+-- ---- what is asked for
+
+pub asked_start : (n : Numbering) (K : Key → Type 0) (es : List (Key × List Alt)) → IsTable n es → ((k : Key) → K k → ⊥) → Asked n K es es
+asked_start n K es is none = record { is_table = is; kept = λ k h. h; there = λ k h. absurd (none k h); fresh = λ k h. inl h }
+
+module _ (n : Numbering) (key : Key) (P Q R : Alt → Type 0) (e : (a : Alt) → R a ↔ (P a ⊎ Q a)) where
+  pub asked_parts : (old mid new : List (Key × List Alt)) → Asked n (AsksAmong n key P) old mid → Asked n (AsksAmong n key Q) mid new → Asked n (AsksAmong n key R) old new
+  asked_parts old mid new x y =
+      asked_then n (AsksAmong n key P) (AsksAmong n key Q) (AsksAmong n key R) old mid new
+      (λ k (a, is, p, asks). (a, is, (e a).1 (inl p), asks))
+      (λ k (a, is, q, asks). (a, is, (e a).1 (inr q), asks))
+      (λ k (a, is, r, asks). elim ((e a).0 r) [ inl p ↦ inl (a, is, p, asks) | inr q ↦ inr (a, is, q, asks) ])
+      x y
+
+  pub live_parts : (old mid new : List Alt) → ((a : Alt) → P a → Q a → ⊥) → AddsLive n key P old mid → AddsLive n key Q mid new → AddsLive n key R old new
+  live_parts old mid new d x y =
+      adds_then old mid new (λ a. IsAltOf n.positions n.lists key a × P a × IsLive n.positions n.lists a) (λ a. IsAltOf n.positions n.lists key a × Q a × IsLive n.positions n.lists a) (λ a. IsAltOf n.positions n.lists key a × R a × IsLive n.positions n.lists a) x y
+      (λ a p q. d a p.1 q.1)
+      (λ a. (
+        λ (is, r, live). elim ((e a).0 r) [ inl p ↦ inl (is, p, live) | inr q ↦ inr (is, q, live) ],
+        λ h. elim h [ inl (is, p, live) ↦ (is, (e a).1 (inl p), live) | inr (is, q, live) ↦ (is, (e a).1 (inr q), live) ],
+      ))
+
+module _ (n : Numbering) (key : Key) (P Q : Alt → Type 0) (e : (a : Alt) → IsAltOf n.positions n.lists key a → P a ↔ Q a) where
+  pub asked_same : (old new : List (Key × List Alt)) → Asked n (AsksAmong n key P) old new → Asked n (AsksAmong n key Q) old new
+  asked_same old new x = asked_as n (AsksAmong n key P) (AsksAmong n key Q) old new (λ k (a, is, p, asks). (a, is, (e a is).0 p, asks)) (λ k (a, is, q, asks). (a, is, (e a is).1 q, asks)) x
+
+  pub live_same : (old new : List Alt) → AddsLive n key P old new → AddsLive n key Q old new
+  live_same old new x = adds_as old new (λ a. IsAltOf n.positions n.lists key a × P a × IsLive n.positions n.lists a) (λ a. IsAltOf n.positions n.lists key a × Q a × IsLive n.positions n.lists a)
+      (λ a. (λ (is, p, live). (is, (e a is).0 p, live), λ (is, q, live). (is, (e a is).1 q, live))) x
+
+-- a left key, and what the first alternatives of a list ask for
+abbrev pub AsksFor : Numbering → Key → List Alt → ℕ → Key → Type 0
+AsksFor n lkey alts i k = (k ≡ lkey) ⊎ ((a : Alt) × Among (λ (x : Alt) (y : Alt). x ≡ y) alts i a × AsksOf n a k)
+
+-- ---- beginnings
+
+pub ending_left : (gap : Gap) (g : Group) (b : Beginning) (a : Alt) → BeginsSo gap g b a → left_key a ≡ Some (left_of gap g b)
+ending_left gap g b AllNull h = absurd h
+ending_left gap g b (At w number tl tr lk rk) h = h.1
+
+begins_same : (gap : Gap) (g : Group) (b b' : Beginning) (a : Alt) → BeginsSo gap g b a → BeginsSo gap g b' a → b ≡ b'
+begins_same gap g b b' AllNull h h' = absurd h
+begins_same gap g b b' (At w number tl tr lk rk) h h' =
+    let keys : ◌≡◌ {A = Option Key} (Some (left_of gap g b)) (Some (left_of gap g b')) = sym h.1 ∙ h'.1 in
+    let near : b.way.near ≡ b'.way.near = cc in
+    let far : b.way.far ≡ b'.way.far = cc in
+    let nulls : b.nulls ≡ b'.nulls = cc in
+    let joint = sym h.0 ∙ h'.0 in
+    λ i. record { nulls = nulls i; way = record { joint = joint i; near = near i; far = far i } }
+
+pub begins_apart : (gap : Gap) (g : Group) (bs : List Beginning) → AreOnce bs → (i j : ℕ) (b b' : Beginning) (a : Alt) → slice_get bs i ≡ Some b → slice_get bs j ≡ Some b' → IsEnding gap g b a → IsEnding gap g b' a → i ≡ j
+begins_apart gap g bs once i j b b' a e f h h' = once i j b e (f ∙ ap Some (sym (begins_same gap g b b' a h.1 h'.1)))
+
+pub alt_in : (n : Numbering) (key : Key) (gap : Gap) (a : Alt) → IsKeyOfGap key gap → IsAltOfRegion n.positions n.lists (region_of_gap n.lists gap) a → IsAltOf n.positions n.lists key a
+alt_in n key gap a e h = subst (λ z. IsAltOf n.positions n.lists z a) (sym e) h
+
+pub alt_out : (n : Numbering) (key : Key) (gap : Gap) (a : Alt) → IsKeyOfGap key gap → IsAltOf n.positions n.lists key a → IsAltOfRegion n.positions n.lists (region_of_gap n.lists gap) a
+alt_out n key gap a e h = subst (λ z. IsAltOf n.positions n.lists z a) e h
+
+pub left_valid : (n : Numbering) (key : Key) (gap : Gap) (g : Group) (b : Beginning) (lkey : Key) → KeysAreDecided n → IsValidKey n.positions n.lists key → IsKeyOfGap key gap → lkey ≡ left_of gap g b → (a : Alt) × IsIn n gap g a × BeginsSo gap g b a
+    → IsValidKey n.positions n.lists lkey × (key_width n.positions lkey < key_width n.positions key)
+left_valid n key gap g b lkey d v is e (a, i, h) = next_narrow n key lkey d v (next_left a lkey (alt_in n key gap a is i.0) (ending_left gap g b a h ∙ ap Some (sym e)))
+
+module _ (n : Numbering) (key : Key) (gap : Gap) (g : Group) (b : Beginning) (lkey : Key) (is : IsKeyOfGap key gap) (e : lkey ≡ left_of gap g b) where
+  left_is : (a : Alt) → BeginsSo gap g b a → left_key a ≡ Some lkey
+  left_is a h = ending_left gap g b a h ∙ ap Some (sym e)
+
+  -- where the left key has no linkage none is live, and no more is asked for
+  pub dead_live : (HasLinkageUnder n.positions n.lists lkey → ⊥) → (live : List Alt) → AddsLive n key (IsEnding gap g b) live live
+  dead_live dead live = adds_none live (λ a. IsAltOf n.positions n.lists key a × IsEnding gap g b a × IsLive n.positions n.lists a) (λ a (i, h, l). dead (subst (λ z. IfSome z (HasLinkageUnder n.positions n.lists)) (left_is a h.1) l.left))
+
+  pub dead_asked : (HasLinkageUnder n.positions n.lists lkey → ⊥) → (a : Alt) × IsIn n gap g a × BeginsSo gap g b a → (old new : List (Key × List Alt)) → Asked n (λ k. k ≡ lkey) old new → Asked n (AsksAmong n key (IsEnding gap g b)) old new
+  dead_asked dead (a, i, h) old new x =
+      asked_as n (λ k. k ≡ lkey) (AsksAmong n key (IsEnding gap g b)) old new
+      (λ k q. (a, alt_in n key gap a is i.0, (i.1, h), asks_left k (left_is a h ∙ ap Some (sym q))))
+      (λ k (a', i', h', asks). only a' k h'.1 asks)
+      x
+    where
+      only : (a' : Alt) (k : Key) → BeginsSo gap g b a' → AsksOf n a' k → k ≡ lkey
+      only a' _ h' (asks_left k q) = let two : ◌≡◌ {A = Option Key} (Some k) (Some lkey) = sym q ∙ left_is a' h' in cc
+      only a' _ h' (asks_right k q l) = absurd (dead (subst (λ z. IfSome z (HasLinkageUnder n.positions n.lists)) (left_is a' h') l))
+
+  module _ (alts : List Alt) where
+    pub first_asked : (old new : List (Key × List Alt)) → Asked n (λ k. k ≡ lkey) old new → Asked n (AsksFor n (left_of gap g b) alts 0) old new
+    first_asked old new x = asked_as n (λ k. k ≡ lkey) (AsksFor n (left_of gap g b) alts 0) old new (λ k q. inl (q ∙ e)) (λ k h. elim h [ inl q ↦ q ∙ sym e | inr (a, (j, y, l, at, r), o) ↦ absurd (omega arith) ]) x
+
+    pub next_asked : (i next : ℕ) (a : Alt) (old mid new : List (Key × List Alt)) → next ≡ suc i → slice_get alts i ≡ Some a → Asked n (AsksFor n lkey alts i) old mid → Asked n (AsksOf n a) mid new → Asked n (AsksFor n lkey alts next) old new
+    next_asked i next a old mid new q at x y =
+        let step = among_next (λ (u v : Alt). u ≡ v) alts i next a q at in
+        asked_then n (AsksFor n lkey alts i) (AsksOf n a) (AsksFor n lkey alts next) old mid new
+        (λ k h. elim h [ inl p ↦ inl p | inr (z, m, o) ↦ inr (z, (step z).1 (inl m), o) ])
+        (λ k o. inr (a, (step a).1 (inr refl), o))
+        (λ k h. elim h [ inl p ↦ inl (inl p) | inr (z, m, o) ↦ elim ((step z).0 m) [ inl m' ↦ inl (inr (z, m', o)) | inr same ↦ inr (subst (λ v. AsksOf n v k) (sym same) o) ] ])
+        x y
+
+    -- all of them were looked at
+    module _ (all : (a : Alt) → Contains alts a ↔ (IsAltOf n.positions n.lists key a × IsEnding gap g b a)) (i : ℕ) (end : length alts ≤ i) where
+      among_these : (a : Alt) → Among (λ (u v : Alt). u ≡ v) alts i a ↔ Contains alts a
+      among_these a = (λ (j, y, l, at, r). subst (λ z. Contains alts z) r (contains_at alts j y at), λ has. among_all (λ (u v : Alt). u ≡ v) alts i a a end has refl)
+
+      pub all_asked : (a : Alt) × IsIn n gap g a × BeginsSo gap g b a → (old new : List (Key × List Alt)) → Asked n (AsksFor n (left_of gap g b) alts i) old new → Asked n (AsksAmong n key (IsEnding gap g b)) old new
+      all_asked (a, i', h) old new x =
+          asked_as n (AsksFor n (left_of gap g b) alts i) (AsksAmong n key (IsEnding gap g b)) old new
+          (λ k q. elim q [
+            | inl p ↦ (a, alt_in n key gap a is i'.0, (i'.1, h), asks_left k (ending_left gap g b a h ∙ ap Some (sym p)))
+            | inr (z, m, o) ↦ (let t = (all z).0 ((among_these z).0 m) in (z, t.0, t.1, o))
+          ])
+          (λ k (z, alt, ending, o). inr (z, (among_these z).1 ((all z).1 (alt, ending)), o))
+          x
+
+      pub all_live : (old new : List Alt) → AddsExactly old new (λ a. IsLive n.positions n.lists a × Among (λ (u v : Alt). u ≡ v) alts i a) → AddsLive n key (IsEnding gap g b) old new
+      all_live old new x = adds_as old new (λ a. IsLive n.positions n.lists a × Among (λ (u v : Alt). u ≡ v) alts i a) (λ a. IsAltOf n.positions n.lists key a × IsEnding gap g b a × IsLive n.positions n.lists a)
+          (λ a. (λ (l, m). (let t = (all a).0 ((among_these a).0 m) in (t.0, t.1, l)), λ (alt, ending, l). (l, (among_these a).1 ((all a).1 (alt, ending)))))
+          x
+
+-- what was added to nothing
+pub from_none : {X : Type 0} (old new : List X) (P : X → Type 0) → old ≡ [] → AddsExactly old new P → AreExactly new P
+from_none old new P e x = subst (λ z. AreExactly z P) (sym (x.added ∙ ap (λ z. z ++ x.more) e)) x.exactly
+
+module _ (n : Numbering) (alts : List Alt) (i next : ℕ) (a : Alt) (q : next ≡ suc i) (at : slice_get alts i ≡ Some a) (once : AreOnce alts) where
+  abbrev Here : Alt → Type 0
+  Here z = IsLive n.positions n.lists z × Among (λ (u v : Alt). u ≡ v) alts i z
+
+  abbrev There : Alt → Type 0
+  There z = IsLive n.positions n.lists z × Among (λ (u v : Alt). u ≡ v) alts next z
+
+  pub live_kept : (old mid new : List Alt) → IsLive n.positions n.lists a → new ≡ mid ++ a ∷ [] → AddsExactly old mid (λ z. IsLive n.positions n.lists z × Among (λ (u v : Alt). u ≡ v) alts i z) → AddsExactly old new (λ z. IsLive n.positions n.lists z × Among (λ (u v : Alt). u ≡ v) alts next z)
+  live_kept old mid new l e x =
+      let step = among_next (λ (u v : Alt). u ≡ v) alts i next a q at in
+      adds_then old mid new Here (λ z. a ≡ z) There x (adds_one mid new a e)
+      (λ z (l', (j, y, lt, at', r)) same. let p = once j i y at' (at ∙ ap Some (same ∙ sym r)) in omega arith)
+      (λ z. (
+        λ (l', m). elim ((step z).0 m) [ inl m' ↦ inl (l', m') | inr same ↦ inr same ],
+        λ h. elim h [ inl (l', m) ↦ (l', (step z).1 (inl m)) | inr same ↦ (subst (IsLive n.positions n.lists) same l, (step z).1 (inr same)) ],
+      ))
+
+  pub live_dropped : (old mid : List Alt) → (IsLive n.positions n.lists a → ⊥) → AddsExactly old mid (λ z. IsLive n.positions n.lists z × Among (λ (u v : Alt). u ≡ v) alts i z) → AddsExactly old mid (λ z. IsLive n.positions n.lists z × Among (λ (u v : Alt). u ≡ v) alts next z)
+  live_dropped old mid dead x =
+      let step = among_next (λ (u v : Alt). u ≡ v) alts i next a q at in
+      adds_as old mid Here There
+      (λ z. (
+        λ (l', m). (l', (step z).1 (inl m)),
+        λ (l', m). elim ((step z).0 m) [ inl m' ↦ (l', m') | inr same ↦ absurd (dead (subst (IsLive n.positions n.lists) (sym same) l')) ],
+      )) x
+
+-- ---- groups and their beginnings
+
+pub group_begun : (n : Numbering) (key : Key) (gap : Gap) (g : Group) (bs : List Beginning) (i : ℕ) → IsKeyOfGap key gap → AreBeginnings n gap g bs → length bs ≤ i → (a : Alt) → IsAltOf n.positions n.lists key a → Among (IsEnding gap g) bs i a ↔ StandsIn g.word g.from g.to a
+group_begun n key gap g bs i is are end a alt = (
+  λ (j, b, l, at, h). h.0,
+  λ s. let x = are.some a (alt_out n key gap a is alt, s) in among_all (IsEnding gap g) bs i x.0 a end x.1 (s, x.2),
+)
+
+abbrev pub In : Group → Alt → Type 0
+In g a = StandsIn g.word g.from g.to a
+
+module _ (n : Numbering) (key : Key) (groups : Groups) (are : AreGroups n key groups) (i : ℕ) (end : length groups.items.items ≤ i) where
+  among_groups : (a : Alt) → IsAltOf n.positions n.lists key a → Among In groups.items.items i a
+  among_groups a alt = let x = are.some a (alt_out n key groups.gap a are.key_is alt) in among_all In groups.items.items i x.0 a end x.1 x.2
+
+  pub groups_asked : (old new : List (Key × List Alt)) → Asked n (AsksAmong n key (Among In groups.items.items i)) old new → Asked n (AsksNext n.positions n.lists key) old new
+  groups_asked old new x =
+      asked_as n (AsksAmong n key (Among In groups.items.items i)) (AsksNext n.positions n.lists key) old new (λ k (a, alt, m, o). next_of a k alt o) (λ k h. by k h) x
+    where
+      next_of : (a : Alt) (k : Key) → IsAltOf n.positions n.lists key a → AsksOf n a k → AsksNext n.positions n.lists key k
+      next_of a _ alt (asks_left k q) = next_left a k alt q
+      next_of a _ alt (asks_right k q l) = next_right a k alt q l
+
+      by : (k : Key) → AsksNext n.positions n.lists key k → AsksAmong n key (Among In groups.items.items i) k
+      by _ (next_left a k alt q) = (a, alt, among_groups a alt, asks_left k q)
+      by _ (next_right a k alt q l) = (a, alt, among_groups a alt, asks_right k q l)
+
+  pub groups_live : (live : List Alt) → AddsLive n key (Among In groups.items.items i) [] live → AreLive n.positions n.lists key live
+  groups_live live x = let r = from_none [] live (λ a. IsAltOf n.positions n.lists key a × Among In groups.items.items i a × IsLive n.positions n.lists a) refl x in record {
+    exactly = λ a. (λ c. (let t = (r.each a).0 c in (t.0, t.2)), λ (alt, l). (r.each a).1 (alt, among_groups a alt, l));
+    once = r.once;
+  }
+
+-- ---- what a loop tells
+
+pub at_of : {X : Type 0} (xs : List X) (i : ℕ) (x : X) → i < length xs → x ≡ get_or xs i x → slice_get xs i ≡ Some x
+at_of xs i x lt e = slice_get-get_or xs i x lt ∙ ap Some (sym e)
+
+pub ends_all : (n : Numbering) (key : Key) (gap : Gap) (g : Group) (b : Beginning) (alts : List Alt) → IsKeyOfGap key gap
+    → AreExactly alts (λ a. IsAltOfRegion n.positions n.lists (region_of_gap n.lists gap) a × StandsIn g.word g.from g.to a × BeginsSo gap g b a)
+    → (a : Alt) → Contains alts a ↔ (IsAltOf n.positions n.lists key a × IsEnding gap g b a)
+ends_all n key gap g b alts is are a = (
+  λ has. let t = (are.each a).0 has in (alt_in n key gap a is t.0, (t.1, t.2)),
+  λ (alt, h). (are.each a).1 (alt_out n key gap a is alt, h.0, h.1),
+)
+
+pub ok_any : {T E : Type 0} (r : Result T E) (Q : Type 0) → Q → OnOk r Q
+ok_any (Ok x) Q q = q
+ok_any (Err e) Q q = tt

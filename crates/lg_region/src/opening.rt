@@ -1,0 +1,187 @@
+//! How the alternatives of a region begin, so that a caller need not make those whose left key it has no use for.
+ghost use Rattle.std.specs.Prelude.{◌≡◌, ◌≢◌, ◌+◌, ◌++◌, ◌<◌, ◌≤◌, ◌↔◌, [], length, map, slice_index_or, IfOk, IfSome, IsTrue, OnOk};
+ghost use Rattle.lg_region.specs.Openings.{AreBeginnings, AreGroups, BeginsSo, GroupsOfWord, HasRight, IsKeyOfGap, begins_at, left_of};
+ghost use Rattle.lg_region.specs.Groups.{IsGroup, IsKnownGap, StandsIn, region_of_gap};
+ghost use Rattle.lg_region.specs.Keys.{IsAltOfRegion, IsValidKey};
+ghost use Rattle.lg_region.specs.Ways.{AddsExactly};
+
+use crate::alternative::Alt;
+use crate::expand::{lead_of, run_end};
+use crate::group::{Gap, Group, push_with_left, rights};
+use crate::key::Key;
+use crate::lists::Lists;
+use crate::ways::{Way, ways_between};
+use lg_base::NoMemory;
+use std::alloc::Global;
+
+/// A region, and the groups of disjuncts that can cut it.
+#[derive(Drop)]
+pub struct Groups {
+    pub gap: Gap,
+    pub items: Vec<Group>,
+}
+
+/// How the alternatives of a group begin that have one left key: how the two left lists go on, and how many words are unlinked on
+/// the left.
+#[derive(Clone, Copy, Debug)]
+pub struct Beginning {
+    pub nulls: u32,
+    pub way: Way,
+}
+
+impl Beginning {
+    /// The left key.
+    pub fn key(&self, gap: &Gap, group: &Group) -> Key
+        ensures { result ≡ left_of gap.now group.now self.now }
+    {
+        Key::Region {
+            left: gap.left,
+            right: group.word,
+            llist: self.way.near,
+            rlist: self.way.far,
+            nulls: self.nulls,
+        }
+    }
+}
+
+/// The groups of a region: each alternative of it stands in exactly one. None for the whole sentence, and where both lists are empty.
+pub fn groups_of(alloc: Global, lists: &Lists<'_>, key: Key) -> Result<Option<Groups>, NoMemory>
+    requires { IsValidKey lists.now.positions lists.now.lists key }
+    ensures { IfOk result (λ groups. IfSome groups (AreGroups lists.entry.now key)) }
+{
+    match key {
+        Key::Whole { .. } => Ok(None),
+        Key::Region {
+            left,
+            right,
+            llist,
+            rlist,
+            nulls,
+        } => {
+            if llist == 0 && rlist == 0 {
+                return Ok(None);
+            }
+            let lead = lead_of(lists, llist, rlist);
+            let gap = Gap {
+                left,
+                right,
+                llist,
+                rlist,
+                nulls,
+                lead,
+            };
+            let groups = groups_of_gap(alloc, lists, gap)?;
+            Ok(Some(groups))
+        }
+    }
+}
+
+fn groups_of_gap(alloc: Global, lists: &Lists<'_>, gap: Gap) -> Result<Groups, NoMemory>
+    requires known { IsKnownGap lists.now gap }
+    requires ends { gap.left < gap.right }
+    requires within { gap.right ≤ length lists.now.positions }
+    requires some { (gap.llist ≡ 0) × (gap.rlist ≡ 0) → ⊥ }
+    ensures { IfOk result (λ groups. (key : _) → IsKeyOfGap key gap → AreGroups lists.entry.now key groups) }
+{
+    lists.are_numbered();
+    let mut items = Vec::new(alloc);
+    for word in gap.left + 1..gap.right {
+        push_groups(lists, &gap, word, &mut items)?;
+    }
+    Ok(Groups { gap, items })
+}
+
+// Adds the groups of a word.
+fn push_groups(
+    lists: &Lists<'_>,
+    gap: &Gap,
+    word: u32,
+    groups: &mut Vec<Group>,
+) -> Result<(), NoMemory>
+    requires known { IsKnownGap lists.now gap.now }
+    requires after { gap.now.left < word }
+    requires before { word < gap.now.right }
+    requires within { gap.now.right ≤ length lists.now.positions }
+    ensures { OnOk result (GroupsOfWord lists.entry.now gap.now word (length (slice_index_or lists.entry.now.positions word [])) groups.old.items groups.new.items) }
+{
+    let count = lists.count(word);
+    let mut from = lists.first(gap.lead.side, gap.lead.class, word);
+    while from < count {
+        let left = lists.sides(word, from).left;
+        let to = run_end(lists, gap.lead, word, from, left);
+        groups.push(Group {
+            word,
+            left,
+            from,
+            to,
+        })?;
+        from = to;
+    }
+    Ok(())
+}
+
+/// How the alternatives of a group begin, each way once, and no other.
+pub fn beginnings(
+    alloc: Global,
+    lists: &Lists<'_>,
+    gap: &Gap,
+    group: &Group,
+) -> Result<Vec<Beginning>, NoMemory>
+    requires gap { IsKnownGap lists.now gap.now }
+    requires group { IsGroup lists.now gap.now group.now }
+    ensures { IfOk result (λ begins. AreBeginnings lists.entry.now gap.now group.now begins.items) }
+{
+    lists.are_numbered();
+    let mut begins = Vec::new(alloc);
+    let lefts = ways_between(alloc, lists, gap.llist, group.left, gap.llist == 0)?;
+    if lefts.is_empty() {
+        return Ok(begins);
+    }
+    if !has_right(alloc, lists, gap, group)? {
+        return Ok(begins);
+    }
+    let least = gap.nulls.saturating_sub(gap.right - group.word - 1);
+    let most = gap.nulls.min(group.word - gap.left - 1);
+    for nulls in least..most + 1 {
+        push_beginnings(nulls, &lefts, &mut begins)?;
+    }
+    Ok(begins)
+}
+
+fn push_beginnings(nulls: u32, lefts: &[Way], begins: &mut Vec<Beginning>) -> Result<(), NoMemory>
+    ensures { OnOk result (begins.new.items ≡ begins.old.items ++ map (begins_at nulls) lefts.now) }
+{
+    for way in lefts {
+        begins.push(Beginning { nulls, way: *way })?;
+    }
+    Ok(())
+}
+
+// Whether some disjunct of the group can cut the region. Where the left end has a list, its first one can.
+fn has_right(alloc: Global, lists: &Lists<'_>, gap: &Gap, group: &Group) -> Result<bool, NoMemory>
+    requires gap { IsKnownGap lists.now gap.now }
+    requires group { IsGroup lists.now gap.now group.now }
+    ensures { IfOk result (λ found. IsTrue found ↔ HasRight lists.entry.now gap.now group.now) }
+{
+    let rights = rights(alloc, lists, gap, group)?;
+    Ok(!rights.is_empty())
+}
+
+/// Adds the alternatives of a group that begin so.
+pub fn push_endings(
+    alloc: Global,
+    lists: &Lists<'_>,
+    gap: &Gap,
+    group: &Group,
+    begin: &Beginning,
+    out: &mut Vec<Alt>,
+) -> Result<(), NoMemory>
+    requires gap { IsKnownGap lists.now gap.now }
+    requires group { IsGroup lists.now gap.now group.now }
+    requires begins { (a : _) × IsAltOfRegion lists.now.positions lists.now.lists (region_of_gap lists.now.lists gap.now) a × StandsIn group.now.word group.now.from group.now.to a × BeginsSo gap.now group.now begin.now a }
+    ensures { OnOk result (AddsExactly out.old.items out.new.items (λ a. IsAltOfRegion lists.entry.now.positions lists.entry.now.lists (region_of_gap lists.entry.now.lists gap.now) a × StandsIn group.now.word group.now.from group.now.to a × BeginsSo gap.now group.now begin.now a)) }
+{
+    lists.are_numbered();
+    let rights = rights(alloc, lists, gap, group)?;
+    push_with_left(gap, group.word, begin.nulls, &begin.way, &rights, out)
+}
