@@ -6,7 +6,7 @@ use Rattle.lg_gram.specs.Connectors.{Connector, Match}
 use Rattle.lg_gram.specs.declared.disjunct.Disjunct.{Disjunct}
 use Rattle.lg_region.specs.Cuts.{GoesOn, IsCutAt}
 use Rattle.lg_region.specs.Fronts.{AreListsOf, AreOnce, list_of}
-use Rattle.lg_region.specs.Ways.{AreExactly, AddsExactly, IsEndOf, IsWayOf, rests_of, way_of, joined_ways}
+use Rattle.lg_region.specs.Ways.{AreExactly, AddsExactly, HasWay, IsEndOf, IsWayOf, rests_of, way_of, joined_ways}
 use Rattle.lg_region.specs.declared.key.Joint.{Joint}
 use Rattle.lg_region.specs.declared.ways.Way.{Way}
 use Rattle.lg_region.specs.declared.ways.End.{End}
@@ -148,8 +148,9 @@ no_far lists near far w e is =
     let b = ap (λ z. length (list_of lists z)) e in
     omega arith
 
-pub no_match : (lists : List (List Connector)) (near far : ℕ) (e f : End) (w : Way) → IsEndOf lists near e → IsEndOf lists far f → (Match e.last f.last → ⊥) → IsWayOf lists near far false w → ⊥
-no_match lists near far e f w ie if' differ is =
+-- the last connectors of two lists with a joint match
+pub way_match : (lists : List (List Connector)) (near far : ℕ) (e f : End) (w : Way) → IsEndOf lists near e → IsEndOf lists far f → IsWayOf lists near far false w → Match e.last f.last
+way_match lists near far e f w ie if' is =
     let n = joint_needs lists near far w is in
     let j = n.0 in
     let a = n.1.0 in
@@ -160,7 +161,29 @@ no_match lists near far e f w ie if' differ is =
     let pf : j.far ≡ f.place = omega arith in
     let s : n.3.0 ≡ e.last = same_Some n.3.0 e.last (sym n.3.2 ∙ ap (slice_get (list_of lists near)) pn ∙ ie.is_last) in
     let t : n.3.1 ≡ f.last = same_Some n.3.1 f.last (sym n.3.3 ∙ ap (slice_get (list_of lists far)) pf ∙ if'.is_last) in
-    differ (subst (λ z. Match z f.last) s (subst (λ z. Match n.3.0 z) t n.3.4))
+    subst (λ z. Match z f.last) s (subst (λ z. Match n.3.0 z) t n.3.4)
+
+pub no_match : (lists : List (List Connector)) (near far : ℕ) (e f : End) (w : Way) → IsEndOf lists near e → IsEndOf lists far f → (Match e.last f.last → ⊥) → IsWayOf lists near far false w → ⊥
+no_match lists near far e f w ie if' differ is = differ (way_match lists near far e f w ie if' is)
+
+-- the way on of two lists whose last connectors match, without them
+pub some_way : (lists : List (List Connector)) (near far : ℕ) (e f : End) → IsEndOf lists near e → IsEndOf lists far f → Match e.last f.last → HasWay lists near far false
+some_way lists near far e f ie if' m = (
+  record { joint = Some (record { near = e.place; far = f.place }); near = e.shorter; far = f.shorter },
+  record {
+    known_near = ie.known_shorter;
+    known_far = if'.known_shorter;
+    cut = ((ie.at_end, inl ie.rest), (if'.at_end, inl if'.rest), (e.last, f.last, ie.is_last, if'.is_last, m));
+    joined = λ z. refl;
+  },
+)
+
+-- the way on of two lists as they are
+pub plain_way : (lists : List (List Connector)) (near far : ℕ) → near ≤ length lists → far ≤ length lists → HasWay lists near far true
+plain_way lists near far ln lf = (
+  record { joint = None; near = near; far = far },
+  record { known_near = ln; known_far = lf; cut = (refl, refl); joined = λ z. absurd cc },
+)
 
 pub adds_joined : (positions : List (List Disjunct)) (lists : List (List Connector)) (near far : ℕ) (e f : End) (old new : List Way) → AreListsOf positions lists → IsEndOf lists near e → IsEndOf lists far f → Match e.last f.last → new ≡ old ++ joined_ways e f
     → AddsExactly old new (IsWayOf lists near far false)

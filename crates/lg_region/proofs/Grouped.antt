@@ -1,10 +1,7 @@
 -- Groups of a region, one after another.
-use Rattle.std.proofs.Common.{◌≡◌, ℕ, suc, ◌+◌, ◌<◌, ◌≤◌, List, [], ◌∷◌, ◌++◌, length, get_or, refl, sym, ◌∙◌, ap, subst, Some, ◌⊎◌, inl, inr, Contains, arith, append_assoc, append-nil}
-use Rattle.std.specs.List.{slice_get}
+use Rattle.std.proofs.Common.{◌≡◌, ℕ, ◌+◌, ◌<◌, ◌≤◌, List, [], ◌∷◌, ◌++◌, length, get_or, refl, sym, ◌∙◌, ap, subst, inl, inr, Contains, arith, append_assoc, append-nil}
 use Rattle.std.proofs.lemmas.List.Elements.{Contains-append_left, Contains-append_right, Contains-append_cases}
 use Rattle.std.proofs.lemmas.Option.{slice_get_within}
-use Rattle.lg_gram.specs.Connectors.{Connector}
-use Rattle.lg_gram.specs.declared.disjunct.Disjunct.{Disjunct}
 use Rattle.lg_region.specs.Fronts.{AreListsOf, Numbering}
 use Rattle.lg_region.specs.Keys.{IsAltOfRegion}
 use Rattle.lg_region.specs.Groups.{region_of_gap, IsGroup, IsKnownGap, IsNextLed, Leads, StandsIn, StandsBefore}

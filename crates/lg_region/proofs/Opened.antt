@@ -1,13 +1,9 @@
 -- The beginnings of a group, and the alternatives that begin so.
-use Rattle.std.proofs.Common.{◌≡◌, ℕ, suc, ◌+◌, ◌-◌, ◌<◌, ◌≤◌, min, Bool, true, false, not, IsTrue, ◌==◌, List, [], ◌∷◌, length, map, refl, sym, ◌∙◌, ap, subst, Some, Contains, arith, vec_len}
+use Rattle.std.proofs.Common.{◌≡◌, ℕ, ◌+◌, ◌-◌, ◌≤◌, min, Bool, ◌==◌, List, [], length, map, refl, sym, ◌∙◌, ap, subst, Contains, arith}
 use Rattle.std.specs.List.{flat_map, range_with_len}
-use Rattle.std.proofs.lemmas.Bool.Decides.{nat_tests}
-use Rattle.std.proofs.lemmas.Grind.{common_steps}
-use Rattle.lg_gram.specs.Connectors.{Connector}
-use Rattle.lg_gram.specs.declared.disjunct.Disjunct.{Disjunct}
-use Rattle.lg_region.specs.Fronts.{AreListsOf, AreOnce, Numbering}
+use Rattle.lg_region.specs.Fronts.{AreListsOf, Numbering}
 use Rattle.lg_region.specs.Keys.{IsAltOfRegion}
-use Rattle.lg_region.specs.Ways.{AreExactly, AddsExactly, IsWayOf}
+use Rattle.lg_region.specs.Ways.{AreExactly, IsWayOf}
 use Rattle.lg_region.specs.Groups.{region_of_gap, IsGroup, IsRightOf, Leads, StandsIn, split_of}
 use Rattle.lg_region.specs.Openings.{AreBeginnings, BeginsSo, HasRight, IsIn, begins_at}
 use Rattle.lg_region.specs.declared.alternative.Alt.{Alt}
@@ -16,7 +12,7 @@ use Rattle.lg_region.specs.declared.group.Gap.{Gap}
 use Rattle.lg_region.specs.declared.group.Group.{Group}
 use Rattle.lg_region.specs.declared.group.Right.{Right}
 use Rattle.lg_region.specs.declared.opening.Beginning.{Beginning}
-use Rattle.lg_region.proofs.Elements.{contains_here, contains_none}
+use Rattle.lg_region.proofs.Elements.{contains_none}
 use Rattle.lg_region.proofs.Numbers.{flat_in, flat_out, map_in, map_out, range_in, range_out}
 use Rattle.lg_region.proofs.Once.{once_flat, once_map, once_none, once_range}
 use Rattle.lg_region.proofs.Splitting.{HasRoom, alt_made, made_is, split_parts, way_same}
@@ -84,17 +80,3 @@ module _ (n : Numbering) (gap : Gap) (g : Group) where
           once = once_flat f (range_with_len least count) (once_range least count) (λ i. once_map (begins_at i) lefts (λ w w' e. ap (λ z. z.way) e) x.once)
               (λ i j z c d. let r = map_out (begins_at i) lefts z c in let s = map_out (begins_at j) lefts z d in ap (λ v. v.nulls) (r.2 ∙ sym s.2));
         }
-
--- a list that is not empty has an element
-some_of : {X : Type 0} (xs : List X) → (length xs ≡ 0 → ⊥) → (x : X) × Contains xs x
-some_of [] miss = absurd (miss refl)
-some_of (x ∷ xs) miss = (x, contains_here x xs)
-
-not_empty : (n : ℕ) (b : Bool) → b ≡ (n == 0) → IsTrue (not b) → n ≡ 0 → ⊥
-not_empty n b e t z = grind (arith, common_steps, nat_tests)
-
-pub has_some : {X : Type 0} (xs : List X) (P : X → Type 0) (n : ℕ) (b : Bool) → AreExactly xs P → n ≡ length xs → b ≡ (n == 0) → (IsTrue (not b) → (x : X) × P x) × ((x : X) × P x → IsTrue (not b))
-has_some xs P n b are same e = (
-  λ t. let s = some_of xs (λ z. not_empty n b e t (same ∙ z)) in (s.0, (are.each s.0).0 s.1),
-  λ (x, p). let c = (are.each x).1 p in let l = c.1 in grind (arith, common_steps, nat_tests),
-)

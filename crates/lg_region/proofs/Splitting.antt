@@ -10,9 +10,10 @@ use Rattle.lg_region.specs.Cuts.{IsCutAt, Split, IsCut}
 use Rattle.lg_region.specs.Fronts.{AreListsOf, Numbering, list_of}
 use Rattle.lg_region.specs.Keys.{region_of_numbers, IsDisjunctAt, IsSplitOf, IsAltOfRegion}
 use Rattle.lg_region.specs.Numbered.{HasSides}
-use Rattle.lg_region.specs.Ways.{AreExactly, IsWayOf}
+use Rattle.lg_region.specs.Ways.{AreExactly, HasWay, IsWayOf}
 use Rattle.lg_region.specs.Groups.{region_of_gap, IsLed, Leads, IsNextLed, IsGroup, IsRightOf, right_of, split_of, splits_with, StandsIn, AddsIn}
 use Rattle.lg_region.specs.Chains.{class_of, list_on, IsNext}
+use Rattle.lg_region.specs.Openings.{HasRight}
 use Rattle.lg_region.specs.declared.group.Lead.{Lead}
 use Rattle.lg_region.specs.declared.key.Joint.{Joint}
 use Rattle.lg_region.specs.declared.key.Key.TheVariants.{Whole, Region as Between}
@@ -50,6 +51,21 @@ some_number positions word number l = at_of (get_or positions word []) number l
 right_made : (r : Right) (number : ℕ) → r.disjunct ≡ number → right_of number r.way ≡ r
 right_made r number e = let x : r ≡ record { disjunct = r.disjunct; way = r.way } = refl in sym (subst (λ z. r ≡ record { disjunct = z; way = r.way }) e x)
 
+-- a disjunct of the group with a way on of its right list
+pub right_is : (numbers : Numbering) (gap : Gap) (group : Group) (number : ℕ) (s : Sides) (may : Bool) (w : Way) → group.from ≤ number → number < group.to
+    → ((d : Disjunct) → IsDisjunctAt numbers.positions group.word number d → IsLed gap.lead d) → ((d : Disjunct) → IsDisjunctAt numbers.positions group.word number d → HasSides numbers.lists d s) → may ≡ not (gap.llist == 0)
+    → IsWayOf numbers.lists s.right gap.rlist may w → IsRightOf numbers gap group (right_of number w)
+right_is numbers gap group number s may w from to led sides m is =
+    let lists = numbers.lists in record {
+      from = from;
+      to = to;
+      known_near = is.known_near;
+      known_far = is.known_far;
+      led = led;
+      cut = λ d at. cut_as w.joint w.joint (list_of lists s.right) d.right (list_of lists gap.rlist) (list_of lists gap.rlist) (list_of lists w.near) (list_of lists w.near) (list_of lists w.far) (list_of lists w.far) refl (sides d at).right.list refl refl refl is.cut;
+      joined = λ z. is.joined (m ∙ zero_false gap.llist z);
+    }
+
 -- the disjuncts up to one number, and the ways on of that one
 pub rights_more : (numbers : Numbering) (gap : Gap) (group : Group) (number : ℕ) (s : Sides) (may : Bool) (rights rights' : List Right) (ways : List Way) → group.from ≤ number → number < group.to → group.to ≤ length (get_or numbers.positions group.word [])
     → ((d : Disjunct) → IsDisjunctAt numbers.positions group.word number d → IsLed gap.lead d) → ((d : Disjunct) → IsDisjunctAt numbers.positions group.word number d → HasSides numbers.lists d s) → may ≡ not (gap.llist == 0)
@@ -74,15 +90,7 @@ rights_more numbers gap group number s may rights rights' ways from to listed le
       λ h. elim h [
         | inl p ↦ (let b = p.1 in (p.0, omega arith))
         | inr (w, is, q) ↦ (
-          subst (λ z. IsRightOf numbers gap group z) q (record {
-            from = from;
-            to = to;
-            known_near = is.known_near;
-            known_far = is.known_far;
-            led = led;
-            cut = λ d at. cut_as w.joint w.joint (list_of lists s.right) d.right (list_of lists gap.rlist) (list_of lists gap.rlist) (list_of lists w.near) (list_of lists w.near) (list_of lists w.far) (list_of lists w.far) refl (sides d at).right.list refl refl refl is.cut;
-            joined = λ z. is.joined (m ∙ zero_false gap.llist z);
-          }),
+          subst (λ z. IsRightOf numbers gap group z) q (right_is numbers gap group number s may w from to led sides m is),
           (let f = ap (λ z. z.disjunct) q in omega arith),
         )
       ],
@@ -138,6 +146,20 @@ rights_none numbers gap group rights e =
 pub rights_all : (numbers : Numbering) (gap : Gap) (group : Group) (rights : List Right) (number : ℕ) → group.to ≤ number → AreExactly rights (λ r. IsRightOf numbers gap group r × (r.disjunct < number)) → AreExactly rights (IsRightOf numbers gap group)
 rights_all numbers gap group rights number l are =
     exactly_as rights (λ r. IsRightOf numbers gap group r × (r.disjunct < number)) (IsRightOf numbers gap group) (λ r. (λ h. h.0, λ is. (is, (let b = is.to in omega arith)))) are
+
+-- no disjunct of the group up to a number can cut the region
+abbrev pub NoneUpTo : Numbering → Gap → Group → ℕ → Type 0
+NoneUpTo numbers gap group number = AreExactly {A = Right} [] (λ r. IsRightOf numbers gap group r × (r.disjunct < number))
+
+pub none_more : (numbers : Numbering) (gap : Gap) (group : Group) (number next : ℕ) (s : Sides) (may : Bool) → group.from ≤ number → number < group.to → group.to ≤ length (get_or numbers.positions group.word [])
+    → ((d : Disjunct) → IsDisjunctAt numbers.positions group.word number d → IsLed gap.lead d) → ((d : Disjunct) → IsDisjunctAt numbers.positions group.word number d → HasSides numbers.lists d s) → may ≡ not (gap.llist == 0)
+    → (HasWay numbers.lists s.right gap.rlist may → ⊥) → IsNextLed numbers gap.lead group.word (number + 1) next → NoneUpTo numbers gap group number → NoneUpTo numbers gap group next
+none_more numbers gap group number next s may from to listed led sides m miss is none =
+    rights_skip numbers gap group [] (number + 1) next listed is
+    (rights_more numbers gap group number s may [] [] [] from to listed led sides m (exactly_none (IsWayOf numbers.lists s.right gap.rlist may) (λ w h. miss (w, h))) refl none)
+
+pub none_all : (numbers : Numbering) (gap : Gap) (group : Group) (number : ℕ) → group.to ≤ number → NoneUpTo numbers gap group number → HasRight numbers gap group → ⊥
+none_all numbers gap group number l none (r, is) = contains_none r (((rights_all numbers gap group [] number l none).each r).1 is)
 
 pub right_known : (numbers : Numbering) (word number : ℕ) (s : Sides) → number < length (get_or numbers.positions word []) → ((d : Disjunct) → IsDisjunctAt numbers.positions word number d → HasSides numbers.lists d s) → s.right ≤ length numbers.lists
 right_known numbers word number s l sides = let d = some_number numbers.positions word number l in (sides d.0 d.1).right.known

@@ -1,9 +1,9 @@
 -- How the alternatives of a region begin: by groups of disjuncts, and in a group by the left joint and the left key.
-use Rattle.std.specs.Prelude.{◌≡◌, ℕ, ◌+◌, ◌<◌, ◌≤◌, List, [], ◌++◌, length, Some, slice_get}
+use Rattle.std.specs.Prelude.{◌≡◌, ℕ, ◌≤◌, List, ◌++◌, Some, slice_get}
 use Rattle.std.specs.List.{Contains}
 use Rattle.lg_region.specs.Fronts.{Numbering, AreOnce}
 use Rattle.lg_region.specs.Keys.{IsAltOfRegion}
-use Rattle.lg_region.specs.Groups.{region_of_gap, IsGroup, IsKnownGap, IsRightOf, StandsIn, StandsBefore}
+use Rattle.lg_region.specs.Groups.{region_of_gap, IsGroup, IsKnownGap, IsRightOf, StandsIn}
 use Rattle.lg_region.specs.declared.key.Key.{Key}
 use Rattle.lg_region.specs.declared.key.Key.TheVariants.{Region as Between}
 use Rattle.lg_region.specs.declared.alternative.Alt.{Alt}

@@ -52,3 +52,6 @@ pub record IsWayOf (lists : List (List Connector)) (near far : ℕ) (apart : Boo
   pub known_far : w.far ≤ length lists
   pub cut : IsCutAt w.joint (list_of lists near) (list_of lists far) (list_of lists w.near) (list_of lists w.far)
   pub joined : apart ≡ false → IsSome w.joint
+
+abbrev pub HasWay : List (List Connector) → ℕ → ℕ → Bool → Type 0
+HasWay lists near far apart = (w : Way) × IsWayOf lists near far apart w

@@ -10,7 +10,7 @@ use crate::expand::{lead_of, run_end};
 use crate::group::{Gap, Group, push_with_left, rights};
 use crate::key::Key;
 use crate::lists::Lists;
-use crate::ways::{Way, ways_between};
+use crate::ways::{Way, has_way, ways_between};
 use lg_base::NoMemory;
 use std::alloc::Global;
 
@@ -133,11 +133,12 @@ pub fn beginnings(
 {
     lists.are_numbered();
     let mut begins = Vec::new(alloc);
-    let lefts = ways_between(alloc, lists, gap.llist, group.left, gap.llist == 0)?;
-    if lefts.is_empty() {
+    let found = has_right(lists, gap, group);
+    if !found {
         return Ok(begins);
     }
-    if !has_right(alloc, lists, gap, group)? {
+    let lefts = ways_between(alloc, lists, gap.llist, group.left, gap.llist == 0)?;
+    if lefts.is_empty() {
         return Ok(begins);
     }
     let least = gap.nulls.saturating_sub(gap.right - group.word - 1);
@@ -157,14 +158,23 @@ fn push_beginnings(nulls: u32, lefts: &[Way], begins: &mut Vec<Beginning>) -> Re
     Ok(())
 }
 
-// Whether some disjunct of the group can cut the region. Where the left end has a list, its first one can.
-fn has_right(alloc: Global, lists: &Lists<'_>, gap: &Gap, group: &Group) -> Result<bool, NoMemory>
+// Whether some disjunct of the group can cut the region.
+fn has_right(lists: &Lists<'_>, gap: &Gap, group: &Group) -> bool
     requires gap { IsKnownGap lists.now gap.now }
     requires group { IsGroup lists.now gap.now group.now }
-    ensures { IfOk result (λ found. IsTrue found ↔ HasRight lists.entry.now gap.now group.now) }
+    ensures { IsTrue result ↔ HasRight lists.entry.now gap.now group.now }
 {
-    let rights = rights(alloc, lists, gap, group)?;
-    Ok(!rights.is_empty())
+    lists.are_numbered();
+    let mut number = group.from;
+    while number < group.to {
+        let sides = lists.sides(group.word, number);
+        let found = has_way(lists, sides.right, gap.rlist, gap.llist != 0);
+        if found {
+            return true;
+        }
+        number = lists.next(gap.lead.side, group.word, number);
+    }
+    false
 }
 
 /// Adds the alternatives of a group that begin so.

@@ -1,7 +1,7 @@
 //! How the lists of two ends go on behind a joint between them.
-ghost use Rattle.std.specs.Prelude.{◌≡◌, ◌≤◌, ◌++◌, false, length, map, IfOk, OnOk};
+ghost use Rattle.std.specs.Prelude.{◌≡◌, ◌≤◌, ◌++◌, ◌↔◌, false, length, map, IfOk, IsTrue, OnOk};
 ghost use Rattle.lg_region.specs.Fronts.{AreListsOf};
-ghost use Rattle.lg_region.specs.Ways.{AddsExactly, AreExactly, IsWayOf, rest_items, rests_of, way_of, joined_ways};
+ghost use Rattle.lg_region.specs.Ways.{AddsExactly, AreExactly, HasWay, IsWayOf, rest_items, rests_of, way_of, joined_ways};
 
 use crate::key::Joint;
 use crate::lists::Lists;
@@ -74,6 +74,25 @@ pub(crate) fn ways_between(
     let mut ways = Vec::new(alloc);
     set_ways(lists, near, far, apart, &mut ways)?;
     Ok(ways)
+}
+
+/// Whether two lists have a way on. No memory.
+pub(crate) fn has_way(lists: &Lists<'_>, near: u32, far: u32, apart: bool) -> bool
+    requires near { near ≤ length lists.now.lists }
+    requires far { far ≤ length lists.now.lists }
+    ensures { IsTrue result ↔ HasWay lists.entry.now.lists near far apart }
+{
+    lists.are_numbered();
+    if apart {
+        return true;
+    }
+    let Some(first) = lists.end(near) else {
+        return false;
+    };
+    let Some(second) = lists.end(far) else {
+        return false;
+    };
+    matches(&first.last, &second.last)
 }
 
 /// The same, in place of what `ways` has.

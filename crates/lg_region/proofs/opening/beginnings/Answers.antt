@@ -20,13 +20,13 @@ returns-then-is_empty c =
     contains_none q.0.way (subst (λ z. Contains z q.0.way) empty ((c.in_ok-lefts.ensures.each q.0.way).1 q.1)))
     c.new-begins.result.items c.new-begins.ensures.items
 
-pub returns-then-not-branch : goal.returns-then-not-branch
-returns-then-not-branch c =
+pub returns-then-not-found : goal.returns-then-not-found
+returns-then-not-found c =
     let n = c.args.lists.now in let gap = c.args.gap.now in let g = c.args.group.now in
     none_begin n gap g
     (λ a h. let q = begin_of n gap g _ c.requires.group refl c.are_numbered.ensures c.requires.gap.llist c.requires.gap.led a h in
-    let t = c.in_ok-has_right.ensures.1 q.4 in
-    let e = c.if-not-branch.true in
+    let t = c.has_right-found.ensures.1 q.4 in
+    let e = c.if-not-found.true in
     absurd cc)
     c.new-begins.result.items c.new-begins.ensures.items
 
@@ -44,4 +44,4 @@ returns c =
     let all = range_done f c.loop-nulls.begins.items (flat_map f (range_with_len least (most + 1 - least))) c.loop-nulls.nulls (most + 1) c.loop-nulls-test.false c.loop-nulls.invariant in
     subst (λ z. AreBeginnings c.args.lists.now c.args.gap.now c.args.group.now z) (sym all)
     (begins_are c.args.lists.now c.args.gap.now c.args.group.now _ c.requires.group refl c.are_numbered.ensures c.requires.gap.llist c.requires.gap.led c.in_ok-lefts.lefts.items least most c.in_ok-lefts.ensures
-    (c.in_ok-has_right.ensures.0 c.if-not-branch.false) c.saturating_sub-least.ensures c.min-most.ensures)
+    (c.has_right-found.ensures.0 c.if-not-found.false) c.saturating_sub-least.ensures c.min-most.ensures)
