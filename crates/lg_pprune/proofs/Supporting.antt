@@ -7,7 +7,7 @@ use Rattle.std.proofs.lemmas.List.Elements.{All-contains}
 use Rattle.lg_gram.specs.Connectors.{Connector, Match}
 use Rattle.lg_gram.specs.declared.disjunct.Disjunct.{Disjunct}
 use Rattle.lg_pprune.specs.Alive.{ArePartners}
-use Rattle.lg_pprune.specs.Sites.{IsSiteOf, Meets, MeetsOn, Holds, IsTableOf, IsServed, AreServed}
+use Rattle.lg_pprune.specs.Sites.{IsSiteOf, Meets, MeetsOn, IsWider, Holds, IsHeld, IsTableOf, IsServed, AreServed}
 use Rattle.lg_member.specs.Members.{list_on, side_on, IsSideAt, IsKnown, AreUsed, Have, Keeps, are_on}
 use Rattle.lg_member.specs.declared.side.Side.{Side}
 use Rattle.lg_member.specs.declared.member.Member.{Member}
@@ -27,27 +27,37 @@ HasSite right n ms s = (m : Member) × Contains ms m × (q : ℕ) × IsSiteOf ri
 
 table_has : (right : Bool) (n : ℕ) (sides : List Side) (ms : List Member) (used : List Bool) (table : List (List Site))
     → ((m : Member) → Contains ms m → IsSideAt sides (side_on right m) m.position (list_on right m.disjunct.now)) → AreUsed right (length sides) ms used → IsTableOf right n sides used table
-    → (s : Site) → Holds table s ↔ HasSite right n ms s
-table_has right n sides ms used table known u t s = (
-  (λ h. let r = (t s).0 h in
-      let o = (u.each r.0).0 r.1.on in
-      let a = known o.0 o.1 in
-      let e : r.1.side ≡ a.side = same_Some r.1.side a.side (sym r.1.at ∙ subst (λ z. slice_get sides z ≡ Some a.side) o.2 a.at) in
-      (o.0, o.1, r.1.place, site_of_side right n a.side o.0.position (list_on right o.0.disjunct.now) r.1.place s a.position a.list (subst (λ z. IsSiteOf right n z.position z.list.now r.1.place s) e r.1.is))),
-  (λ r. let a = known r.0 r.1 in
-      let is = site_at_side right n a.side r.0.position (list_on right r.0.disjunct.now) r.2 s a.position a.list r.3 in
-      (t s).1 (
-        side_on right r.0,
-        record {
-          side = a.side;
-          at = a.at;
-          on = (u.each (side_on right r.0)).1 (r.0, r.1, refl);
-          place = r.2;
-          within = slice_get_within a.side.list.now r.2 s.connector is.connector;
-          is = is;
-        },
-      )),
-)
+    → (s : Site) → Holds n table s → HasSite right n ms s
+table_has right n sides ms used table known u t s h =
+    let r = t.only s h in
+    let o = (u.each r.0).0 r.1.on in
+    let a = known o.0 o.1 in
+    let e : r.1.side ≡ a.side = same_Some r.1.side a.side (sym r.1.at ∙ subst (λ z. slice_get sides z ≡ Some a.side) o.2 a.at) in
+    (o.0, o.1, r.1.place, site_of_side right n a.side o.0.position (list_on right o.0.disjunct.now) r.1.place s a.position a.list (subst (λ z. IsSiteOf right n z.position z.list.now r.1.place s) e r.1.is))
+
+table_holds : (right : Bool) (n : ℕ) (sides : List Side) (ms : List Member) (used : List Bool) (table : List (List Site))
+    → ((m : Member) → Contains ms m → IsSideAt sides (side_on right m) m.position (list_on right m.disjunct.now)) → AreUsed right (length sides) ms used → IsTableOf right n sides used table
+    → (s : Site) → HasSite right n ms s → IsHeld n table s
+table_holds right n sides ms used table known u t s r =
+    let a = known r.0 r.1 in
+    let is = site_at_side right n a.side r.0.position (list_on right r.0.disjunct.now) r.2 s a.position a.list r.3 in
+    t.held s (side_on right r.0) (record {
+      side = a.side;
+      at = a.at;
+      on = (u.each (side_on right r.0)).1 (r.0, r.1, refl);
+      place = r.2;
+      within = slice_get_within a.side.list.now r.2 s.connector is.connector;
+      is = is;
+    })
+
+-- what meets a site meets a wider one
+meets_wider : (right : Bool) (s x w : Site) → IsWider w x → MeetsOn right s x → MeetsOn right s w
+meets_wider true s x w h m =
+    let a = h.position in let b = h.from in let c = h.end in let d = m.from_left in let e = m.to_left in let f = m.from_right in let g = m.to_right in
+    record { from_left = omega arith; to_left = omega arith; from_right = omega arith; to_right = omega arith; match_at = subst (λ z. Match s.connector z) (sym h.connector) m.match_at }
+meets_wider false s x w h m =
+    let a = h.position in let b = h.from in let c = h.end in let d = m.from_left in let e = m.to_left in let f = m.from_right in let g = m.to_right in
+    record { from_left = omega arith; to_left = omega arith; from_right = omega arith; to_right = omega arith; match_at = subst (λ z. Match z s.connector) (sym h.connector) m.match_at }
 
 -- sites that meet are partners
 meets_base : (n i : ℕ) (a : Disjunct) (p : ℕ) (s : Site) (j : ℕ) (b : Disjunct) (q : ℕ) (t : Site) → IsSiteOf true n i a.right p s → IsSiteOf false n j b.left q t → Meets s t ↔ ArePartners n i a p j b q
@@ -90,14 +100,15 @@ made right n i cs p x e = (
   record { connector = e; position = refl; from = refl; end = refl },
 )
 
-served_supported : (right : Bool) (n : ℕ) (ms : List Member) (table : List (List Site)) → ((s : Site) → Holds table s ↔ HasSite (not right) n ms s) → (i : ℕ) (a : Disjunct)
+served_supported : (right : Bool) (n : ℕ) (ms : List Member) (table : List (List Site)) → ((s : Site) → Holds n table s → HasSite (not right) n ms s)
+    → ((s : Site) → HasSite (not right) n ms s → IsHeld n table s) → (i : ℕ) (a : Disjunct)
     → IsServed right n table i (list_on right a) ↔ IsSupportedOn right n (Have ms) i a
-served_supported right n ms table has i a = (
+served_supported right n ms table has held i a = (
   (λ served p h.
       let x = get_in (list_on right a) p h in
       let s = made right n i (list_on right a) p x.0 x.1 in
       let o = served p s.0 s.1 in
-      let m = (has o.0).0 o.1 in
+      let m = has o.0 o.1 in
       (m.0.position, m.0.disjunct.now, m.2, (m.0, m.1, refl, refl), (meets_partners right n i a p s.0 m.0.position m.0.disjunct.now m.2 o.0 s.1 m.3).0 o.2)),
   (λ supported p s is.
       let o = supported p (slice_get_within (list_on right a) p s.connector is.connector) in
@@ -105,7 +116,8 @@ served_supported right n ms table has i a = (
       let r = subst (λ z. PartnersOn right n i a p m.0.position z o.2) (sym m.3) (subst (λ z. PartnersOn right n i a p z o.1 o.2) (sym m.2) o.4) in
       let y = partner_place right n i a p m.0.position m.0.disjunct.now o.2 r in
       let t = made (not right) n m.0.position (list_on (not right) m.0.disjunct.now) o.2 y.0 y.1 in
-      (t.0, (has t.0).1 (m.0, m.1, o.2, t.1), (meets_partners right n i a p s m.0.position m.0.disjunct.now o.2 t.0 is t.1).1 r)),
+      let w = held t.0 (m.0, m.1, o.2, t.1) in
+      (w.0, w.1, meets_wider right s t.0 w.0 w.2 ((meets_partners right n i a p s m.0.position m.0.disjunct.now o.2 t.0 is t.1).1 r))),
 )
 
 -- a side is good where each of its connectors has a partner
@@ -121,7 +133,7 @@ good_supported right n sides others ms used used_others table good known known_o
     let w' : (slice_get good (side_on right m) ≡ Some true) ↔ IsServed right n table m.position (list_on right m.disjunct.now) =
     subst (λ z. (slice_get good (side_on right m) ≡ Some true) ↔ IsServed right n table m.position z) a.list
     (subst (λ z. (slice_get good (side_on right m) ≡ Some true) ↔ IsServed right n table z a.side.list.now) a.position w) in
-    let x = served_supported right n ms table (table_has (not right) n others ms used_others table known_others v t) m.position m.disjunct.now in
+    let x = served_supported right n ms table (table_has (not right) n others ms used_others table known_others v t) (table_holds (not right) n others ms used_others table known_others v t) m.position m.disjunct.now in
     ((λ h. x.0 (w'.0 h)), (λ h. w'.1 (x.1 h)))
 
 is_on : (good : List Bool) (k : ℕ) → (get_or good k false ≡ true) ↔ (slice_get good k ≡ Some true)

@@ -1,6 +1,6 @@
 //! Sites: the connectors of lists, with where their links may end.
 ghost use Rattle.std.specs.Prelude.{◌≡◌, ◌<◌, ◌↔◌, length, IsTrue};
-ghost use Rattle.lg_pprune.specs.Sites.{IsSiteOf, Meets, MeetsOn};
+ghost use Rattle.lg_pprune.specs.Sites.{IsSiteOf, IsWider, Meets, MeetsAt, MeetsOn};
 
 use lg_gram::{Connector, matches};
 use lg_member::Side;
@@ -38,8 +38,14 @@ pub(crate) fn site_of(side: &Side<'_>, right: bool, words: u32, place: usize) ->
     }
 }
 
-/// Whether a site, of a list to the right, or to the left, and one of the other side can be linked.
-pub(crate) fn meets_on(right: bool, site: &Site, other: &Site) -> bool
+/// Whether a site, of a list to the right, or to the left, and one of the other side can be linked, and that one is of the position.
+pub(crate) fn meets_at(right: bool, position: usize, site: &Site, other: &Site) -> bool
+    ensures { IsTrue result ↔ MeetsAt right position site.now other.now }
+{
+    other.position as usize == position && meets_on(right, site, other)
+}
+
+fn meets_on(right: bool, site: &Site, other: &Site) -> bool
     ensures { IsTrue result ↔ MeetsOn right site.now other.now }
 {
     if right {
@@ -60,4 +66,20 @@ fn meets(a: &Site, b: &Site) -> bool
         && b.from <= left
         && left < b.end
         && matches(&a.connector, &b.connector)
+}
+
+/// Whether what meets the second site meets the first too.
+pub(crate) fn is_wider(wide: &Site, site: &Site) -> bool
+    ensures { IsTrue result ↔ IsWider wide.now site.now }
+{
+    wide.position == site.position
+        && wide.from <= site.from
+        && site.end <= wide.end
+        && is_same_connector(&wide.connector, &site.connector)
+}
+
+fn is_same_connector(a: &Connector, b: &Connector) -> bool
+    ensures { IsTrue result ↔ (a.now ≡ b.now) }
+{
+    a == b
 }
