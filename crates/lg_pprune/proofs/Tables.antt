@@ -169,19 +169,7 @@ ends_behind false s x m = m.to_right
 abbrev pub NoneBefore : Bool → ℕ → List (List Site) → Site → ℕ → Type 0
 NoneBefore right n table s i = (other : Site) → Holds n table other → MeetsOn right s other → i ≤ other.position
 
-pub none_first : (right : Bool) (n : ℕ) (table : List (List Site)) (s : Site) → NoneBefore right n table s s.from
-none_first right n table s x h m = starts_before right s x m
-
-pub none_all : (right : Bool) (n : ℕ) (table : List (List Site)) (s : Site) (i : ℕ) → s.end ≤ i → NoneBefore right n table s i → HasPartner right n table s → (b : Bool) → b ≡ true
-none_all right n table s i e before p b = absurd (let l = before p.0 p.1 p.2 in let r = ends_behind right s p.0 p.2 in omega arith)
-
 -- what meets a site at a position stands in the cell of the position and its class
-pub partner_at : (right : Bool) (n : ℕ) (table : List (Vec Site)) (s : Site) (i k : ℕ) (v : Vec Site) → k ≡ cell_at n i (class_of s.connector.caps) → k < length table → v ≡ get_or table k v
-    → Any (MeetsAt right i s) v.items → HasPartner right n (table_in table) s
-partner_at right n table s i k v ek h ev (j, x, l, is, m) =
-    let e : k ≡ cell_of n x = ek ∙ ap (λ z. cell_at n z (class_of s.connector.caps)) (sym m.position) ∙ ap (λ z. cell_at n x.position (class_of z)) (same_caps right s x m.meets) in
-    (x, (v.items, subst (λ z. slice_get (table_in table) z ≡ Some v.items) e (cell_in table k v h ev), (j, l, is)), m.meets)
-
 pub none_more : (right : Bool) (n : ℕ) (table : List (Vec Site)) (s : Site) (i k : ℕ) (v : Vec Site) (r : Bool) → k ≡ cell_at n i (class_of s.connector.caps) → k < length table → v ≡ get_or table k v
     → ((r ≡ true) ↔ Any (MeetsAt right i s) v.items) → r ≡ false → NoneBefore right n (table_in table) s i → NoneBefore right n (table_in table) s (i + 1)
 none_more right n table s i k v r ek h ev found none' before x o m =

@@ -1,4 +1,4 @@
-use Rattle.std.proofs.Common.{◌≡◌, ◌<◌, ◌↔◌, ◌∙◌, ap, subst, true, length, arith}
+use Rattle.std.proofs.Common.{◌≡◌, ◌↔◌, ◌∙◌, ap, subst, true, arith}
 use Rattle.std.specs.List.{Any}
 use Rattle.lg_pprune.specs.Sites.{MeetsAt, cell_at, class_of}
 use Rattle.lg_pprune.proofs.Tables.{none_more}
