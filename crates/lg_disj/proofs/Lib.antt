@@ -10,3 +10,8 @@ pub mod Kept
 pub mod One_list
 pub mod Disjuncts
 pub mod Exist
+pub mod Rows
+pub mod Ranked
+pub mod Kept_rows
+pub mod Growing
+pub mod Expanded

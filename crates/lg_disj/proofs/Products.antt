@@ -74,20 +74,20 @@ any_push (x ∷ es) e =
     ap (λ cs. choices_of (tree_of x) ++ cs) (any_push es e) ∙ sym (append_assoc (choices_of (tree_of x)) (choices_of_any (trees_in es)) (choices_of (tree_of e)))
 
 -- one more choice that has got its price
-pub one_dearer : (f : Choice → Choice) (all : List Choice) (i : ℕ) (d : Choice) → i < length all →
+pub one_dearer : {A : Type 0} (f : A → A) (all : List A) (i : ℕ) (d : A) → i < length all →
     set (map f (take i all) ++ drop i all) i (f (get_or (map f (take i all) ++ drop i all) i d)) ≡ map f (take (suc i) all) ++ drop (suc i) all
 one_dearer f [] i d h = absurd (omega arith)
 one_dearer f (c ∷ all) zero d h = refl
 one_dearer f (c ∷ all) (suc i) d h = ap (λ cs. f c ∷ cs) (one_dearer f all i d (omega arith))
 
 -- the next choice has not got its price
-pub next_choice : (f : Choice → Choice) (all : List Choice) (i : ℕ) (d : Choice) → i < length all → get_or (map f (take i all) ++ drop i all) i d ≡ get_or all i d
+pub next_choice : {A : Type 0} (f : A → A) (all : List A) (i : ℕ) (d : A) → i < length all → get_or (map f (take i all) ++ drop i all) i d ≡ get_or all i d
 next_choice f [] i d h = absurd (omega arith)
 next_choice f (c ∷ all) zero d h = refl
 next_choice f (c ∷ all) (suc i) d h = next_choice f all i d (omega arith)
 
 -- each has got its price
-pub all_dearer : (f : Choice → Choice) (all : List Choice) (i : ℕ) → length all ≤ i → map f (take i all) ++ drop i all ≡ map f all
+pub all_dearer : {A : Type 0} (f : A → A) (all : List A) (i : ℕ) → length all ≤ i → map f (take i all) ++ drop i all ≡ map f all
 all_dearer f [] zero h = refl
 all_dearer f [] (suc i) h = refl
 all_dearer f (c ∷ all) zero h = absurd (omega arith)

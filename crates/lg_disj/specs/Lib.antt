@@ -1,2 +1,5 @@
 pub mod Choices
 pub mod Exist
+pub mod Grown
+pub mod Places
+pub mod Ranks

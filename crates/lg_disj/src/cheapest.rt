@@ -1,42 +1,105 @@
 //! The cheapest of the choices that have the same two lists.
-ghost use Rattle.std.specs.Prelude.{◌≡◌, ◌≤◌, ◌↔◌, length, map, IfOk};
+ghost use Rattle.std.specs.Prelude.{◌≡◌, ◌<◌, ◌≤◌, ◌↔◌, List, length, map, get_or, IfOk};
 ghost use Rattle.std.specs.List.{All, Contains};
 ghost use Rattle.std.specs.List.Sorted.{IsStrictlySortedBy};
+ghost use Rattle.std.specs.Ordering.{on};
 ghost use Rattle.lg_gram.specs.Measures.{Choice as Seen};
-ghost use Rattle.lg_disj.specs.Choices.{lists_cmp, disjunct_of, IsSided, IsCheapest};
+ghost use Rattle.lg_disj.specs.Choices.{lists_cmp, disjunct_of, IsCheapest};
+ghost use Rattle.lg_disj.specs.Places.{leaf_at, choice_by, part, row_in, LiesIn, listed, IsArena};
+ghost use Rattle.lg_disj.specs.Grown.{IsPlaced, StandFor};
+ghost use Rattle.lg_disj.specs.Ranks.{part_or, key_in, ranks_cmp, places_cmp, IsKept};
 
-use crate::choice::Choice;
+use crate::arena::{Choices, Row};
+use crate::ranks::{ranks_at, ranks_of};
 use lg_base::{NoMemory, Text};
-use lg_gram::Disjuncts;
 use lg_gram::law::connectors_are_ordered;
+use lg_gram::{Connector, Connectors, Disjunct, Disjuncts};
 use std::alloc::Global;
 use std::cmp::Ordering;
 
 /// Of the choices that have the same two lists one of the least cost, by left list and right list.
-pub(crate) fn cheapest(mut choices: Vec<Choice>) -> Result<Vec<Choice>, NoMemory>
-    requires { All IsSided choices.items }
-    ensures rise { IfOk result (λ kept. IsStrictlySortedBy lists_cmp kept.items) }
-    ensures exactly { IfOk result (λ kept. (c : Seen) → Contains kept.items c ↔ IsCheapest choices.items c) }
-    ensures few { IfOk result (λ kept. length kept.items ≤ length choices.items) }
+pub(crate) fn cheapest(alloc: Global, leaves: &[Connector], all: Choices) -> Result<Choices, NoMemory>
+    requires arena { IsArena all }
+    requires stand { StandFor leaves.now (listed all) (map (choice_by leaves.now) (listed all)) }
+    ensures rise { IfOk result (λ kept. IsStrictlySortedBy lists_cmp (map (choice_by leaves.now) (listed kept))) }
+    ensures exactly { IfOk result (λ kept. (c : Seen) → Contains (map (choice_by leaves.now) (listed kept)) c ↔ IsCheapest (map (choice_by leaves.now) (listed all)) c) }
+    ensures few { IfOk result (λ kept. length (listed kept) ≤ length (listed all)) }
+    ensures arena { IfOk result IsArena }
+    ensures placed { IfOk result (λ kept. All (IsPlaced leaves.now) (listed kept)) }
 {
     connectors_are_ordered();
-    choices.sort()?;
-    choices.dedup_by(|next, kept| next.compare_lists(kept) == Ordering::Equal);
-    Ok(choices)
+    let ranks = ranks_of(alloc, leaves)?;
+    let Choices { places, rows } = all;
+    let ranked = ranks_at(alloc, &ranks, &places)?;
+    let rows = kept_rows(&ranked, rows)?;
+    Ok(Choices { places, rows })
+}
+
+fn kept_rows(ranked: &[usize], mut rows: Vec<Row>) -> Result<Vec<Row>, NoMemory>
+    ensures kept { IfOk result (λ kept. IsKept ranked.now rows.items kept.items) }
+    ensures few { IfOk result (λ kept. length kept.items ≤ length rows.items) }
+{
+    rows.sort_by(|a, b| compare(ranked, a, b))?;
+    rows.dedup_by(|next, kept| compare_lists(ranked, next, kept) == Ordering::Equal);
+    Ok(rows)
+}
+
+fn compare(ranked: &[usize], a: &Row, b: &Row) -> Ordering
+    ensures { result ≡ on (key_in ranked.now) places_cmp a.now b.now }
+{
+    compare_lists(ranked, a, b).then(a.cost.cmp(&b.cost))
+}
+
+// The order by left list and right list. Costs take no part.
+fn compare_lists(ranked: &[usize], a: &Row, b: &Row) -> Ordering
+    ensures { result ≡ on (key_in ranked.now) ranks_cmp a.now b.now }
+{
+    part_or(ranked, a.from, a.middle)
+        .cmp(part_or(ranked, b.from, b.middle))
+        .then(part_or(ranked, a.middle, a.end).cmp(part_or(ranked, b.middle, b.end)))
+}
+
+fn part_or(ranks: &[usize], from: usize, to: usize) -> &[usize]
+    ensures { result.now ≡ part_or from to ranks.now }
+{
+    if from <= to && to <= ranks.len() {
+        &ranks[from..to]
+    } else {
+        &[]
+    }
 }
 
 /// The choices as disjuncts of a word, in the same order.
 pub(crate) fn disjuncts_of(
     alloc: Global,
     word: &Text,
-    choices: Vec<Choice>,
+    leaves: &[Connector],
+    choices: &Choices,
 ) -> Result<Disjuncts, NoMemory>
-    ensures { IfOk result (λ disjuncts. disjuncts ≡ map (disjunct_of word.now) choices.items) }
+    requires arena { IsArena choices.now }
+    requires placed { All (IsPlaced leaves.now) (listed choices.now) }
+    ensures { IfOk result (λ disjuncts. disjuncts ≡ map (disjunct_of word.now) (map (choice_by leaves.now) (listed choices.now))) }
 {
     let mut disjuncts = Vec::with_capacity(alloc, choices.len())?;
-    for choice in choices {
-        let copy = Text::of(alloc, word.bytes())?;
-        disjuncts.push(choice.into_disjunct(copy))?;
+    for number in 0..choices.len() {
+        disjuncts.push(Disjunct {
+            word: Text::of(alloc, word.bytes())?,
+            left: connectors_at(alloc, leaves, choices.left(number))?,
+            right: connectors_at(alloc, leaves, choices.right(number))?,
+            cost: choices.cost(number),
+        })?;
     }
     Ok(Disjuncts::of(disjuncts))
+}
+
+// The leaves at these places.
+fn connectors_at(alloc: Global, leaves: &[Connector], places: &[usize]) -> Result<Connectors, NoMemory>
+    requires { All (λ n. n < length leaves.now) places.now }
+    ensures { IfOk result (λ list. list ≡ map (leaf_at leaves.now) places.now) }
+{
+    let mut list = Vec::with_capacity(alloc, places.len())?;
+    for place in places {
+        list.push(leaves[*place])?;
+    }
+    Ok(Connectors::of(list))
 }

@@ -1,79 +1,121 @@
 //! The choices of an expression.
-ghost use Rattle.std.specs.Prelude.{◌≡◌, ◌≤◌, ◌↔◌, [], ◌∷◌, map, true, IsTrue, IfOk};
+ghost use Rattle.std.specs.Prelude.{◌≡◌, ◌≤◌, ◌↔◌, [], ◌∷◌, ◌++◌, map, length, true, IsTrue, IfOk, OnOk};
 ghost use Rattle.std.specs.List.{All};
 ghost use Rattle.lg_gram.specs.Limits.{FORMULA_NODES};
 ghost use Rattle.lg_gram.specs.Trees.{tree_of, trees_in, expr_items};
-ghost use Rattle.lg_gram.specs.Formulas.{is_small_price, prices_are_small, prices_in_are_small};
-ghost use Rattle.lg_gram.specs.Measures.{dearer, choices_of, picks_of, choices_of_any, node_count, nodes_in};
-ghost use Rattle.lg_disj.specs.Choices.{HasSmallCost, IsSided};
+ghost use Rattle.lg_gram.specs.Formulas.{prices_are_small, prices_in_are_small};
+ghost use Rattle.lg_gram.specs.Measures.{single, choices_of, picks_of, choices_of_any, node_count, nodes_in};
+ghost use Rattle.lg_disj.specs.Choices.{IsSided};
+ghost use Rattle.lg_disj.specs.Places.{listed, IsArena};
+ghost use Rattle.lg_disj.specs.Grown.{Grows, Lists, StandFor};
 
-use crate::choice::Choice;
+use crate::arena::Choices;
 use crate::product::products;
 use lg_base::{Cost, NoMemory};
 use lg_gram::law::choices_are_counted;
-use lg_gram::{Expr, Exprs, choices};
+use lg_gram::{Connector, Expr, Exprs, choices};
 use std::alloc::Global;
 
-/// The choices of an expression, in the order of its members. Those that have the same two lists are not merged.
+/// Adds the choices of an expression, in the order of its members, and the connectors that they have as leaves. Those
+/// that have the same two lists are not merged.
 #[cycle(choices)]
-pub(crate) fn choices_of(alloc: Global, e: &Expr) -> Result<Vec<Choice>, NoMemory>
+pub(crate) fn choices_of(
+    alloc: Global,
+    e: &Expr,
+    leaves: &mut Vec<Connector>,
+    all: &mut Choices,
+) -> Result<(), NoMemory>
     requires nodes { node_count (tree_of e.now) ≤ FORMULA_NODES }
     requires prices { prices_are_small (tree_of e.now) ≡ true }
-    ensures exact { IfOk result (λ all. all.items ≡ choices_of (tree_of e.now)) }
-    ensures sided { IfOk result (λ all. All IsSided all.items) }
+    requires arena { IsArena all.old }
+    ensures leaves { OnOk result (Grows leaves.old.items leaves.new.items) }
+    ensures exact { OnOk result (Lists leaves.new.items (listed all.old) (listed all.new) (choices_of (tree_of e.now))) }
+    ensures arena { OnOk result (IsArena all.new) }
 {
     match e {
-        Expr::Empty => only(alloc, Choice::empty(alloc)),
-        Expr::Conn(connector) => only(alloc, Choice::single(alloc, connector)?),
+        Expr::Empty => all.push(&[], &[], &[], &[], Cost::of(0))?,
+        Expr::Conn(connector) => push_single(connector, leaves, all)?,
         Expr::And(members) => {
             // The members before one that has no choice may have any number of products.
-            if has_no_choice(e) {
-                Ok(Vec::new(alloc))
-            } else {
-                picks_of(alloc, members)
+            if !has_no_choice(e) {
+                let picks = picks_of(alloc, members, leaves)?;
+                all.append(&picks)?;
             }
         }
-        Expr::Or(members) => choices_of_any(alloc, members),
-        Expr::Priced(inner, price) => Ok(dearer(choices_of(alloc, inner)?, *price)),
+        Expr::Or(members) => choices_of_any(alloc, members, leaves, all)?,
+        Expr::Priced(inner, price) => {
+            let first = all.len();
+            choices_of(alloc, inner, leaves, all)?;
+            all.add_price(first, *price);
+        }
     }
+    Ok(())
 }
 
 // Every way to pick one choice of each member.
 #[cycle(choices)]
-fn picks_of(alloc: Global, members: &Exprs) -> Result<Vec<Choice>, NoMemory>
+fn picks_of(
+    alloc: Global,
+    members: &Exprs,
+    leaves: &mut Vec<Connector>,
+) -> Result<Choices, NoMemory>
     requires nodes { nodes_in (trees_in (expr_items members.now)) ≤ FORMULA_NODES }
     requires prices { prices_in_are_small (trees_in (expr_items members.now)) ≡ true }
-    ensures exact { IfOk result (λ all. all.items ≡ picks_of (trees_in (expr_items members.now))) }
-    ensures sided { IfOk result (λ all. All IsSided all.items) }
+    ensures leaves { IfOk result (λ all. Grows leaves.old.items leaves.new.items) }
+    ensures exact { IfOk result (λ all. StandFor leaves.new.items (listed all) (picks_of (trees_in (expr_items members.now)))) }
+    ensures arena { IfOk result IsArena }
 {
-    let mut all = only(alloc, Choice::empty(alloc))?;
+    let mut all = Choices::new(alloc);
+    all.push(&[], &[], &[], &[], Cost::of(0))?;
     for member in members.items() {
-        all = products(alloc, all, &choices_of(alloc, member)?)?;
+        let mut next = Choices::new(alloc);
+        choices_of(alloc, member, leaves, &mut next)?;
+        all = products(alloc, all, &next)?;
     }
     Ok(all)
 }
 
 // The choices of each member, one list after another.
 #[cycle(choices)]
-fn choices_of_any(alloc: Global, members: &Exprs) -> Result<Vec<Choice>, NoMemory>
+fn choices_of_any(
+    alloc: Global,
+    members: &Exprs,
+    leaves: &mut Vec<Connector>,
+    all: &mut Choices,
+) -> Result<(), NoMemory>
     requires nodes { nodes_in (trees_in (expr_items members.now)) ≤ FORMULA_NODES }
     requires prices { prices_in_are_small (trees_in (expr_items members.now)) ≡ true }
-    ensures exact { IfOk result (λ all. all.items ≡ choices_of_any (trees_in (expr_items members.now))) }
-    ensures sided { IfOk result (λ all. All IsSided all.items) }
+    requires arena { IsArena all.old }
+    ensures leaves { OnOk result (Grows leaves.old.items leaves.new.items) }
+    ensures exact { OnOk result (Lists leaves.new.items (listed all.old) (listed all.new) (choices_of_any (trees_in (expr_items members.now)))) }
+    ensures arena { OnOk result (IsArena all.new) }
 {
-    let mut all = Vec::new(alloc);
     for member in members.items() {
-        all.append(&mut choices_of(alloc, member)?)?;
+        choices_of(alloc, member, leaves, all)?;
     }
-    Ok(all)
+    Ok(())
 }
 
-fn only(alloc: Global, choice: Choice) -> Result<Vec<Choice>, NoMemory>
-    ensures { IfOk result (λ all. all.items ≡ choice ∷ []) }
+// The choice of a connector alone, which is one leaf more.
+fn push_single(
+    connector: &Connector,
+    leaves: &mut Vec<Connector>,
+    all: &mut Choices,
+) -> Result<(), NoMemory>
+    requires { IsArena all.old }
+    ensures leaves { OnOk result (Grows leaves.old.items leaves.new.items) }
+    ensures exact { OnOk result (Lists leaves.new.items (listed all.old) (listed all.new) (single connector.now ∷ [])) }
+    ensures arena { OnOk result (IsArena all.new) }
 {
-    let mut all = Vec::new(alloc);
-    all.push(choice)?;
-    Ok(all)
+    // What `caps` says of the name holds of each connector, and lets the order tell connectors apart.
+    let _capitals = connector.caps();
+    let place = leaves.len();
+    leaves.push(*connector)?;
+    if connector.is_right() {
+        all.push(&[], &[], &[place], &[], Cost::of(0))
+    } else {
+        all.push(&[place], &[], &[], &[], Cost::of(0))
+    }
 }
 
 fn has_no_choice(e: &Expr) -> bool
@@ -81,24 +123,4 @@ fn has_no_choice(e: &Expr) -> bool
 {
     choices_are_counted();
     choices(e) == 0
-}
-
-// The same choices with the cost of a bracket.
-fn dearer(mut choices: Vec<Choice>, price: Cost) -> Vec<Choice>
-    requires costs { All HasSmallCost choices.items }
-    requires price { is_small_price price ≡ true }
-    ensures { result.items ≡ map (dearer price) choices.items }
-{
-    add_price(&mut choices, price);
-    choices
-}
-
-fn add_price(choices: &mut [Choice], price: Cost)
-    requires costs { All HasSmallCost choices.old }
-    requires price { is_small_price price ≡ true }
-    ensures { choices.new ≡ map (dearer price) choices.old }
-{
-    for choice in choices.iter_mut() {
-        choice.add_price(price);
-    }
 }

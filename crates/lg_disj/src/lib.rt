@@ -9,13 +9,15 @@ ghost use Rattle.lg_gram.specs.Measures.{choice_count};
 ghost use Rattle.lg_gram.specs.Disjuncts.{AreDisjuncts};
 ghost use Rattle.lg_gram.specs.Problems.{FitsProblem};
 
+mod arena;
 mod cheapest;
-mod choice;
 mod choices;
 pub mod law;
 mod names;
 mod product;
+mod ranks;
 
+use crate::arena::Choices;
 use crate::cheapest::{cheapest, disjuncts_of};
 use crate::choices::choices_of;
 pub use law::expressions_have_disjuncts;
@@ -38,7 +40,9 @@ pub fn expand(alloc: Global, word: &Text, formula: &Formula) -> Result<Disjuncts
     ensures limit { IfOk result (λ ds. length ds ≤ FORMULA_CHOICES) }
 {
     choices_are_counted();
-    let all = choices_of(alloc, formula.expr())?;
-    let kept = cheapest(all)?;
-    disjuncts_of(alloc, word, kept)
+    let mut leaves = Vec::new(alloc);
+    let mut all = Choices::new(alloc);
+    choices_of(alloc, formula.expr(), &mut leaves, &mut all)?;
+    let kept = cheapest(alloc, &leaves, all)?;
+    disjuncts_of(alloc, word, &leaves, &kept)
 }

@@ -1,49 +1,71 @@
 //! Choices of several expressions, one after another.
-ghost use Rattle.std.specs.Prelude.{◌≡◌, ◌++◌, map, IfOk, OnOk};
+ghost use Rattle.std.specs.Prelude.{◌≡◌, ◌<◌, ◌++◌, length, map, get_or, IsTrue, [], ◌∷◌, IfOk, OnOk};
 ghost use Rattle.std.specs.List.{All};
-ghost use Rattle.lg_gram.specs.Measures.{joined};
-ghost use Rattle.lg_disj.specs.Choices.{products, HasSmallCost};
+ghost use Rattle.lg_gram.specs.Problems.{IsDisjunctCost};
+ghost use Rattle.lg_disj.specs.Places.{no_places, both, listed, all_both, IsArena, IsCheap, only_cost};
 
-use crate::choice::Choice;
+use crate::arena::Choices;
 use lg_base::NoMemory;
 use std::alloc::Global;
 
 /// Each of the first choices joined with each of the second, by the first and then by the second.
 ///
-/// A first choice is copied for each second but the last, where it is moved. So a list of one second copies nothing, and
-/// many such lists in a row take time in proportion to what they make.
+/// Where the second is one choice of no connector, nothing is copied. So many such lists in a row take time in
+/// proportion to how many there are.
 pub(crate) fn products(
     alloc: Global,
-    firsts: Vec<Choice>,
-    seconds: &[Choice],
-) -> Result<Vec<Choice>, NoMemory>
-    requires first_costs { All HasSmallCost firsts.items }
-    requires second_costs { All HasSmallCost seconds.now }
-    ensures { IfOk result (λ all. all.items ≡ products firsts.items seconds.now) }
+    mut firsts: Choices,
+    seconds: &Choices,
+) -> Result<Choices, NoMemory>
+    requires first_arena { IsArena firsts }
+    requires second_arena { IsArena seconds.now }
+    requires first_costs { All IsCheap (listed firsts) }
+    requires second_costs { All IsCheap (listed seconds.now) }
+    ensures exact { IfOk result (λ all. listed all ≡ all_both (listed firsts) (listed seconds.now)) }
+    ensures arena { IfOk result IsArena }
 {
-    let mut all = Vec::new(alloc);
-    for first in firsts {
-        push_products(alloc, first, seconds, &mut all)?;
+    if is_bare(seconds) {
+        firsts.add_price(0, seconds.cost(0));
+        return Ok(firsts);
+    }
+    let mut all = Choices::new(alloc);
+    for first in 0..firsts.len() {
+        push_products(&firsts, first, seconds, &mut all)?;
     }
     Ok(all)
 }
 
-fn push_products(
-    alloc: Global,
-    first: Choice,
-    seconds: &[Choice],
-    all: &mut Vec<Choice>,
-) -> Result<(), NoMemory>
-    requires first_cost { HasSmallCost first }
-    requires second_costs { All HasSmallCost seconds.now }
-    ensures { OnOk result (all.new.items ≡ all.old.items ++ map (joined first) seconds.now) }
+// Whether it is one choice, of no connector.
+fn is_bare(choices: &Choices) -> bool
+    requires { IsArena choices.now }
+    ensures { IsTrue result → (listed choices.now ≡ only_cost (get_or (listed choices.now) 0 no_places).cost ∷ []) }
 {
-    let Some((last, earlier)) = seconds.split_last() else {
-        return Ok(());
-    };
-    for second in earlier {
-        all.push(first.joined(alloc, second)?)?;
+    choices.len() == 1 && choices.left(0).is_empty() && choices.right(0).is_empty()
+}
+
+fn push_products(
+    firsts: &Choices,
+    first: usize,
+    seconds: &Choices,
+    all: &mut Choices,
+) -> Result<(), NoMemory>
+    requires first_arena { IsArena firsts.now }
+    requires second_arena { IsArena seconds.now }
+    requires arena { IsArena all.old }
+    requires within { first < length (listed firsts.now) }
+    requires first_costs { All IsCheap (listed firsts.now) }
+    requires second_costs { All IsCheap (listed seconds.now) }
+    ensures exact { OnOk result (listed all.new ≡ listed all.old ++ map (both (get_or (listed firsts.now) first no_places)) (listed seconds.now)) }
+    ensures arena { OnOk result (IsArena all.new) }
+{
+    for second in 0..seconds.len() {
+        all.push(
+            firsts.left(first),
+            seconds.left(second),
+            firsts.right(first),
+            seconds.right(second),
+            firsts.cost(first).plus(seconds.cost(second)),
+        )?;
     }
-    all.push(first.into_joined(last)?)?;
     Ok(())
 }

@@ -1,21 +1,37 @@
-use Rattle.std.proofs.Common.{ap, subst, ◌∙◌}
+use Rattle.std.proofs.Common.{◌≤◌, sym, subst, ◌∙◌, length}
+use Rattle.std.specs.List.{All}
 use Rattle.std.proofs.lemmas.Result.{IfOk-weaker}
 use Rattle.lg_gram.specs.Trees.{tree_of}
-use Rattle.lg_gram.specs.Measures.{Choice, choices_of}
-use Rattle.std.specs.Prelude.{◌↔◌}
-use Rattle.std.specs.List.{Contains}
-use Rattle.lg_disj.specs.Choices.{IsCheapest}
-use Rattle.lg_disj.proofs.Disjuncts.{are_disjuncts, fit_problem}
+use Rattle.lg_disj.specs.Grown.{IsPlaced}
+use Rattle.lg_disj.specs.Places.{listed}
+use Rattle.lg_disj.proofs.Growing.{fresh_stand, stand_itself}
+use Rattle.lg_disj.proofs.Expanded.{is_expanded, expanded, expanded_fit, expanded_few}
 use Rattle.lg_disj.proofs.expand.Goals as goal
+
+pub cheapest-requires-clause-stand : goal.cheapest-requires-clause-stand
+cheapest-requires-clause-stand c =
+    stand_itself _ _ _ _ c.deref.ensures.value (fresh_stand _ _ _ _ c.new-all.ensures.exact c.in_ok-choices_of.ensures.exact)
 
 pub returns-clause-disjuncts : goal.returns-clause-disjuncts
 returns-clause-disjuncts c =
-    let all = c.in_ok-all.ensures.exact ∙ ap (λ e. choices_of (tree_of e)) c.expr.ensures.value in
-    let exactly = subst (λ cs. (b : Choice) → Contains c.in_ok-kept.kept.items b ↔ IsCheapest cs b) all c.in_ok-kept.ensures.exactly in
-    IfOk-weaker _ _ _ (are_disjuncts c.args.word.now (tree_of c.args.formula.now) c.in_ok-kept.kept.items c.in_ok-kept.ensures.rise exactly) c.disjuncts_of.ensures
+    let stand = fresh_stand _ _ _ _ c.new-all.ensures.exact c.in_ok-choices_of.ensures.exact in
+    let whole = is_expanded _ _ _ _ _ c.args.formula.now c.deref.ensures.value c.expr.ensures.value stand c.in_ok-kept.ensures.rise c.in_ok-kept.ensures.exactly in
+    IfOk-weaker _ _ _ (expanded c.args.word.now _ _ _ _ c.args.formula.now c.deref-2.ensures.value whole) c.disjuncts_of.ensures
 
 pub returns-clause-fits : goal.returns-clause-fits
 returns-clause-fits c =
-    let all = c.in_ok-all.ensures.exact ∙ ap (λ e. choices_of (tree_of e)) c.expr.ensures.value in
-    let exactly = subst (λ cs. (b : Choice) → Contains c.in_ok-kept.kept.items b ↔ IsCheapest cs b) all c.in_ok-kept.ensures.exactly in
-    IfOk-weaker _ _ _ (fit_problem c.args.word.now (tree_of c.args.formula.now) c.expr.ensures.limits c.in_ok-kept.kept.items exactly) c.disjuncts_of.ensures
+    let stand = fresh_stand _ _ _ _ c.new-all.ensures.exact c.in_ok-choices_of.ensures.exact in
+    let whole = is_expanded _ _ _ _ _ c.args.formula.now c.deref.ensures.value c.expr.ensures.value stand c.in_ok-kept.ensures.rise c.in_ok-kept.ensures.exactly in
+    IfOk-weaker _ _ _ (expanded_fit c.args.word.now _ _ _ _ c.args.formula.now c.expr.ensures.limits c.deref-2.ensures.value whole) c.disjuncts_of.ensures
+
+pub returns-clause-few : goal.returns-clause-few
+returns-clause-few c =
+    let stand = fresh_stand _ _ _ _ c.new-all.ensures.exact c.in_ok-choices_of.ensures.exact in
+    let whole = is_expanded _ _ _ _ _ c.args.formula.now c.deref.ensures.value c.expr.ensures.value stand c.in_ok-kept.ensures.rise c.in_ok-kept.ensures.exactly in
+    let t = tree_of c.args.formula.now in
+    IfOk-weaker _ _ _ (λ ds is. subst (λ n. length ds ≤ n) (c.choices_are_counted.ensures t) (expanded_few c.args.word.now _ _ _ _ c.args.formula.now c.in_ok-kept.ensures.few whole ds is))
+    c.disjuncts_of.ensures
+
+pub disjuncts_of-requires-clause-placed : goal.disjuncts_of-requires-clause-placed
+disjuncts_of-requires-clause-placed c =
+    subst (λ leaves. All (IsPlaced leaves) (listed c.in_ok-kept.kept)) (c.deref.ensures.value ∙ sym c.deref-2.ensures.value) c.in_ok-kept.ensures.placed

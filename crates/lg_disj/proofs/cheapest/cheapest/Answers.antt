@@ -1,24 +1,30 @@
-use Rattle.std.proofs.Common.{rules, refl}
-use Rattle.std.proofs.lemmas.Fn.{dedup_same}
-use Rattle.std.proofs.lemmas.List.Kept.{IsStrictlySortedBy-dedup}
-use Rattle.lg_disj.proofs.Runs.{same, lists_cmp_total, lists_sorted}
-use Rattle.lg_disj.proofs.Kept.{kept_is_cheapest, cheapest_is_kept}
+use Rattle.std.proofs.Common.{arith}
+use Rattle.std.proofs.lemmas.List.{length-map}
+use Rattle.lg_disj.specs.Places.{row_in}
+use Rattle.lg_disj.proofs.Kept_rows.{kept_rise, kept_exactly, kept_lie, kept_placed, kept_by}
 use Rattle.lg_disj.proofs.cheapest.cheapest.Goals as goal
 
 pub returns-clause-rise : goal.returns-clause-rise
 returns-clause-rise c =
-    let sorted = c.sort.new.self.items in
-    let is = dedup_same _ same _ (λ x y b f' x' y' k. search rules) sorted c.dedup_by.new.self.items c.dedup_by.ensures.filtered in
-    rw is (IsStrictlySortedBy-dedup lists_cmp_total (λ x y. refl) sorted (lists_sorted sorted c.in_ok-sort.ensures.sorted))
+    kept_rise c.args.leaves.now c.in_ok-ranks.ranks.items c.in_ok-ranks.ensures c.args.all.places.items c.args.all.rows.items c.in_ok-rows.rows.items
+    c.requires.arena c.requires.stand.placed (kept_by _ _ _ _ _ _ _ _ c.deref.ensures.value c.deref-2.ensures.value c.in_ok-ranked.ensures c.deref-3.ensures.value c.in_ok-rows.ensures.kept)
 
 pub returns-clause-exactly : goal.returns-clause-exactly
 returns-clause-exactly c =
-    let all = c.args.choices.items in
-    let sorted = c.sort.new.self.items in
-    let is = dedup_same _ same _ (λ x y b f' x' y' k. search rules) sorted c.dedup_by.new.self.items c.dedup_by.ensures.filtered in
-    let moved = c.in_ok-sort.ensures.permutation in
-    let order = c.in_ok-sort.ensures.sorted in
-    λ choice. (
-      λ h. kept_is_cheapest all sorted moved order choice (rw is at h),
-      λ h. rw is (cheapest_is_kept c.connectors_are_ordered.ensures.exact all sorted c.requires moved order choice h),
-    )
+    kept_exactly c.args.leaves.now c.in_ok-ranks.ranks.items c.in_ok-ranks.ensures c.args.all.places.items c.connectors_are_ordered.ensures.exact
+    c.args.all.rows.items c.in_ok-rows.rows.items c.requires.arena c.requires.stand.placed c.requires.stand.sided (kept_by _ _ _ _ _ _ _ _ c.deref.ensures.value c.deref-2.ensures.value c.in_ok-ranked.ensures c.deref-3.ensures.value c.in_ok-rows.ensures.kept)
+
+pub returns-clause-few : goal.returns-clause-few
+returns-clause-few c =
+    let f = row_in c.args.all.places.items in
+    omega (arith, length-map c.in_ok-rows.rows.items f, length-map c.args.all.rows.items f, c.in_ok-rows.ensures.few)
+
+pub returns-clause-arena : goal.returns-clause-arena
+returns-clause-arena c =
+    kept_lie c.args.leaves.now c.in_ok-ranks.ranks.items c.in_ok-ranks.ensures c.args.all.places.items c.args.all.rows.items c.in_ok-rows.rows.items
+    c.requires.arena c.requires.stand.placed (kept_by _ _ _ _ _ _ _ _ c.deref.ensures.value c.deref-2.ensures.value c.in_ok-ranked.ensures c.deref-3.ensures.value c.in_ok-rows.ensures.kept)
+
+pub returns-clause-placed : goal.returns-clause-placed
+returns-clause-placed c =
+    kept_placed c.args.leaves.now c.in_ok-ranks.ranks.items c.in_ok-ranks.ensures c.args.all.places.items c.args.all.rows.items c.in_ok-rows.rows.items
+    c.requires.arena c.requires.stand.placed (kept_by _ _ _ _ _ _ _ _ c.deref.ensures.value c.deref-2.ensures.value c.in_ok-ranked.ensures c.deref-3.ensures.value c.in_ok-rows.ensures.kept)

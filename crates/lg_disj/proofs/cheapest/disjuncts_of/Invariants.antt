@@ -1,11 +1,7 @@
-use Rattle.std.proofs.Common.{◌≡◌, ◌++◌, map, length}
-use Rattle.std.specs.Vec.Iter.{into_iter_items, into_iter_len}
+use Rattle.std.proofs.Common.{◌≡◌, map, take}
 use Rattle.lg_disj.specs.Choices.{disjunct_of}
+use Rattle.lg_disj.specs.Places.{choice_by, listed}
 use Rattle.lg_disj.proofs.cheapest.disjuncts_of.Given as goal
 
-abbrev pub invariant-loop-choice : goal.invariant-loop-choice
-invariant-loop-choice l = record {
-  parts : l.yielded ++ into_iter_items l.choice-iterator ≡ l.fn.choices.items;
-  counted : into_iter_len l.choice-iterator ≡ length (into_iter_items l.choice-iterator);
-  told : l.disjuncts.items ≡ map (disjunct_of l.word) l.yielded;
-}
+abbrev pub invariant-loop-number : goal.invariant-loop-number
+invariant-loop-number l = l.disjuncts.items ≡ map (disjunct_of l.word) (map (choice_by l.leaves) (take l.number (listed l.choices)))

@@ -1,6 +1,7 @@
-use Rattle.std.proofs.Common.{◌≡◌, ◌++◌, map, take}
-use Rattle.lg_gram.specs.Measures.{joined}
+use Rattle.std.proofs.Common.{◌≡◌, ◌++◌, map, take, get_or}
+use Rattle.lg_disj.specs.Places.{no_places, both, listed, IsArena}
 use Rattle.lg_disj.proofs.product.push_products.Given as goal
 
 abbrev pub invariant-loop-second : goal.invariant-loop-second
-invariant-loop-second l = l.all.items ≡ l.fn.all.items ++ map (joined l.fn.first) (take l.second-index l.earlier)
+invariant-loop-second l =
+    (listed l.all ≡ listed l.fn.all ++ map (both (get_or (listed l.firsts) l.first no_places)) (take l.second (listed l.seconds))) × IsArena l.all
