@@ -1,16 +1,14 @@
 -- Listed choices stand for the same where leaves are added, and for more where choices are.
-use Rattle.std.proofs.Common.{◌≡◌, ℕ, ◌+◌, ◌<◌, true, false, Bool, ℤ, ◌+ℤ◌, pos, List, [], ◌∷◌, ◌++◌, length, map, get_or, take, drop, refl, sym, ap, ap₂, subst, ◌∙◌, arith, append_assoc, append-nil, length-append}
-use Rattle.std.specs.Prelude.{if◌then◌else◌}
-use Rattle.std.specs.List.{All, flat_map}
+use Rattle.std.proofs.Common.{◌≡◌, ℕ, ◌+◌, ◌<◌, true, false, ℤ, ◌+ℤ◌, List, [], ◌∷◌, ◌++◌, length, map, get_or, take, drop, refl, sym, ap, ap₂, subst, ◌∙◌, arith, append_assoc, append-nil, length-append}
+use Rattle.std.specs.List.{All}
 use Rattle.std.proofs.Math.ListN.{get_or-append}
-use Rattle.std.proofs.Math.Seq.{get_or-append_seam, take-append_seam, drop-append_seam}
+use Rattle.std.proofs.Math.Seq.{take-append_seam, drop-append_seam}
 use Rattle.std.proofs.lemmas.List.{map-append}
 use Rattle.std.proofs.lemmas.List.Elements.{All-nil, All-cons, All-append, All-map, All-head, All-tail, All-weaker}
-use Rattle.lg_gram.specs.Names.{IsName}
-use Rattle.lg_gram.specs.Connectors.{Connector, name_of}
+use Rattle.lg_gram.specs.Connectors.{Connector}
 use Rattle.lg_gram.specs.declared.expr.Expr.{Expr}
 use Rattle.lg_gram.specs.Trees.{Tree, priced, tree_of, trees_in}
-use Rattle.lg_gram.specs.Measures.{Choice, no_connectors, single, joined, dearer, choices_of, picks_of, choices_of_any}
+use Rattle.lg_gram.specs.Measures.{Choice, no_connectors, joined, dearer, choices_of, picks_of, choices_of_any}
 use Rattle.lg_disj.proofs.Products.{picks_push, any_push}
 use Rattle.lg_disj.specs.Choices.{IsOn, IsSided, HasSmallCost, products}
 use Rattle.lg_disj.specs.Grown.{IsPlaced, StandFor, Grows, Lists}

@@ -1,5 +1,5 @@
 -- Rows in the order of ranks are choices in their order.
-use Rattle.std.proofs.Common.{◌≡◌, ℕ, zero, suc, ◌+◌, ◌-◌, ◌<◌, ◌≤◌, Bool, true, false, cond, List, [], ◌∷◌, length, map, take, drop, get_or, pos, refl, sym, ap, ap₂, subst, ◌∙◌, arith, is_lt, is_eq, if◌then◌else◌, ◌↔◌}
+use Rattle.std.proofs.Common.{◌≡◌, ℕ, ◌+◌, ◌-◌, ◌<◌, ◌≤◌, Bool, true, false, cond, List, [], ◌∷◌, length, map, take, drop, get_or, pos, refl, sym, ap, subst, ◌∙◌, arith, is_lt, is_eq, if◌then◌else◌, ◌↔◌}
 use Rattle.std.proofs.lemmas.Bool.Decides.{nat_tests}
 use Rattle.std.specs.Cmp.Derive.{both_true}
 use Rattle.std.specs.List.{drop-map}
@@ -7,7 +7,6 @@ use Rattle.std.proofs.lemmas.Simd.{map-map}
 use Rattle.std.proofs.lemmas.List.Filters.{All-dedup}
 use Rattle.std.proofs.lemmas.List.Kept.{IsStrictlySortedBy-dedup}
 use Rattle.std.specs.Prelude.{nat_le, ◌&&◌}
-use Rattle.std.specs.declared.cmp.Ordering.{Ordering}
 use Rattle.std.specs.Ordering.{nat_cmp, int_cmp, ordering_then, on, eq_by_cmp}
 use Rattle.std.specs.Cmp.{IsTotalOrder}
 use Rattle.std.specs.Cmp.Lexicographic.{slice_cmp}
@@ -22,7 +21,7 @@ use Rattle.lg_gram.specs.Measures.{Choice}
 use Rattle.lg_disj.specs.declared.arena.Row.{Row}
 use Rattle.lg_disj.specs.Choices.{lists_cmp, choice_cmp, IsSided, IsCheapest}
 use Rattle.lg_disj.specs.Grown.{IsPlaced}
-use Rattle.lg_disj.specs.Places.{Places, no_places, leaf_at, choice_by, part, row_in, LiesIn}
+use Rattle.lg_disj.specs.Places.{no_places, leaf_at, choice_by, part, row_in, LiesIn}
 use Rattle.lg_disj.specs.Ranks.{AreRanks, part_or, key_in, ranks_cmp, places_cmp, IsKept}
 use Rattle.lg_disj.proofs.Runs.{same, lists_cmp_total, lists_sorted}
 use Rattle.lg_disj.proofs.Kept.{kept_is_cheapest, cheapest_is_kept}

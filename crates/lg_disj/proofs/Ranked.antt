@@ -1,11 +1,11 @@
 -- Ranks compare as what they rank.
-use Rattle.std.proofs.Common.{◌≡◌, ℕ, zero, suc, ◌+◌, ◌<◌, ◌≤◌, true, false, List, [], ◌∷◌, ◌++◌, length, length-append, get_or, refl, sym, ap, subst, ◌∙◌, inl, inr, arith, is_lt, Less, Equal, Greater}
+use Rattle.std.proofs.Common.{◌≡◌, ℕ, zero, suc, ◌+◌, ◌<◌, ◌≤◌, true, false, List, [], ◌∷◌, ◌++◌, length, get_or, refl, sym, ap, subst, ◌∙◌, inl, inr, arith, is_lt, Less, Equal, Greater}
 use Rattle.std.specs.Prelude.{◌⊎◌}
 use Rattle.std.specs.declared.cmp.Ordering.{Ordering}
-use Rattle.std.specs.Ordering.{nat_cmp, ordering_reverse, MatchOrdering}
+use Rattle.std.specs.Ordering.{ordering_reverse, MatchOrdering}
 use Rattle.std.specs.Cmp.{IsTotalOrder, nat_cmp_is}
 use Rattle.std.specs.List.{Contains}
-use Rattle.std.specs.List.Sorted.{IsSorted, IsPermutation, IsPartitionedBy, IsPartitionPoint}
+use Rattle.std.specs.List.Sorted.{IsSorted, IsPermutation, IsPartitionedBy}
 use Rattle.std.proofs.lemmas.Bool.{false≢true}
 use Rattle.std.proofs.lemmas.Cmp.{on_total, nat_list_cmp_total, tied_itself}
 use Rattle.std.proofs.Math.ListN.{get_or-append}
@@ -83,11 +83,11 @@ pub are_ranks : (leaves sorted : List Connector) (ranks : List ℕ) → IsPermut
 are_ranks leaves sorted ranks moved many each = record {
   many = many;
   order = λ i j low high.
-    sym (nat_cmp_is (get_or ranks i 0) (get_or ranks j 0) (connector_cmp (leaf_at leaves i) (leaf_at leaves j))
-    (ranks_match sorted (leaf_at leaves i) (leaf_at leaves j) (get_or ranks i 0) (get_or ranks j 0)
-    (Contains-permutation leaves sorted (leaf_at leaves i) moved (Contains-get_or leaves i _ low))
-    (Contains-permutation leaves sorted (leaf_at leaves j) moved (Contains-get_or leaves j _ high))
-    (each i low) (each j high) (connector_cmp (leaf_at leaves i) (leaf_at leaves j)) refl));
+      sym (nat_cmp_is (get_or ranks i 0) (get_or ranks j 0) (connector_cmp (leaf_at leaves i) (leaf_at leaves j))
+      (ranks_match sorted (leaf_at leaves i) (leaf_at leaves j) (get_or ranks i 0) (get_or ranks j 0)
+      (Contains-permutation leaves sorted (leaf_at leaves i) moved (Contains-get_or leaves i _ low))
+      (Contains-permutation leaves sorted (leaf_at leaves j) moved (Contains-get_or leaves j _ high))
+      (each i low) (each j high) (connector_cmp (leaf_at leaves i) (leaf_at leaves j)) refl));
 }
 
 -- one more leaf has its rank

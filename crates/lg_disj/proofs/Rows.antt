@@ -1,12 +1,12 @@
 -- Rows of choices, and the places that they are cut from.
-use Rattle.std.proofs.Common.{◌≡◌, ℕ, ◌+◌, ◌-◌, ◌<◌, ◌≤◌, ℤ, ◌+ℤ◌, List, [], ◌∷◌, ◌++◌, map, length, take, drop, refl, sym, ap, ap₂, subst, ◌∙◌, arith, append_assoc, append-nil, length-append}
+use Rattle.std.proofs.Common.{◌≡◌, ℕ, ◌+◌, ◌-◌, ◌≤◌, ℤ, ◌+ℤ◌, List, [], ◌∷◌, ◌++◌, map, length, take, drop, refl, sym, ap, ap₂, subst, ◌∙◌, arith, append_assoc, append-nil, length-append}
 use Rattle.std.proofs.Math.Seq.{drop-append_seam, take-append_seam, take-length, drop-length}
 use Rattle.std.proofs.lemmas.List.{take-append-le, drop-append-le, length-drop, length-map, map-append, take-map, take_at, take-append-drop}
 use Rattle.std.specs.List.{drop-map}
 use Rattle.std.specs.List.{All}
-use Rattle.std.proofs.lemmas.List.Elements.{All-nil, All-cons, All-append, All-head, All-tail, All-weaker, All-map}
+use Rattle.std.proofs.lemmas.List.Elements.{All-append, All-head, All-tail, All-weaker, All-map}
 use Rattle.lg_disj.specs.declared.arena.Row.{Row}
-use Rattle.lg_disj.specs.Places.{Places, part, row_in, raised, raised_row, IsCheap, LiesIn}
+use Rattle.lg_disj.specs.Places.{part, row_in, raised, raised_row, IsCheap, LiesIn}
 use Rattle.lg_gram.specs.Problems.{IsDisjunctCost}
 use Rattle.lg_base.specs.Costs.{IsWithinCosts}
 use Rattle.lg_disj.proofs.Parts.{at_back, in_front, from_map}

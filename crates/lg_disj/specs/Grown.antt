@@ -1,5 +1,5 @@
 -- What a call that lists choices adds: leaves behind those that are there, and choices behind those that are there.
-use Rattle.std.specs.Prelude.{◌≡◌, ◌<◌, ℕ, List, ◌++◌, length, map}
+use Rattle.std.specs.Prelude.{◌≡◌, ◌<◌, List, ◌++◌, length, map}
 use Rattle.std.specs.List.{All}
 use Rattle.lg_gram.specs.Connectors.{Connector}
 use Rattle.lg_gram.specs.Measures.{Choice}

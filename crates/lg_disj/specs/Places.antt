@@ -1,5 +1,5 @@
 -- Choices whose connectors are told by places in a list of leaves, and how they lie in memory.
-use Rattle.std.specs.Prelude.{◌≡◌, ◌≤◌, ◌<◌, ◌-◌, ◌+ℤ◌, ℕ, ℤ, pos, false, List, [], ◌++◌, length, map, take, drop, get_or}
+use Rattle.std.specs.Prelude.{◌≤◌, ◌-◌, ◌+ℤ◌, ℕ, ℤ, pos, false, List, [], ◌++◌, length, map, take, drop, get_or}
 use Rattle.std.specs.List.{All, flat_map}
 use Rattle.lg_gram.specs.Connectors.{Connector}
 use Rattle.lg_gram.specs.Measures.{Choice}

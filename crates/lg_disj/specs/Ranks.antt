@@ -1,5 +1,5 @@
 -- Ranks of leaves, and the order of choices by them.
-use Rattle.std.specs.Prelude.{◌≡◌, ◌<◌, ℕ, true, false, List, [], length, take, drop, get_or, map, ◌-◌, nat_le, ◌&&◌, if◌then◌else◌}
+use Rattle.std.specs.Prelude.{◌≡◌, ◌<◌, ℕ, true, false, List, [], length, take, drop, get_or, ◌-◌, nat_le, ◌&&◌, if◌then◌else◌}
 use Rattle.std.specs.List.{dedup}
 use Rattle.std.specs.List.Sorted.{IsSorted, IsPermutation, IsPartitionPoint}
 use Rattle.std.specs.Ordering.{nat_cmp, int_cmp, is_lt, on, then_cmp, eq_by_cmp}

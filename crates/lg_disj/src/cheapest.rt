@@ -18,7 +18,11 @@ use std::alloc::Global;
 use std::cmp::Ordering;
 
 /// Of the choices that have the same two lists one of the least cost, by left list and right list.
-pub(crate) fn cheapest(alloc: Global, leaves: &[Connector], all: Choices) -> Result<Choices, NoMemory>
+pub(crate) fn cheapest(
+    alloc: Global,
+    leaves: &[Connector],
+    all: Choices,
+) -> Result<Choices, NoMemory>
     requires arena { IsArena all }
     requires stand { StandFor leaves.now (listed all) (map (choice_by leaves.now) (listed all)) }
     ensures rise { IfOk result (λ kept. IsStrictlySortedBy lists_cmp (map (choice_by leaves.now) (listed kept))) }
@@ -93,7 +97,11 @@ pub(crate) fn disjuncts_of(
 }
 
 // The leaves at these places.
-fn connectors_at(alloc: Global, leaves: &[Connector], places: &[usize]) -> Result<Connectors, NoMemory>
+fn connectors_at(
+    alloc: Global,
+    leaves: &[Connector],
+    places: &[usize],
+) -> Result<Connectors, NoMemory>
     requires { All (λ n. n < length leaves.now) places.now }
     ensures { IfOk result (λ list. list ≡ map (leaf_at leaves.now) places.now) }
 {

@@ -1,14 +1,11 @@
-use Rattle.std.proofs.Common.{◌≡◌, ◌++◌, ◌≤◌, List, [], ◌∷◌, take, drop, length, map, refl, sym, ap, subst, ◌∙◌, arith}
+use Rattle.std.proofs.Common.{◌≡◌, ◌≤◌, take, sym, ap, subst, ◌∙◌, arith}
 use Rattle.std.specs.List.{All}
 use Rattle.lg_gram.specs.Trees.{priced, tree_of, trees_in, expr_items}
-use Rattle.lg_gram.specs.Measures.{choices_of, picks_of, choices_of_any, node_count, nodes_in}
-use Rattle.lg_disj.specs.Choices.{HasSmallCost, IsSided, products}
-use Rattle.lg_disj.specs.Grown.{StandFor, Grows, Lists}
-use Rattle.lg_disj.specs.Places.{listed, IsArena, IsCheap}
+use Rattle.lg_gram.specs.Measures.{choices_of, node_count, nodes_in}
+use Rattle.lg_disj.specs.Choices.{HasSmallCost}
 use Rattle.lg_disj.proofs.Bounded.{small_costs, small_picks}
 use Rattle.lg_disj.proofs.Folds.{tree_of-Priced}
 use Rattle.lg_disj.proofs.Members.{inner_nodes, inner_prices, read_nodes, read_prices, read_more, fewer_nodes, fewer_prices}
-use Rattle.lg_disj.proofs.Products.{picks_push, any_push}
 use Rattle.lg_disj.proofs.Growing.{grows_no, grows_twice, lists_no, lists_priced, any_more, picks_more, fresh_stand, cheap_listed, fresh_cheap}
 use Rattle.lg_disj.proofs.choices.+choices.Goals as goal
 

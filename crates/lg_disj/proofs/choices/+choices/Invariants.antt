@@ -1,4 +1,4 @@
-use Rattle.std.proofs.Common.{◌≡◌, ◌+◌, ◌*◌, take}
+use Rattle.std.proofs.Common.{◌+◌, ◌*◌, take}
 use Rattle.lg_gram.specs.Trees.{tree_of, trees_in, expr_items}
 use Rattle.lg_gram.specs.Measures.{picks_of, choices_of_any, node_count, nodes_in}
 use Rattle.lg_disj.specs.Places.{listed, IsArena}

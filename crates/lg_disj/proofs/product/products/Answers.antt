@@ -1,5 +1,5 @@
-use Rattle.std.proofs.Common.{◌∙◌, sym, ap}
-use Rattle.lg_disj.specs.Places.{listed, all_both}
+use Rattle.std.proofs.Common.{◌∙◌}
+use Rattle.lg_disj.specs.Places.{listed}
 use Rattle.lg_disj.proofs.Growing.{with_bare}
 use Rattle.lg_disj.proofs.product.products.Goals as goal
 

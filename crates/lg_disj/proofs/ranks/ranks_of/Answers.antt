@@ -1,5 +1,4 @@
-use Rattle.std.proofs.Common.{◌≡◌, ◌∷◌, [], ap, length, length-append, ◌∙◌, arith}
-use Rattle.lg_disj.specs.Ranks.{IsRankIn}
+use Rattle.std.proofs.Common.{◌∷◌, [], ap, length, length-append, arith}
 use Rattle.lg_disj.proofs.Ranked.{rank_pushed, are_ranks}
 use Rattle.lg_disj.proofs.ranks.ranks_of.Goals as goal
 

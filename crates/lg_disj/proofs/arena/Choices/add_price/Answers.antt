@@ -1,4 +1,4 @@
-use Rattle.std.proofs.Common.{◌≡◌, map, refl, sym, ap, subst, ◌∙◌, arith}
+use Rattle.std.proofs.Common.{map, sym, ap, subst, ◌∙◌, arith}
 use Rattle.std.specs.List.{All}
 use Rattle.lg_disj.specs.Places.{row_in, LiesIn}
 use Rattle.lg_disj.proofs.Rows.{raised_rows, raised_exact, raised_lie, raised_costs, none_after}
