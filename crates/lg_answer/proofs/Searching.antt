@@ -1,8 +1,8 @@
 -- A search begins with a sharper problem, and goes on with the problem itself.
-use Rattle.std.proofs.Common.{◌≡◌, ◌↔◌, ◌==◌, ℕ, suc, ◌≤◌, cond, List, [], ◌∷◌, ◌++◌, length, get_or, Contains, Option, None, Some, refl, subst, ◌∙◌, arith}
+use Rattle.std.proofs.Common.{◌≡◌, ◌↔◌, ◌==◌, ℕ, suc, ◌+◌, ◌≤◌, inl, inr, cond, List, [], ◌∷◌, ◌++◌, length, get_or, Contains, Option, None, Some, refl, subst, ◌∙◌, arith}
 use Rattle.std.specs.Prelude.{is_none}
 use Rattle.std.specs.List.{count_by}
-use Rattle.std.proofs.lemmas.Bool.{ne_eqb}
+use Rattle.std.proofs.lemmas.Bool.{cases_lt, ne_eqb}
 use Rattle.std.proofs.lemmas.List.Sums.{sum_by-cons, count_by-le-length}
 use Rattle.lg_gram.specs.Linkages.{Linkage, linkage_cmp, unlinked}
 use Rattle.lg_gram.specs.Rules.{Good}
@@ -12,13 +12,14 @@ use Rattle.lg_gram.specs.declared.listing.Token.{Token}
 use Rattle.lg_dict.specs.Dictionary.{Dictionary}
 use Rattle.lg_region.specs.Parts.{UnderWhole}
 use Rattle.lg_region.specs.declared.key.Key.TheVariants.{Whole}
-use Rattle.lg_forest.specs.Demands.{HasLinkageUnder}
+use Rattle.lg_forest.specs.Demands.{HasLinkageUnder, IsDemanded}
+use Rattle.lg_forest.specs.Demands.Reaches.{itself}
 use Rattle.lg_forest.specs.Forests.{Forest, IsForest}
 use Rattle.lg_rank.specs.Fronts.{IsFront, IsNext}
 use Rattle.lg_rank.specs.Rankings.{Ranking}
 use Rattle.lg_sharpen.specs.Sharp.{IsSharpened}
 use Rattle.lg_answer.specs.Pages.{HasLinkagesOf}
-use Rattle.lg_answer.specs.Searches.{wide_of, StandsUpTo, Begins, BeginsSharper, blanks, HasFew}
+use Rattle.lg_answer.specs.Searches.{wide_of, StandsUpTo, Begins, BeginsSharper, blanks, HasFew, HasNoFewer}
 use Rattle.lg_answer.specs.Steps.{IsSearched}
 use Rattle.lg_answer.specs.declared.options.Options.{Options}
 use Rattle.lg_answer.proofs.Kept.{front_of}
@@ -63,21 +64,39 @@ module _ (positions sharp : List (List Disjunct)) where
     first = begins.first;
   }
 
-  -- a linkage that leaves no more words unlinked than those without disjuncts: none leaves fewer
-  pub begins_sharper : (forest : Forest) (n : ℕ) (ranked : Ranking) → n ≡ blanks positions → IsSharpened positions (blanks positions) sharp → (from : ℕ) × IsForest sharp from forest → HasFew n forest
+  -- a linkage that leaves no more words unlinked than each has to: none leaves fewer
+  pub begins_sharper : (forest : Forest) (n : ℕ) (ranked : Ranking) → HasNoFewer positions n → IsSharpened positions n sharp → (from : ℕ) × IsForest sharp from forest → HasFew n forest
       → ranked ≡ record { positions = sharp; nulls = forest.unused; position = 0 } → BeginsSharper positions ranked
-  begins_sharper forest n ranked count is made few at =
+  begins_sharper forest n ranked least is made few at =
       let found : HasLinkageUnder sharp made.1.lists (Whole forest.unused) = ((made.1.nodes (Whole forest.unused)).0 few.1).1 in
       let most = few.0 in
       let unused = found.1.count in
       rw at (record {
-        sharper = fewer_nulls (blanks positions) forest.unused (omega arith) is;
+        sharper = fewer_nulls n forest.unused (omega arith) is;
         fewest = record {
           some = (found.0, (is.same found.0 (omega arith)).1 found.1.good, unused);
-          least = λ h good. let least = blanks_least positions h good in omega arith;
+          least = λ h good. let no_fewer = least h good in omega arith;
         };
         first = refl;
       })
+
+  -- the forest of so many unlinked words has no linkage, so each linkage leaves more
+  pub none_at : (forest : Forest) (n : ℕ) → HasNoFewer positions n → IsSharpened positions n sharp → IsForest sharp n forest → forest.unused ≡ n → (HasFew n forest → ⊥) → HasNoFewer positions (n + 1)
+  none_at forest n least is made unused none g good =
+      let no_fewer = least g good in
+      elim (cases_lt n (unlinked g)) [
+        | inl more ↦ omega arith
+        | inr same ↦ (
+            let here : unlinked g ≡ forest.unused = omega arith in
+            let under : UnderWhole sharp forest.unused g = record { good = (is.same g (omega arith)).0 good; count = here } in
+            let demanded : IsDemanded sharp made.lists n forest.unused (Whole forest.unused) = (forest.unused, omega arith, omega arith, itself (Whole forest.unused)) in
+            absurd (none (omega arith, (made.nodes (Whole forest.unused)).1 (demanded, (g, under))))
+            )
+      ]
+
+-- each linkage leaves the words unlinked that have no disjunct
+pub no_fewer_than_blanks : (positions : List (List Disjunct)) (n : ℕ) → n ≡ blanks positions → HasNoFewer positions n
+no_fewer_than_blanks positions n count g good = let least = blanks_least positions g good in omega arith
 
 pub begins_wide : (positions : List (List Disjunct)) (ranked : Ranking) → BeginsSharper positions ranked → Begins positions (record { positions = positions; nulls = ranked.nulls; position = ranked.position })
 begins_wide positions ranked is = record { keeps = λ g. (λ h. h, λ h. h); same_length = refl; fewest = is.fewest; first = is.first }

@@ -3,6 +3,8 @@ use Rattle.std.specs.Prelude.{◌≡◌, ◌==◌, ℕ, ◌≤◌, List, length,
 use Rattle.std.specs.List.{Contains, count_by}
 use Rattle.std.specs.Map.{keys_of}
 use Rattle.lg_gram.specs.Levels.{IsFewest}
+use Rattle.lg_gram.specs.Linkages.{Linkage, unlinked}
+use Rattle.lg_gram.specs.Rules.{Good}
 use Rattle.lg_gram.specs.declared.disjunct.Disjunct.{Disjunct}
 use Rattle.lg_region.specs.declared.key.Key.TheVariants.{Whole}
 use Rattle.lg_forest.specs.Forests.{Forest}
@@ -26,6 +28,10 @@ pub record Begins (positions : List (List Disjunct)) (search : Ranking) : Type 0
   pub same_length : length search.positions ≡ length positions
   pub fewest : IsFewest search.positions search.nulls
   pub first : search.position ≡ 0
+
+-- no linkage leaves fewer words unlinked
+abbrev pub HasNoFewer : List (List Disjunct) → ℕ → Type 0
+HasNoFewer positions nulls = (g : Linkage) → Good positions g → nulls ≤ unlinked g
 
 -- the same, of a sharper problem that stands for this one up to so many unlinked words
 pub record BeginsSharper (positions : List (List Disjunct)) (ranked : Ranking) : Type 0 where

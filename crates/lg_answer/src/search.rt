@@ -1,12 +1,12 @@
 //! The good linkages of a problem, level by level.
-ghost use Rattle.std.specs.Prelude.{◌≡◌, ◌↔◌, ◌+◌, ◌<◌, ◌≤◌, ◌^◌, ℕ, List, length, IsTrue, IfOk, OnOk, IfSome};
+ghost use Rattle.std.specs.Prelude.{◌≡◌, ◌↔◌, ◌+◌, ◌<◌, ◌≤◌, ◌^◌, ℕ, List, length, IsTrue, IfOk, OnOk, IfSome, MatchOption};
 ghost use Rattle.lg_gram.specs.Linkages.{Linkage as Seen, linkage_cmp};
 ghost use Rattle.lg_region.specs.Parts.{UnderWhole};
 ghost use Rattle.lg_forest.specs.Forests.{AreWorkers, IsForest};
 ghost use Rattle.lg_rank.specs.Fronts.{IsFront, IsNext};
 ghost use Rattle.lg_rank.specs.Rankings.{given};
 ghost use Rattle.lg_sharpen.specs.Sharp.{IsSharpened};
-ghost use Rattle.lg_answer.specs.Searches.{Begins, BeginsSharper, HasFew, blanks};
+ghost use Rattle.lg_answer.specs.Searches.{Begins, BeginsSharper, HasFew, HasNoFewer, blanks};
 
 use crate::options::Options;
 use lg_base::{NoMemory, Own, Steps};
@@ -18,6 +18,10 @@ use lg_sharpen::{sharpen, sharpened};
 use std::alloc::Global;
 use std::marker::Model;
 use std::thread::Threads;
+
+// For how many more unlinked words than there are positions without disjuncts the problem is sharpened, before it is sharpened for any
+// number.
+const FEW: u32 = 2;
 
 /// The good linkages of a problem with so many unlinked words, in order. The first are looked for among fewer disjuncts.
 ///
@@ -42,7 +46,7 @@ impl Model for Search {
 
 impl Search {
     /// Before the first linkage with the fewest unlinked words. Where disjuncts are pruned, the problem is sharpened: first for as
-    /// many unlinked words as positions have no disjunct, and where it has no such linkage, for any number.
+    /// many unlinked words as positions have no disjunct, then for one and two more, and where it has no such linkages, for any number.
     pub fn start<R: Threads + Sync>(
         rt: &R,
         alloc: Global,
@@ -172,8 +176,8 @@ fn raise(alloc: Global, ranked: &mut Ranked) -> Result<(), NoMemory>
     ranked.restart(alloc, forest)
 }
 
-// The linkages of a sharper problem that leave no words unlinked but those without disjuncts; none where there are no such linkages, or
-// where the problem is small.
+// The linkages with the fewest unlinked words, of a problem that is sharpened for their number; none where these are more words
+// than those without disjuncts and a few, or where the problem is small.
 fn sharper<R: Threads + Sync>(
     rt: &R,
     alloc: Global,
@@ -183,27 +187,38 @@ fn sharper<R: Threads + Sync>(
     requires workers { AreWorkers workers }
     ensures { IfOk result (λ ranked. IfSome ranked (BeginsSharper problem.now)) }
 {
-    let nulls = blanks_of(problem);
-    let found = sharpened(alloc, problem, nulls)?;
-    match found {
-        Some(sharp) => first_of(rt, alloc, problem, sharp, workers),
-        None => Ok(None),
+    // the call tells that there are few positions
+    let _positions = problem.positions();
+    let least = blanks_of(problem);
+    let most = words_of(problem).min(least + FEW);
+    for nulls in least..most + 1 {
+        let found = sharpened(alloc, problem, nulls)?;
+        let Some(sharp) = found else {
+            return Ok(None);
+        };
+        let level = level_of(rt, alloc, problem, sharp, nulls, workers)?;
+        if level.is_some() {
+            return Ok(level);
+        }
     }
+    Ok(None)
 }
 
-// The same of the problem that is sharpened for the words without disjuncts.
-fn first_of<R: Threads + Sync>(
+// The linkages with so many unlinked words, of the problem that is sharpened for that number; none where there are none.
+fn level_of<R: Threads + Sync>(
     rt: &R,
     alloc: Global,
     problem: &Problem,
     sharp: Problem,
+    nulls: u32,
     workers: u32,
 ) -> Result<Option<Ranked>, NoMemory>
     requires workers { AreWorkers workers }
-    requires sharp { IsSharpened problem.now (blanks problem.now) sharp }
-    ensures { IfOk result (λ ranked. IfSome ranked (BeginsSharper problem.now)) }
+    requires few { nulls ≤ length problem.now }
+    requires least { HasNoFewer problem.now nulls }
+    requires sharp { IsSharpened problem.now nulls sharp }
+    ensures { IfOk result (λ ranked. MatchOption ranked (HasNoFewer problem.now (nulls + 1)) (BeginsSharper problem.now)) }
 {
-    let nulls = blanks_of(problem);
     let mut steps = Steps::<Own>::start();
     let forest = solve_at_by(rt, alloc, &sharp, nulls, workers, &mut steps)?;
     if !has_few(&forest, nulls) {
