@@ -1,13 +1,14 @@
 #!/usr/bin/env python3
 """Times sentences by a large dictionary, beside link-parser with the same one, where that is installed.
 
-    bench/english.py FOLDER [LIMIT]
+    bench/english.py FOLDER [LIMIT [WORD]]
 
 FOLDER has `en.dict`, a dictionary of this program's format; `lp`, the same dictionary as a language directory of link-parser; and
 files `sentences-N.txt` with a sentence of N words a line. The program is the one that `bin/lgparse --build` builds. For each file
 it prints, for each sentence, the numbers of disjuncts before and after pruning (by a run that counts them, which is not timed), and the
 processor milliseconds and the megabytes of both programs beyond those that they take for the dictionary alone; and then the medians. Each
-figure is the least of three runs. A run ends after LIMIT seconds (60).
+figure is the least of three runs. A run ends after LIMIT seconds (60). With WORD, as `of`, that word is put into the middle of each
+sentence, so that most of them have a word that stays unlinked.
 """
 import glob
 import os
@@ -76,13 +77,20 @@ def middle(pairs):
     return statistics.median(p[0] for p in ended), statistics.median(p[1] for p in ended)
 
 
+def with_word(sentence, word):
+    words = sentence.split()
+    return " ".join(words[:len(words) // 2] + [word] + words[len(words) // 2:])
+
+
 def main():
     folder, limit = os.path.abspath(sys.argv[1]), float(sys.argv[2]) if len(sys.argv) > 2 else 60.0
+    word = sys.argv[3] if len(sys.argv) > 3 else None
     base = ours(folder, "", limit), theirs(folder, "", limit)
     print("dictionary alone:   lgparse", shown(base[0] and base[0][:2]), "  link-parser", shown(base[1] and base[1][:2]))
     for path in sorted(glob.glob(f"{folder}/sentences-*.txt")):
         both = []
         for sentence in open(path, encoding="utf-8").read().splitlines():
+            sentence = with_word(sentence, word) if word else sentence
             run = ours(folder, sentence, limit)
             counted = ours(folder, sentence, limit, "--stats", "on", runs=1)
             found = re.match(r"stats disjuncts (\d+) kept (\d+)", counted[2]) if counted else None
