@@ -4,6 +4,7 @@
 pub mod cost;
 pub mod files;
 pub mod host;
+pub mod list;
 pub mod mem_files;
 pub mod mem_sink;
 pub mod memory;
@@ -15,6 +16,7 @@ pub mod text;
 pub use cost::{Cost, cost_number_laws, parse_cost, write_cost};
 pub use files::{FileError, Files};
 pub use host::{HostFiles, HostSink};
+pub use list::List;
 pub use mem_files::MemFiles;
 pub use mem_sink::MemSink;
 pub use memory::NoMemory;

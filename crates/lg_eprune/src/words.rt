@@ -1,7 +1,7 @@
 //! The words of a sentence with their formulas.
 ghost use Rattle.std.specs.Prelude.{◌≡◌};
 
-use lg_base::Text;
+use lg_base::{List, Text};
 use lg_gram::Formula;
 use std::marker::Model;
 
@@ -25,85 +25,7 @@ impl Model for WordExpr {
 }
 
 /// The words of a position.
-#[derive(Debug, Drop)]
-pub struct WordExprs {
-    items: Vec<WordExpr>,
-}
-
-impl Model for WordExprs {
-    ghost use Rattle.std.specs.Prelude.{List};
-    ghost use Rattle.lg_eprune.specs.Live.{WordTree};
-    ghost use Rattle.lg_eprune.specs.TreeCode.{coded_words};
-
-    ghost Value = { List WordTree };
-
-    ghost coded = { coded_words };
-
-    ghost view = { λ t. t.items.items };
-}
-
-impl WordExprs {
-    /// The list of these words.
-    pub fn of(items: Vec<WordExpr>) -> Self
-        ensures { result ≡ items.items }
-    {
-        WordExprs { items }
-    }
-
-    /// The words.
-    pub fn items(&self) -> &[WordExpr]
-        ensures { result.now ≡ self.now }
-    {
-        self.items.as_slice()
-    }
-
-    /// The words, as a vector.
-    pub fn into_items(self) -> Vec<WordExpr>
-        ensures { result.items ≡ self }
-    {
-        let WordExprs { items } = self;
-        items
-    }
-}
+pub type WordExprs = List<WordExpr>;
 
 /// The positions of a sentence.
-#[derive(Debug, Drop)]
-pub struct PositionExprs {
-    items: Vec<WordExprs>,
-}
-
-impl Model for PositionExprs {
-    ghost use Rattle.std.specs.Prelude.{List};
-    ghost use Rattle.lg_eprune.specs.Live.{WordTree};
-    ghost use Rattle.lg_eprune.specs.TreeCode.{coded_positions};
-
-    ghost Value = { List (List WordTree) };
-
-    ghost coded = { coded_positions };
-
-    ghost view = { λ t. t.items.items };
-}
-
-impl PositionExprs {
-    /// The list of these positions.
-    pub fn of(items: Vec<WordExprs>) -> Self
-        ensures { result ≡ items.items }
-    {
-        PositionExprs { items }
-    }
-
-    /// The positions.
-    pub fn items(&self) -> &[WordExprs]
-        ensures { result.now ≡ self.now }
-    {
-        self.items.as_slice()
-    }
-
-    /// The positions, as a vector.
-    pub fn into_items(self) -> Vec<WordExprs>
-        ensures { result.items ≡ self }
-    {
-        let PositionExprs { items } = self;
-        items
-    }
-}
+pub type PositionExprs = List<WordExprs>;

@@ -10,6 +10,7 @@ ghost use Rattle.lg_gram.specs.Connectors.{Match, Agree, name_of, label_of, conn
 
 use crate::label::{LETTERS, Label};
 use crate::order::Ranked;
+use lg_base::List;
 use std::cmp::Ordering;
 use std::hash::{Hash, Hasher};
 use std::marker::Model;
@@ -185,54 +186,4 @@ fn merged(xs: &[u8], ys: &[u8]) -> [u8; LETTERS]
 }
 
 /// A list of connectors.
-#[derive(Clone, Debug, Drop)]
-pub struct Connectors {
-    items: Vec<Connector>,
-}
-
-impl Model for Connectors {
-    ghost use Rattle.std.specs.Prelude.{List};
-    ghost use Rattle.lg_gram.specs.Connectors.{Connector as Seen};
-
-    ghost Value = { List Seen };
-
-    ghost view = { λ t. t.items.items };
-}
-
-impl PartialEq for Connectors {
-    ghost eq = { pointwise connector_eq };
-
-    ghost laws = { partial_equiv_from_equiv (Prim.search (comparing, rules) depth 12) };
-
-    fn eq(&self, other: &Connectors) -> bool {
-        self.items() == other.items()
-    }
-}
-
-impl Eq for Connectors {
-    ghost laws = { Prim.search (comparing, rules) depth 12 };
-}
-
-impl Connectors {
-    /// The list of these connectors.
-    pub fn of(items: Vec<Connector>) -> Self
-        ensures { result ≡ items.items }
-    {
-        Connectors { items }
-    }
-
-    /// The connectors.
-    pub fn items(&self) -> &[Connector]
-        ensures { result.now ≡ self.now }
-    {
-        self.items.as_slice()
-    }
-
-    /// The connectors, as a vector.
-    pub fn into_items(self) -> Vec<Connector>
-        ensures { result.items ≡ self }
-    {
-        let Connectors { items } = self;
-        items
-    }
-}
+pub type Connectors = List<Connector>;

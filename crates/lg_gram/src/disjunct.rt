@@ -6,7 +6,7 @@ ghost use Rattle.lg_gram.specs.Rules.{left_list, right_list};
 
 use crate::connector::{Connector, Connectors};
 use crate::order::{Ranked, rank_lists};
-use lg_base::{Cost, Text};
+use lg_base::{Cost, List, Text};
 use std::cmp::Ordering;
 use std::marker::Model;
 
@@ -100,82 +100,10 @@ fn same_disjunct(a: &Disjunct, b: &Disjunct) -> bool
 }
 
 /// A list of positions, each a list of disjuncts.
-#[derive(Clone, Debug, Drop)]
-pub struct Positions {
-    items: Vec<Disjuncts>,
-}
-
-impl Model for Positions {
-    ghost use Rattle.std.specs.Prelude.{List};
-    ghost use Rattle.lg_gram.specs.declared.disjunct.Disjunct.{Disjunct as Seen};
-
-    ghost Value = { List (List Seen) };
-
-    ghost view = { λ t. t.items.items };
-}
-
-impl Positions {
-    /// The list of these positions.
-    pub fn of(items: Vec<Disjuncts>) -> Self
-        ensures { result ≡ items.items }
-    {
-        Positions { items }
-    }
-
-    /// The positions.
-    pub fn items(&self) -> &[Disjuncts]
-        ensures { result.now ≡ self.now }
-    {
-        self.items.as_slice()
-    }
-
-    /// The positions, as a vector.
-    pub fn into_items(self) -> Vec<Disjuncts>
-        ensures { result.items ≡ self }
-    {
-        let Positions { items } = self;
-        items
-    }
-}
+pub type Positions = List<Disjuncts>;
 
 /// What each position uses: a disjunct, or none where the position is unlinked.
-#[derive(Clone, Debug, Drop)]
-pub struct Chosen {
-    items: Vec<Option<Disjunct>>,
-}
-
-impl Model for Chosen {
-    ghost use Rattle.std.specs.Prelude.{List, Option};
-    ghost use Rattle.lg_gram.specs.declared.disjunct.Disjunct.{Disjunct as Seen};
-
-    ghost Value = { List (Option Seen) };
-
-    ghost view = { λ t. t.items.items };
-}
-
-impl Chosen {
-    /// The list of these choices.
-    pub fn of(items: Vec<Option<Disjunct>>) -> Self
-        ensures { result ≡ items.items }
-    {
-        Chosen { items }
-    }
-
-    /// The choices.
-    pub fn items(&self) -> &[Option<Disjunct>]
-        ensures { result.now ≡ self.now }
-    {
-        self.items.as_slice()
-    }
-
-    /// The choices, as a vector.
-    pub fn into_items(self) -> Vec<Option<Disjunct>>
-        ensures { result.items ≡ self }
-    {
-        let Chosen { items } = self;
-        items
-    }
-}
+pub type Chosen = List<Option<Disjunct>>;
 
 /// The connectors of a side (true: the right) of a position; none where the position is unlinked, and past the end.
 pub fn side(chosen: &[Option<Disjunct>], right: bool, position: u32) -> &[Connector]

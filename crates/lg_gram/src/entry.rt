@@ -6,8 +6,7 @@ ghost use Rattle.lg_gram.specs.RawTrees.{raw_items, raw_tree_of, raw_trees_in, m
 
 use crate::connector::Connector;
 use crate::formula::Formula;
-use lg_base::{Cost, Text, Texts};
-use std::marker::Model;
+use lg_base::{Cost, List, Text, Texts};
 use std::ops::ControlFlow;
 
 /// An entry that is read: its words and macros, the formula of all of them, the greatest number of brackets open at
@@ -37,43 +36,7 @@ pub struct Item {
 }
 
 /// A list of items.
-#[derive(Clone, Debug, Drop)]
-pub struct Items {
-    items: Vec<Item>,
-}
-
-impl Model for Items {
-    ghost use Rattle.std.specs.Prelude.{List};
-    ghost use Rattle.lg_gram.specs.declared.entry.Item.{Item as Seen};
-
-    ghost Value = { List Seen };
-
-    ghost view = { λ t. t.items.items };
-}
-
-impl Items {
-    /// The list of these items.
-    pub fn of(items: Vec<Item>) -> Self
-        ensures { result ≡ items.items }
-    {
-        Items { items }
-    }
-
-    /// The items.
-    pub fn items(&self) -> &[Item]
-        ensures { result.now ≡ self.now }
-    {
-        self.items.as_slice()
-    }
-
-    /// The items, as a vector.
-    pub fn into_items(self) -> Vec<Item>
-        ensures { result.items ≡ self }
-    {
-        let Items { items } = self;
-        items
-    }
-}
+pub type Items = List<Item>;
 
 /// An expression as it is written, in which macros are named.
 #[cycle(raw)]

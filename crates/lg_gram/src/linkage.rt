@@ -20,7 +20,7 @@ use crate::disjunct::{Chosen, Disjunct, side};
 use crate::label::Label;
 use crate::order::{Ranked, is_rising, rank_lists};
 use crate::problem::DISJUNCT_COST;
-use lg_base::Cost;
+use lg_base::{Cost, List};
 use std::cmp::Ordering;
 use std::marker::Model;
 
@@ -101,43 +101,7 @@ impl Link {
 }
 
 /// A list of links.
-#[derive(Clone, Debug, Drop)]
-pub struct Links {
-    items: Vec<Link>,
-}
-
-impl Model for Links {
-    ghost use Rattle.std.specs.Prelude.{List};
-    ghost use Rattle.lg_gram.specs.declared.linkage.Link.{Link as Seen};
-
-    ghost Value = { List Seen };
-
-    ghost view = { λ t. t.items.items };
-}
-
-impl Links {
-    /// The list of these links.
-    pub fn of(items: Vec<Link>) -> Self
-        ensures { result ≡ items.items }
-    {
-        Links { items }
-    }
-
-    /// The links.
-    pub fn items(&self) -> &[Link]
-        ensures { result.now ≡ self.now }
-    {
-        self.items.as_slice()
-    }
-
-    /// The links, as a vector.
-    pub fn into_items(self) -> Vec<Link>
-        ensures { result.items ≡ self }
-    {
-        let Links { items } = self;
-        items
-    }
-}
+pub type Links = List<Link>;
 
 /// What each position uses, and the links, strictly increasing by left, right, lplace and rplace. Each link goes to the
 /// right. There are at most 252 positions and 2^32 - 1 links, and no cost is more than 10^13 thousandths from zero.

@@ -2,8 +2,7 @@
 ghost use Rattle.std.specs.Prelude.{◌≡◌};
 
 use crate::linkage::Linkage;
-use lg_base::{Text, Texts};
-use std::marker::Model;
+use lg_base::{List, Text, Texts};
 
 /// A token of a sentence: its bytes from `from` to `to`, as they stand there, and the dictionary words that it stands
 /// for. A wall has an empty span.
@@ -16,43 +15,7 @@ pub struct Token {
 }
 
 /// A list of tokens.
-#[derive(Clone, Debug, Drop)]
-pub struct Tokens {
-    items: Vec<Token>,
-}
-
-impl Model for Tokens {
-    ghost use Rattle.std.specs.Prelude.{List};
-    ghost use Rattle.lg_gram.specs.declared.listing.Token.{Token as Seen};
-
-    ghost Value = { List Seen };
-
-    ghost view = { λ t. t.items.items };
-}
-
-impl Tokens {
-    /// The list of these tokens.
-    pub fn of(items: Vec<Token>) -> Self
-        ensures { result ≡ items.items }
-    {
-        Tokens { items }
-    }
-
-    /// The tokens.
-    pub fn items(&self) -> &[Token]
-        ensures { result.now ≡ self.now }
-    {
-        self.items.as_slice()
-    }
-
-    /// The tokens, as a vector.
-    pub fn into_items(self) -> Vec<Token>
-        ensures { result.items ≡ self }
-    {
-        let Tokens { items } = self;
-        items
-    }
-}
+pub type Tokens = List<Token>;
 
 /// Why a sentence is not listed: it has so many tokens, or its words have so many choices.
 #[derive(Clone, Copy, Debug, PartialEq, Eq)]
@@ -78,43 +41,7 @@ pub struct PageItem {
 }
 
 /// A list of candidates that were looked at.
-#[derive(Debug, Drop)]
-pub struct PageItems {
-    items: Vec<PageItem>,
-}
-
-impl Model for PageItems {
-    ghost use Rattle.std.specs.Prelude.{List};
-    ghost use Rattle.lg_gram.specs.declared.listing.PageItem.{PageItem as Seen};
-
-    ghost Value = { List Seen };
-
-    ghost view = { λ t. t.items.items };
-}
-
-impl PageItems {
-    /// The list of these candidates.
-    pub fn of(items: Vec<PageItem>) -> Self
-        ensures { result ≡ items.items }
-    {
-        PageItems { items }
-    }
-
-    /// The candidates.
-    pub fn items(&self) -> &[PageItem]
-        ensures { result.now ≡ self.now }
-    {
-        self.items.as_slice()
-    }
-
-    /// The candidates, as a vector.
-    pub fn into_items(self) -> Vec<PageItem>
-        ensures { result.items ≡ self }
-    {
-        let PageItems { items } = self;
-        items
-    }
-}
+pub type PageItems = List<PageItem>;
 
 /// A part of a listing: the candidates that were looked at, the number of the one after them, and whether there was
 /// none after them.

@@ -3,8 +3,7 @@ ghost use Rattle.std.specs.Prelude.{◌≡◌};
 
 use crate::edit::EditRefusal;
 use crate::listing::{Bound, Page, Stats, Tokens};
-use lg_base::Text;
-use std::marker::Model;
+use lg_base::{List, Text};
 
 /// The kinds of commands of a script.
 #[derive(Clone, Copy, Debug, PartialEq, Eq)]
@@ -68,118 +67,10 @@ pub enum Reply {
 }
 
 /// A list of commands.
-#[derive(Clone, Debug, Drop)]
-pub struct Places {
-    items: Vec<Place>,
-}
-
-impl Model for Places {
-    ghost use Rattle.std.specs.Prelude.{List};
-    ghost use Rattle.lg_gram.specs.declared.reply.Place.{Place as Seen};
-
-    ghost Value = { List Seen };
-
-    ghost view = { λ t. t.items.items };
-}
-
-impl Places {
-    /// The list of these commands.
-    pub fn of(items: Vec<Place>) -> Self
-        ensures { result ≡ items.items }
-    {
-        Places { items }
-    }
-
-    /// The commands.
-    pub fn items(&self) -> &[Place]
-        ensures { result.now ≡ self.now }
-    {
-        self.items.as_slice()
-    }
-
-    /// The commands, as a vector.
-    pub fn into_items(self) -> Vec<Place>
-        ensures { result.items ≡ self }
-    {
-        let Places { items } = self;
-        items
-    }
-}
+pub type Places = List<Place>;
 
 /// A list of answers, of one session.
-#[derive(Debug, Drop)]
-pub struct Replies {
-    items: Vec<Reply>,
-}
-
-impl Model for Replies {
-    ghost use Rattle.std.specs.Prelude.{List};
-    ghost use Rattle.lg_gram.specs.declared.reply.Reply.{Reply as Seen};
-
-    ghost Value = { List Seen };
-
-    ghost view = { λ t. t.items.items };
-}
-
-impl Replies {
-    /// The list of these answers.
-    pub fn of(items: Vec<Reply>) -> Self
-        ensures { result ≡ items.items }
-    {
-        Replies { items }
-    }
-
-    /// The answers.
-    pub fn items(&self) -> &[Reply]
-        ensures { result.now ≡ self.now }
-    {
-        self.items.as_slice()
-    }
-
-    /// The answers, as a vector.
-    pub fn into_items(self) -> Vec<Reply>
-        ensures { result.items ≡ self }
-    {
-        let Replies { items } = self;
-        items
-    }
-}
+pub type Replies = List<Reply>;
 
 /// The answers of each session, by sessions.
-#[derive(Debug, Drop)]
-pub struct ReplyLists {
-    items: Vec<Replies>,
-}
-
-impl Model for ReplyLists {
-    ghost use Rattle.std.specs.Prelude.{List};
-    ghost use Rattle.lg_gram.specs.declared.reply.Reply.{Reply as Seen};
-
-    ghost Value = { List (List Seen) };
-
-    ghost view = { λ t. t.items.items };
-}
-
-impl ReplyLists {
-    /// The answers of these sessions.
-    pub fn of(items: Vec<Replies>) -> Self
-        ensures { result ≡ items.items }
-    {
-        ReplyLists { items }
-    }
-
-    /// The answers of each session.
-    pub fn items(&self) -> &[Replies]
-        ensures { result.now ≡ self.now }
-    {
-        self.items.as_slice()
-    }
-
-    /// The answers of each session, as a vector.
-    pub fn into_items(self) -> Vec<Replies>
-        ensures { result.items ≡ self }
-    {
-        let ReplyLists { items } = self;
-        items
-    }
-}
+pub type ReplyLists = List<Replies>;

@@ -1,7 +1,7 @@
 //! What a knowledge text says, after link-parser's post-processing.
 ghost use Rattle.std.specs.Prelude.{◌≡◌, [], ◌∷◌, ◌++◌, IfOk};
 
-use lg_base::{NoMemory, Text};
+use lg_base::{List, NoMemory, Text};
 use std::marker::Model;
 
 /// What labels of links are like: one or more capital letters, and then subscripts, which are small letters and stars.
@@ -70,43 +70,7 @@ pub struct Start {
 }
 
 /// A list of starts.
-#[derive(Clone, Debug, Drop)]
-pub struct Starts {
-    items: Vec<Start>,
-}
-
-impl Model for Starts {
-    ghost use Rattle.std.specs.Prelude.{List};
-    ghost use Rattle.lg_knowread.specs.declared.knowledge.Start.{Start as Seen};
-
-    ghost Value = { List Seen };
-
-    ghost view = { λ t. t.items.items };
-}
-
-impl Starts {
-    /// The list of these starts.
-    pub fn of(items: Vec<Start>) -> Self
-        ensures { result ≡ items.items }
-    {
-        Starts { items }
-    }
-
-    /// The starts.
-    pub fn items(&self) -> &[Start]
-        ensures { result.now ≡ self.now }
-    {
-        self.items.as_slice()
-    }
-
-    /// The starts, as a vector.
-    pub fn into_items(self) -> Vec<Start>
-        ensures { result.items ≡ self }
-    {
-        let Starts { items } = self;
-        items
-    }
-}
+pub type Starts = List<Start>;
 
 /// What a linkage must keep. A grouped rule looks at the links of the trigger's group alone; the trigger is among the
 /// links that are looked at.
@@ -135,43 +99,7 @@ pub enum Rule {
 }
 
 /// A list of rules.
-#[derive(Clone, Debug, Drop)]
-pub struct Rules {
-    items: Vec<Rule>,
-}
-
-impl Model for Rules {
-    ghost use Rattle.std.specs.Prelude.{List};
-    ghost use Rattle.lg_knowread.specs.declared.knowledge.Rule.{Rule as Seen};
-
-    ghost Value = { List Seen };
-
-    ghost view = { λ t. t.items.items };
-}
-
-impl Rules {
-    /// The list of these rules.
-    pub fn of(items: Vec<Rule>) -> Self
-        ensures { result ≡ items.items }
-    {
-        Rules { items }
-    }
-
-    /// The rules.
-    pub fn items(&self) -> &[Rule]
-        ensures { result.now ≡ self.now }
-    {
-        self.items.as_slice()
-    }
-
-    /// The rules, as a vector.
-    pub fn into_items(self) -> Vec<Rule>
-        ensures { result.items ≡ self }
-    {
-        let Rules { items } = self;
-        items
-    }
-}
+pub type Rules = List<Rule>;
 
 /// What a knowledge text says: the links that start domains, those that are ignored, and the rules, numbered from 1.
 #[derive(Clone, Debug, Drop)]
