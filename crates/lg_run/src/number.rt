@@ -1,8 +1,8 @@
 //! The numbers of made input.
-ghost use Rattle.std.specs.Prelude.{◌≡◌, ◌≤◌, ℕ, length, MatchOption};
-ghost use Rattle.std.specs.List.{AllByRecursion};
-ghost use Rattle.lg_script.specs.Commands.{IsDigit, written_number};
+ghost use Rattle.std.specs.Prelude.{◌≤◌, ℕ, MatchOption};
 ghost use Rattle.lg_run.specs.Words.{Writes, IsSeed, IsMadeCount};
+
+use lg_script::decimal;
 
 /// The seed that the text writes: up to ten digits that write a number below 2^32. None where it writes none.
 pub(crate) fn seed_of(text: &str) -> Option<u32>
@@ -35,21 +35,4 @@ fn written(digits: &[u8], most: usize) -> Option<u64>
         return None;
     }
     decimal(digits)
-}
-
-// The number that these bytes write, if all are digits.
-fn decimal(digits: &[u8]) -> Option<u64>
-    requires { length digits.now ≤ 10 }
-    ensures { MatchOption result
-        (AllByRecursion IsDigit digits.now → ⊥)
-        (λ n. AllByRecursion IsDigit digits.now × (n ≡ written_number 0 digits.now)) }
-{
-    let mut value = 0;
-    for b in digits {
-        if !b.is_ascii_digit() {
-            return None;
-        }
-        value = 10 * value + (*b - b'0') as u64;
-    }
-    Some(value)
 }

@@ -23,9 +23,9 @@ pub fn number_of(digits: &[u8]) -> Option<u64>
     }
 }
 
-/// The number that these bytes write, if all are digits.
-fn decimal(digits: &[u8]) -> Option<u64>
-    requires { length digits.now ≤ 7 }
+/// The number that at most ten digits write, from 0 where there are none. None where a byte is no digit. No memory.
+pub fn decimal(digits: &[u8]) -> Option<u64>
+    requires { length digits.now ≤ 10 }
     ensures { MatchOption result
         (AllByRecursion IsDigit digits.now → ⊥)
         (λ n. AllByRecursion IsDigit digits.now × (n ≡ written_number 0 digits.now)) }

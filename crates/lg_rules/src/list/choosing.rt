@@ -6,7 +6,7 @@ ghost use Rattle.lg_gram.specs.Problems.{FitsProblem};
 ghost use Rattle.lg_rules.specs.Partners.{FitsChoice};
 ghost use Rattle.lg_rules.specs.Steps.{Adds, GoesOn};
 
-use crate::list::completing::add_sound;
+use crate::list::completing::{add_sound, copied_choice};
 use crate::list::pruning::can_stand;
 use lg_base::NoMemory;
 use lg_gram::{Chosen, Disjunct, Disjuncts, Linkage};
@@ -15,7 +15,7 @@ use std::alloc::Global;
 fn with_choice(chosen: &Chosen, choice: Option<Disjunct>) -> Result<Chosen, NoMemory>
     ensures { IfOk result (λ longer. longer ≡ chosen.now ++ choice ∷ []) }
 {
-    let mut items = chosen.clone()?.into_items();
+    let mut items = copied_choice(chosen)?.into_items();
     items.push(choice)?;
     Ok(Chosen::of(items))
 }

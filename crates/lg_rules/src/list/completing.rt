@@ -55,7 +55,7 @@ fn linkage_with(alloc: Global, chosen: &Chosen, links: &[Link]) -> Result<Linkag
     Ok(Linkage::of(chosen, links).unwrap())
 }
 
-fn copied_choice(chosen: &Chosen) -> Result<Chosen, NoMemory>
+pub(crate) fn copied_choice(chosen: &Chosen) -> Result<Chosen, NoMemory>
     ensures { IfOk result (λ copy. copy ≡ chosen.now) }
 {
     Ok(chosen.clone()?)
