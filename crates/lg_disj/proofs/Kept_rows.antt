@@ -1,5 +1,5 @@
 -- Rows in the order of ranks are choices in their order.
-use Rattle.std.proofs.Common.{◌≡◌, ℕ, ◌+◌, ◌-◌, ◌<◌, ◌≤◌, Bool, true, false, cond, List, [], ◌∷◌, length, map, take, drop, get_or, pos, refl, sym, ap, subst, ◌∙◌, arith, is_lt, is_eq, if◌then◌else◌, ◌↔◌}
+use Rattle.std.proofs.Common.{◌≡◌, ℕ, ◌-◌, ◌<◌, ◌≤◌, Bool, true, List, [], ◌∷◌, length, map, take, drop, get_or, refl, sym, ap, subst, ◌∙◌, arith, if◌then◌else◌, ◌↔◌}
 use Rattle.std.proofs.lemmas.Bool.Decides.{nat_tests}
 use Rattle.std.specs.Cmp.Derive.{both_true}
 use Rattle.std.specs.List.{drop-map}
@@ -8,12 +8,10 @@ use Rattle.std.proofs.lemmas.List.Filters.{All-dedup}
 use Rattle.std.proofs.lemmas.List.Kept.{IsStrictlySortedBy-dedup}
 use Rattle.std.specs.Prelude.{nat_le, ◌&&◌}
 use Rattle.std.specs.Ordering.{nat_cmp, int_cmp, ordering_then, on, eq_by_cmp}
-use Rattle.std.specs.Cmp.{IsTotalOrder}
 use Rattle.std.specs.Cmp.Lexicographic.{slice_cmp}
-use Rattle.std.specs.List.{All, Contains, dedup, dedup_from}
+use Rattle.std.specs.List.{All, Contains, dedup}
 use Rattle.std.specs.List.Sorted.{IsSorted, IsStrictlySortedBy}
 use Rattle.std.proofs.lemmas.List.Sorted.{All-permutation, IsPermutation-map}
-use Rattle.std.proofs.lemmas.Cmp.{on_total, then_total, nat_list_cmp_total, int_cmp_total}
 use Rattle.std.proofs.lemmas.List.{take-map, length-map, get_or-map}
 use Rattle.std.proofs.lemmas.List.Elements.{All-map, All-head, All-tail}
 use Rattle.lg_gram.specs.Connectors.{Connector, connector_cmp, ConnectorsToldApart}
@@ -24,11 +22,8 @@ use Rattle.lg_disj.specs.Grown.{IsPlaced}
 use Rattle.lg_disj.specs.Places.{no_places, leaf_at, choice_by, part, row_in, LiesIn}
 use Rattle.lg_disj.specs.Ranks.{AreRanks, part_or, key_in, ranks_cmp, places_cmp, IsKept}
 use Rattle.lg_disj.proofs.Runs.{same, lists_cmp_total, lists_sorted}
+use Rattle.lg_disj.proofs.Alike.{sorted_map, dedup_map}
 use Rattle.lg_disj.proofs.Kept.{kept_is_cheapest, cheapest_is_kept}
-
-pub places_total : IsTotalOrder places_cmp
-places_total =
-    then_total (then_total (on_total (λ p. p.left) nat_list_cmp_total) (on_total (λ p. p.right) nat_list_cmp_total)) (on_total (λ p. p.cost) int_cmp_total)
 
 nat_le_true : (a b : ℕ) → a ≤ b → nat_le a b ≡ true
 nat_le_true a b h = grind (arith, nat_tests)
@@ -38,13 +33,6 @@ part_or_map g xs from to low high =
     let test : (nat_le from to && nat_le to (length (map g xs))) ≡ true = both_true (nat_le_true from to low) (nat_le_true to (length (map g xs)) (omega (arith, high, length-map xs g))) in
     ap {B = List ℕ} (λ b. if b then take (to - from) (drop from (map g xs)) else []) test
     ∙ ap (take (to - from)) (drop-map g from xs) ∙ take-map g (to - from) (drop from xs)
-
-cond_map : (f : Row → Choice) (b : Bool) (ps : List Row) (k : Row) (qs : List Row) → cond b (map f ps) (f k ∷ map f qs) ≡ map f (cond b ps (k ∷ qs))
-cond_map f true ps k qs = refl
-cond_map f false ps k qs = refl
-
-no_row : Row
-no_row = record { from = 0; middle = 0; end = 0; cost = pos 0 }
 
 module _ (leaves : List Connector) (ranks : List ℕ) (are : AreRanks leaves ranks) (places : List ℕ) where
   abbrev rank_at : ℕ → ℕ
@@ -85,31 +73,13 @@ module _ (leaves : List Connector) (ranks : List ℕ) (are : AreRanks leaves ran
   by_all a b p q = let lists = by_lists a b p q in λ i. ordering_then (lists i) (int_cmp a.cost b.cost)
 
   sorted_choices : (up : List Row) → All IsGood up → IsSorted (on (key_in ranked) places_cmp) up → IsSorted choice_cmp (map choice_in up)
-  sorted_choices up good sorted k d low within =
-      let next : k + 1 < length up = omega (arith, within, length-map up choice_in) in
-      let this : k < length up = omega (arith, next) in
-      let a = get_or up (k + 1) no_row in
-      let b = get_or up k no_row in
-      let one : get_or (map choice_in up) (k + 1) d ≡ choice_in a = get_or-map choice_in up (k + 1) no_row d next in
-      let other : get_or (map choice_in up) k d ≡ choice_in b = get_or-map choice_in up k no_row d this in
-      ap is_lt ((λ i. choice_cmp (one i) (other i)) ∙ sym (by_all a b (good (k + 1) no_row next) (good k no_row this))) ∙ sorted k no_row low next
+  sorted_choices = sorted_map choice_in IsGood (on (key_in ranked) places_cmp) choice_cmp by_all
 
-  abbrev same_row : Row → Row → Bool
+  abbrev pub same_row : Row → Row → Bool
   same_row = eq_by_cmp (on (key_in ranked) ranks_cmp)
 
-  dedup_from_map : (k : Row) (xs : List Row) → IsGood k → All IsGood xs → dedup_from same (choice_in k) (map choice_in xs) ≡ map choice_in (dedup_from same_row k xs)
-  dedup_from_map k [] p q = refl
-  dedup_from_map k (x ∷ xs) p q =
-      let good = All-head IsGood x xs q in
-      let rest = All-tail IsGood x xs q in
-      let test : same (choice_in x) (choice_in k) ≡ same_row x k = ap is_eq (sym (by_lists x k good p)) in
-      let kept = dedup_from_map k xs p rest in
-      let next = dedup_from_map x xs good rest in
-      (λ i. cond (test i) (kept i) (choice_in k ∷ next i)) ∙ cond_map choice_in (same_row x k) (dedup_from same_row k xs) k (dedup_from same_row x xs)
-
-  dedup_map : (xs : List Row) → All IsGood xs → dedup same (map choice_in xs) ≡ map choice_in (dedup same_row xs)
-  dedup_map [] q = refl
-  dedup_map (x ∷ xs) q = dedup_from_map x xs (All-head IsGood x xs q) (All-tail IsGood x xs q)
+  same_kept : (xs : List Row) → All IsGood xs → dedup same (map choice_in xs) ≡ map choice_in (dedup same_row xs)
+  same_kept = dedup_map choice_in IsGood (on (key_in ranked) ranks_cmp) lists_cmp by_lists
 
   good_rows : (rows : List Row) → All (LiesIn places) rows → All (IsPlaced leaves) (map (row_in places) rows) → All IsGood rows
   good_rows rows lie placed k d within = (
@@ -123,7 +93,7 @@ module _ (leaves : List Connector) (ranks : List ℕ) (are : AreRanks leaves ran
       let good = All-permutation IsGood rows h.sorted h.moved (good_rows rows lie placed) in
       let up = map choice_in h.sorted in
       let is : map (choice_by leaves) (map (row_in places) kept) ≡ dedup same up =
-      map-map (choice_by leaves) (row_in places) kept ∙ ap (map choice_in) h.is ∙ sym (dedup_map h.sorted good) in
+      map-map (choice_by leaves) (row_in places) kept ∙ ap (map choice_in) h.is ∙ sym (same_kept h.sorted good) in
       subst (IsStrictlySortedBy lists_cmp) (sym is) (IsStrictlySortedBy-dedup lists_cmp_total (λ x y. refl) up (lists_sorted up (sorted_choices h.sorted good h.order)))
 
   pub kept_exactly : ConnectorsToldApart → (rows kept : List Row) → All (LiesIn places) rows → All (IsPlaced leaves) (map (row_in places) rows) →
@@ -134,7 +104,7 @@ module _ (leaves : List Connector) (ranks : List ℕ) (are : AreRanks leaves ran
       let up = map choice_in h.sorted in
       let all : map (choice_by leaves) (map (row_in places) rows) ≡ map choice_in rows = map-map (choice_by leaves) (row_in places) rows in
       let is : map (choice_by leaves) (map (row_in places) kept) ≡ dedup same up =
-      map-map (choice_by leaves) (row_in places) kept ∙ ap (map choice_in) h.is ∙ sym (dedup_map h.sorted good) in
+      map-map (choice_by leaves) (row_in places) kept ∙ ap (map choice_in) h.is ∙ sym (same_kept h.sorted good) in
       let moved = IsPermutation-map choice_in rows h.sorted h.moved in
       let order = sorted_choices h.sorted good h.order in (
         λ m. subst (λ cs. IsCheapest cs c) (sym all) (kept_is_cheapest (map choice_in rows) up moved order c (subst (λ cs. Contains cs c) is m)),
@@ -154,7 +124,7 @@ module _ (leaves : List Connector) (ranks : List ℕ) (are : AreRanks leaves ran
   kept_placed rows kept lie placed h = All-map (IsPlaced leaves) (row_in places) kept (λ k d within. (kept_good rows kept lie placed h k d within).1)
 
 -- the rows that are kept by the ranks at their places
-pub kept_by : (ranks d places e ranked f : List ℕ) (rows kept : List Row) → d ≡ ranks → e ≡ places → ranked ≡ map (λ (n : ℕ). get_or d n 0) e → f ≡ ranked →
-    IsKept f rows kept → IsKept (map (λ (n : ℕ). get_or ranks n 0) places) rows kept
-kept_by ranks d places e r f rows kept one two is three h =
-    subst (λ r. IsKept r rows kept) (three ∙ is ∙ (λ i. map (λ (n : ℕ). get_or (one i) n 0) (two i))) h
+pub kept_by : (ranks d places e ranked f : List ℕ) (rows g kept : List Row) → d ≡ ranks → e ≡ places → ranked ≡ map (λ (n : ℕ). get_or d n 0) e → f ≡ ranked → g ≡ rows →
+    IsKept f g kept → IsKept (map (λ (n : ℕ). get_or ranks n 0) places) rows kept
+kept_by ranks d places e r f rows g kept one two is three four h =
+    subst (λ r. IsKept r rows kept) (three ∙ is ∙ (λ i. map (λ (n : ℕ). get_or (one i) n 0) (two i))) (subst (λ rows. IsKept f rows kept) four h)

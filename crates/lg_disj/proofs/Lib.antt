@@ -12,6 +12,8 @@ pub mod Disjuncts
 pub mod Exist
 pub mod Rows
 pub mod Ranked
+pub mod Alike
+pub mod Numbering
 pub mod Kept_rows
 pub mod Growing
 pub mod Expanded

@@ -10,7 +10,7 @@ use Rattle.lg_gram.specs.Measures.{Choice}
 use Rattle.lg_disj.specs.Choices.{lists_cmp, IsOn, IsSided}
 
 -- of two orders, one after the other, each says that they are alike
-both_equal : (o p : Ordering) → ordering_then o p ≡ Equal → (o ≡ Equal) × (p ≡ Equal)
+pub both_equal : (o p : Ordering) → ordering_then o p ≡ Equal → (o ≡ Equal) × (p ≡ Equal)
 both_equal Less p h = cc
 both_equal Equal p h = (refl, h)
 both_equal Greater p h = cc

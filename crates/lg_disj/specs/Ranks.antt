@@ -1,12 +1,13 @@
 -- Ranks of leaves, and the order of choices by them.
-use Rattle.std.specs.Prelude.{◌≡◌, ◌<◌, ℕ, true, false, List, [], length, take, drop, get_or, ◌-◌, nat_le, ◌&&◌, if◌then◌else◌}
-use Rattle.std.specs.List.{dedup}
+use Rattle.std.specs.Prelude.{◌≡◌, ◌<◌, ℕ, true, false, List, [], Some, length, map, take, drop, get_or, position, ◌-◌, nat_eq, nat_le, ◌&&◌, if◌then◌else◌}
+use Rattle.std.specs.List.{All, Contains, dedup}
 use Rattle.std.specs.List.Sorted.{IsSorted, IsPermutation, IsPartitionPoint}
 use Rattle.std.specs.Ordering.{nat_cmp, int_cmp, is_lt, on, then_cmp, eq_by_cmp}
 use Rattle.std.specs.declared.cmp.Ordering.{Ordering}
-use Rattle.std.specs.Cmp.Lexicographic.{slice_cmp}
+use Rattle.std.specs.Cmp.Lexicographic.{slice_cmp, pointwise}
 use Rattle.lg_gram.specs.Connectors.{Connector, connector_cmp}
 use Rattle.lg_disj.specs.declared.arena.Row.{Row}
+use Rattle.lg_disj.specs.declared.numbers.Numbered.{Numbered}
 use Rattle.lg_disj.specs.Places.{Places, leaf_at}
 
 -- numbers, one for each leaf, that compare as the leaves do
@@ -40,3 +41,33 @@ pub record IsKept (ranked : List ℕ) (rows kept : List Row) : Type 0 where
   pub moved : IsPermutation rows sorted
   pub order : IsSorted (on (key_in ranked) places_cmp) sorted
   pub is : kept ≡ dedup (eq_by_cmp (on (key_in ranked) ranks_cmp)) sorted
+
+-- lists in order, and those of the rows are among them
+pub record AreLists (ranked : List ℕ) (rows : List Row) (lists : List (List ℕ)) : Type 0 where
+  pub order : IsSorted (slice_cmp nat_cmp) lists
+  pub lefts : All (λ row. Contains lists (key_in ranked row).left) rows
+  pub rights : All (λ row. Contains lists (key_in ranked row).right) rows
+
+-- the first place of a list among lists
+abbrev pub IsNumberOf : List (List ℕ) → List ℕ → ℕ → Type 0
+IsNumberOf lists list n = position (pointwise nat_eq list) lists ≡ Some n
+
+-- the numbers of a row's two lists
+pub record HasNumbers (ranked : List ℕ) (lists : List (List ℕ)) (k : Numbered) : Type 0 where
+  pub left : IsNumberOf lists (key_in ranked k.row).left k.left
+  pub right : IsNumberOf lists (key_in ranked k.row).right k.right
+
+-- the rows with numbers that are places among lists in order
+pub record AreNumbered (ranked : List ℕ) (rows : List Row) (numbered : List Numbered) : Type 0 where
+  pub lists : List (List ℕ)
+  pub order : IsSorted (slice_cmp nat_cmp) lists
+  pub same : map (λ k. k.row) numbered ≡ rows
+  pub numbers : All (HasNumbers ranked lists) numbered
+
+-- by the number to the left, and then by that to the right
+abbrev pub lists_numbers_cmp : Numbered → Numbered → Ordering
+lists_numbers_cmp = then_cmp (on (λ k. k.left) nat_cmp) (on (λ k. k.right) nat_cmp)
+
+-- by the numbers, and then by cost
+abbrev pub numbers_cmp : Numbered → Numbered → Ordering
+numbers_cmp = then_cmp lists_numbers_cmp (on (λ k. k.row.cost) int_cmp)

@@ -2,14 +2,14 @@
 ghost use Rattle.std.specs.Prelude.{◌≡◌, ◌<◌, ◌≤◌, ◌↔◌, List, length, map, get_or, IfOk};
 ghost use Rattle.std.specs.List.{All, Contains};
 ghost use Rattle.std.specs.List.Sorted.{IsStrictlySortedBy};
-ghost use Rattle.std.specs.Ordering.{on};
 ghost use Rattle.lg_gram.specs.Measures.{Choice as Seen};
 ghost use Rattle.lg_disj.specs.Choices.{lists_cmp, disjunct_of, IsCheapest};
 ghost use Rattle.lg_disj.specs.Places.{leaf_at, choice_by, part, row_in, LiesIn, listed, IsArena};
 ghost use Rattle.lg_disj.specs.Grown.{IsPlaced, StandFor};
-ghost use Rattle.lg_disj.specs.Ranks.{part_or, key_in, ranks_cmp, places_cmp, IsKept};
+ghost use Rattle.lg_disj.specs.Ranks.{IsKept};
 
 use crate::arena::{Choices, Row};
+use crate::numbers::{lists_of, rows_of, with_numbers};
 use crate::ranks::{ranks_at, ranks_of};
 use lg_base::{NoMemory, Text};
 use lg_gram::law::connectors_are_ordered;
@@ -35,42 +35,19 @@ pub(crate) fn cheapest(
     let ranks = ranks_of(alloc, leaves)?;
     let Choices { places, rows } = all;
     let ranked = ranks_at(alloc, &ranks, &places)?;
-    let rows = kept_rows(&ranked, rows)?;
+    let rows = kept_rows(alloc, &ranked, &rows)?;
     Ok(Choices { places, rows })
 }
 
-fn kept_rows(ranked: &[usize], mut rows: Vec<Row>) -> Result<Vec<Row>, NoMemory>
-    ensures kept { IfOk result (λ kept. IsKept ranked.now rows.items kept.items) }
-    ensures few { IfOk result (λ kept. length kept.items ≤ length rows.items) }
+fn kept_rows(alloc: Global, ranked: &[usize], rows: &[Row]) -> Result<Vec<Row>, NoMemory>
+    ensures kept { IfOk result (λ kept. IsKept ranked.now rows.now kept.items) }
+    ensures few { IfOk result (λ kept. length kept.items ≤ length rows.now) }
 {
-    rows.sort_by(|a, b| compare(ranked, a, b))?;
-    rows.dedup_by(|next, kept| compare_lists(ranked, next, kept) == Ordering::Equal);
-    Ok(rows)
-}
-
-fn compare(ranked: &[usize], a: &Row, b: &Row) -> Ordering
-    ensures { result ≡ on (key_in ranked.now) places_cmp a.now b.now }
-{
-    compare_lists(ranked, a, b).then(a.cost.cmp(&b.cost))
-}
-
-// The order by left list and right list. Costs take no part.
-fn compare_lists(ranked: &[usize], a: &Row, b: &Row) -> Ordering
-    ensures { result ≡ on (key_in ranked.now) ranks_cmp a.now b.now }
-{
-    part_or(ranked, a.from, a.middle)
-        .cmp(part_or(ranked, b.from, b.middle))
-        .then(part_or(ranked, a.middle, a.end).cmp(part_or(ranked, b.middle, b.end)))
-}
-
-fn part_or(ranks: &[usize], from: usize, to: usize) -> &[usize]
-    ensures { result.now ≡ part_or from to ranks.now }
-{
-    if from <= to && to <= ranks.len() {
-        &ranks[from..to]
-    } else {
-        &[]
-    }
+    let lists = lists_of(alloc, ranked, rows)?;
+    let mut numbered = with_numbers(alloc, ranked, &lists, rows)?;
+    numbered.sort_by(|a, b| a.compare(b))?;
+    numbered.dedup_by(|next, kept| next.compare_lists(kept) == Ordering::Equal);
+    rows_of(alloc, &numbered)
 }
 
 /// The choices as disjuncts of a word, in the same order.

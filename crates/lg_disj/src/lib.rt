@@ -14,6 +14,7 @@ mod cheapest;
 mod choices;
 pub mod law;
 mod names;
+mod numbers;
 mod product;
 mod ranks;
 

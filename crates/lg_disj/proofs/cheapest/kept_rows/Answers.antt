@@ -1,20 +1,38 @@
-use Rattle.std.proofs.Common.{◌≡◌, rules, is_lt}
-use Rattle.std.specs.Ordering.{on, eq_by_cmp}
-use Rattle.std.proofs.lemmas.Cmp.{on_total}
+use Rattle.std.proofs.Common.{◌≡◌, ◌≤◌, rules, is_lt, map, length, ap, ◌∙◌, arith}
+use Rattle.std.specs.Ordering.{eq_by_cmp}
 use Rattle.std.proofs.lemmas.Fn.{always_returns_same, dedup_same}
+use Rattle.std.proofs.lemmas.List.{length-map}
 use Rattle.std.proofs.lemmas.List.MinMax.{ranks_by}
-use Rattle.lg_disj.specs.Ranks.{key_in, ranks_cmp, places_cmp}
-use Rattle.lg_disj.proofs.Kept_rows.{places_total}
+use Rattle.std.proofs.lemmas.Result.{IfOk-weaker}
+use Rattle.lg_disj.specs.declared.numbers.Numbered.{Numbered}
+use Rattle.lg_disj.specs.declared.arena.Row.{Row}
+use Rattle.lg_disj.specs.Ranks.{lists_numbers_cmp, numbers_cmp, IsKept}
+use Rattle.lg_disj.proofs.Numbering.{kept_by_numbers, numbers_total}
 use Rattle.lg_disj.proofs.cheapest.kept_rows.Goals as goal
+
+abbrev row : Numbered → Row
+row k = k.row
 
 pub returns-clause-kept : goal.returns-clause-kept
 returns-clause-kept c =
-    let key = key_in c.args.ranked.now in
     let sorted = c.sort_by.new.self.items in
-    record {
-      sorted = sorted;
-      moved = c.in_ok-sort_by.ensures.permutation;
-      order = c.in_ok-sort_by.ensures.sorted (λ a b. is_lt (on key places_cmp a b)) (ranks_by (on_total key places_total) (λ g. g))
-          (always_returns_same _ (λ a r. is_lt r ≡ is_lt (on key places_cmp a.0.now a.1.0.now)) _ (λ a r q k. search rules));
-      is = dedup_same _ (eq_by_cmp (on key ranks_cmp)) _ (λ x y b f' x' y' k. search rules) sorted c.dedup_by.new.self.items c.dedup_by.ensures.filtered;
-    }
+    let order = c.in_ok-sort_by.ensures.sorted (λ a b. is_lt (numbers_cmp a b)) (ranks_by numbers_total (λ g. g))
+    (always_returns_same _ (λ a r. is_lt r ≡ is_lt (numbers_cmp a.0.now a.1.0.now)) _ (λ a r q k. search rules)) in
+    let deduped = dedup_same _ (eq_by_cmp lists_numbers_cmp) _ (λ x y b f' x' y' k. search rules) sorted c.dedup_by.new.self.items c.dedup_by.ensures.filtered in
+    IfOk-weaker c.rows_of.result (λ kept. kept.items ≡ map row c.deref.result.now) (λ kept. IsKept c.args.ranked.now c.args.rows.now kept.items)
+    (λ kept is. kept_by_numbers c.args.ranked.now c.args.rows.now c.in_ok-numbered.numbered.items sorted kept.items c.in_ok-numbered.ensures c.in_ok-sort_by.ensures.permutation order
+    (is ∙ ap (map row) (c.deref.ensures.value ∙ deduped))) c.rows_of.ensures
+
+pub returns-clause-few : goal.returns-clause-few
+returns-clause-few c =
+    IfOk-weaker c.rows_of.result (λ kept. kept.items ≡ map row c.deref.result.now) (λ kept. length kept.items ≤ length c.args.rows.now)
+    (λ kept is. omega (
+      arith,
+      ap length is,
+      ap length c.deref.ensures.value,
+      length-map c.deref.result.now row,
+      c.dedup_by.ensures.bound,
+      c.in_ok-sort_by.ensures.len,
+      length-map c.in_ok-numbered.numbered.items row,
+      ap length c.in_ok-numbered.ensures.same,
+    )) c.rows_of.ensures
