@@ -81,10 +81,6 @@ small_parts price h =
     let high : int_le price (pos PRICE) ≡ true = parts.1 in
     (record { le = is_true low }, record { le = is_true high })
 
--- a small cost and a price are within costs
-pub small_dearer : (x price : ℤ) → IsDisjunctCost x → is_small_price price ≡ true → IsWithinCosts (x +ℤ price)
-small_dearer x price p h = let parts = small_parts price h in (omega (arith, ints, parts.0), omega (arith, ints, parts.1))
-
 dearer_bounded : (n l r : ℕ) (price : ℤ) (c : Choice) → is_small_price price ≡ true → IsBounded n l r c → IsBounded (1 + n) l r (dearer price c)
 dearer_bounded n l r price c small p =
     let parts = small_parts price small in

@@ -58,10 +58,6 @@ products_assoc [] ys cs = refl
 products_assoc (a ∷ xs) ys cs =
     products_append (map (joined a) ys) (products xs ys) cs ∙ (λ i. products_map a ys cs i ++ products_assoc xs ys cs i)
 
--- one more first choice
-pub products_push : (xs : List Choice) (a : Choice) (cs : List Choice) → products (xs ++ a ∷ []) cs ≡ products xs cs ++ map (joined a) cs
-products_push xs a cs = products_append xs (a ∷ []) cs ∙ ap (λ zs. products xs cs ++ zs) (append-nil (map (joined a) cs))
-
 -- one more member
 pub picks_push : (es : List Expr) (e : Expr) → picks_of (trees_in (es ++ e ∷ [])) ≡ products (picks_of (trees_in es)) (choices_of (tree_of e))
 picks_push [] e = none_products (choices_of (tree_of e)) ∙ sym (products_none (choices_of (tree_of e)))
@@ -79,12 +75,6 @@ pub one_dearer : {A : Type 0} (f : A → A) (all : List A) (i : ℕ) (d : A) →
 one_dearer f [] i d h = absurd (omega arith)
 one_dearer f (c ∷ all) zero d h = refl
 one_dearer f (c ∷ all) (suc i) d h = ap (λ cs. f c ∷ cs) (one_dearer f all i d (omega arith))
-
--- the next choice has not got its price
-pub next_choice : {A : Type 0} (f : A → A) (all : List A) (i : ℕ) (d : A) → i < length all → get_or (map f (take i all) ++ drop i all) i d ≡ get_or all i d
-next_choice f [] i d h = absurd (omega arith)
-next_choice f (c ∷ all) zero d h = refl
-next_choice f (c ∷ all) (suc i) d h = next_choice f all i d (omega arith)
 
 -- each has got its price
 pub all_dearer : {A : Type 0} (f : A → A) (all : List A) (i : ℕ) → length all ≤ i → map f (take i all) ++ drop i all ≡ map f all

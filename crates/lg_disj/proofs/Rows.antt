@@ -1,6 +1,6 @@
 -- Rows of choices, and the places that they are cut from.
 use Rattle.std.proofs.Common.{◌≡◌, ℕ, ◌+◌, ◌-◌, ◌≤◌, ℤ, ◌+ℤ◌, List, [], ◌∷◌, ◌++◌, map, length, take, drop, refl, sym, ap, ap₂, subst, ◌∙◌, arith, append_assoc, append-nil, length-append}
-use Rattle.std.proofs.Math.Seq.{drop-append_seam, take-append_seam, take-length, drop-length}
+use Rattle.std.proofs.Math.Seq.{drop-append_seam, drop-append-add, take-append_seam, take-length, drop-length}
 use Rattle.std.proofs.lemmas.List.{take-append-le, drop-append-le, length-drop, length-map, map-append, take-map, take_at, take-append-drop}
 use Rattle.std.specs.List.{drop-map}
 use Rattle.std.specs.List.{All}
@@ -103,3 +103,37 @@ raised_costs ps price rows d first same small cheap =
 
 pub none_after : (first : ℕ) (d : List Row) → drop (length d - first) (drop first d) ≡ []
 none_after first d = ap (λ n. drop n (drop first d)) (sym (length-drop first d)) ∙ drop-length (drop first d)
+
+-- a row behind so many places
+abbrev pub behind : ℕ → Row → Row
+behind n row = record { from = n + row.from; middle = n + row.middle; end = n + row.end; cost = row.cost }
+
+part_behind : (from to : ℕ) (ps qs : List ℕ) → part (length ps + from) (length ps + to) (ps ++ qs) ≡ part from to qs
+part_behind from to ps qs =
+    let long : (length ps + to) - (length ps + from) ≡ to - from = omega arith in
+    ap₂ take long (drop-append-add ps qs from)
+
+rows_behind : (ps qs : List ℕ) (rows : List Row) → map (row_in (ps ++ qs)) (map (behind (length ps)) rows) ≡ map (row_in qs) rows
+rows_behind ps qs [] = refl
+rows_behind ps qs (row ∷ rows) =
+    let left = part_behind row.from row.middle ps qs in
+    let right = part_behind row.middle row.end ps qs in
+    λ i. record { left = left i; right = right i; cost = row.cost } ∷ rows_behind ps qs rows i
+
+-- the rows of two lists, the places of the second behind those of the first
+pub appended : (ps qs new : List ℕ) (old rows all : List Row) (n : ℕ) → All (LiesIn ps) old → new ≡ ps ++ qs → n ≡ length ps → all ≡ old ++ map (behind n) rows →
+    map (row_in new) all ≡ map (row_in ps) old ++ map (row_in qs) rows
+appended ps qs new old rows all n lie is start joined =
+    ap₂ (λ new all. map (row_in new) all) is (joined ∙ ap (λ n. old ++ map (behind n) rows) start)
+    ∙ map-append (row_in (ps ++ qs)) old (map (behind (length ps)) rows)
+    ∙ ap₂ (λ xs ys. xs ++ ys) (rows_grown ps qs old lie) (rows_behind ps qs rows)
+
+pub appended_lie : (ps qs new : List ℕ) (old rows all : List Row) (n : ℕ) → All (LiesIn ps) old → All (LiesIn qs) rows → new ≡ ps ++ qs → n ≡ length ps →
+    all ≡ old ++ map (behind n) rows → All (LiesIn new) all
+appended_lie ps qs new old rows all n first second is start joined =
+    let within : length new ≡ length ps + length qs = ap length is ∙ length-append ps qs in
+    subst (All (LiesIn new)) (sym joined)
+    (All-append (LiesIn new) old (map (behind n) rows)
+    (All-weaker (LiesIn ps) (LiesIn new) (λ row h. record { left = h.left; right = h.right; within = omega (arith, h.within, within) }) old first)
+    (All-map (LiesIn new) (behind n) rows (All-weaker (LiesIn qs) (λ row. LiesIn new (behind n row))
+    (λ row h. record { left = omega (arith, h.left); right = omega (arith, h.right); within = omega (arith, h.within, within, start) }) rows second)))

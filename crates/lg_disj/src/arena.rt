@@ -108,14 +108,15 @@ impl Choices {
         ensures exact { OnOk result (listed self.new ≡ listed self.old ++ listed others.now) }
         ensures within { OnOk result (IsArena self.new) }
     {
-        for number in 0..others.len() {
-            self.push(
-                others.left(number),
-                &[],
-                others.right(number),
-                &[],
-                others.cost(number),
-            )?;
+        let start = self.places.len();
+        self.places.extend_from_slice(&others.places)?;
+        for row in others.rows.iter() {
+            self.rows.push(Row {
+                from: start + row.from,
+                middle: start + row.middle,
+                end: start + row.end,
+                cost: row.cost,
+            })?;
         }
         Ok(())
     }

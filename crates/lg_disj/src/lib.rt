@@ -33,8 +33,9 @@ use std::alloc::Global;
 ///
 /// There are at most 1,000,000, since a formula has no more choices. A disjunct has at most 255 connectors on a side, and
 /// its cost is at most 10^13 thousandths from zero. The call fails only where memory runs out. Its memory grows in
-/// proportion to the choices and their lengths, and so does its time, but for the sort and for lists that are copied
-/// once for each member of an `&` behind them that has a connector.
+/// proportion to the choices and their lengths, and so does its time, but for lists that are copied once for each member
+/// of an `&` behind them that has a connector, and for two sorts: of the distinct lists, and of the choices by the
+/// numbers of their lists.
 pub fn expand(alloc: Global, word: &Text, formula: &Formula) -> Result<Disjuncts, NoMemory>
     ensures disjuncts { IfOk result (λ ds. AreDisjuncts word.now (tree_of formula.now) ds) }
     ensures fits { IfOk result (λ ds. All FitsProblem ds) }
