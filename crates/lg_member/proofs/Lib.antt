@@ -3,3 +3,4 @@ pub mod Adding
 pub mod Written
 pub mod Using
 pub mod Same
+pub mod Celling

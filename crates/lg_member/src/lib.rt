@@ -3,6 +3,7 @@
 //! What takes disjuncts away works over members, since many of them share a list, and writes those that are left by position.
 #![tactic(auto)]
 
+pub mod cells;
 mod hints;
 pub mod law;
 pub mod member;
@@ -10,6 +11,7 @@ pub mod rows;
 pub mod side;
 pub mod uses;
 
+pub use cells::{Cells, Wide, class_of};
 pub use law::{members_go_by_rounds, rows_are_problems};
 pub use member::{Member, members_of};
 pub use rows::rows_of;

@@ -9,6 +9,7 @@ use Rattle.lg_gram.specs.declared.disjunct.Disjunct.{Disjunct}
 use Rattle.lg_pprune.specs.Alive.{ArePartners}
 use Rattle.lg_pprune.specs.Sites.{IsSiteOf, Meets, MeetsOn, IsWider, Holds, IsHeld, IsTableOf, IsServed, AreServed}
 use Rattle.lg_member.specs.Members.{list_on, side_on, IsSideAt, IsKnown, AreUsed, Have, Keeps, are_on}
+use Rattle.lg_member.specs.Cells.{Table}
 use Rattle.lg_member.specs.declared.side.Side.{Side}
 use Rattle.lg_member.specs.declared.member.Member.{Member}
 use Rattle.lg_pprune.specs.Supports.{PartnersOn, IsSupportedOn, IsSupported, KeepsSupported}
@@ -25,9 +26,9 @@ site_at_side right n side i cs q s ei ec is = subst (λ z. IsSiteOf right n side
 abbrev HasSite : Bool → ℕ → List Member → Site → Type 0
 HasSite right n ms s = (m : Member) × Contains ms m × (q : ℕ) × IsSiteOf right n m.position (list_on right m.disjunct.now) q s
 
-table_has : (right : Bool) (n : ℕ) (sides : List Side) (ms : List Member) (used : List Bool) (table : List (List Site))
+table_has : (right : Bool) (n : ℕ) (sides : List Side) (ms : List Member) (used : List Bool) (table : Table Site)
     → ((m : Member) → Contains ms m → IsSideAt sides (side_on right m) m.position (list_on right m.disjunct.now)) → AreUsed right (length sides) ms used → IsTableOf right n sides used table
-    → (s : Site) → Holds n table s → HasSite right n ms s
+    → (s : Site) → Holds table s → HasSite right n ms s
 table_has right n sides ms used table known u t s h =
     let r = t.only s h in
     let o = (u.each r.0).0 r.1.on in
@@ -35,9 +36,9 @@ table_has right n sides ms used table known u t s h =
     let e : r.1.side ≡ a.side = same_Some r.1.side a.side (sym r.1.at ∙ subst (λ z. slice_get sides z ≡ Some a.side) o.2 a.at) in
     (o.0, o.1, r.1.place, site_of_side right n a.side o.0.position (list_on right o.0.disjunct.now) r.1.place s a.position a.list (subst (λ z. IsSiteOf right n z.position z.list.now r.1.place s) e r.1.is))
 
-table_holds : (right : Bool) (n : ℕ) (sides : List Side) (ms : List Member) (used : List Bool) (table : List (List Site))
+table_holds : (right : Bool) (n : ℕ) (sides : List Side) (ms : List Member) (used : List Bool) (table : Table Site)
     → ((m : Member) → Contains ms m → IsSideAt sides (side_on right m) m.position (list_on right m.disjunct.now)) → AreUsed right (length sides) ms used → IsTableOf right n sides used table
-    → (s : Site) → HasSite right n ms s → IsHeld n table s
+    → (s : Site) → HasSite right n ms s → IsHeld table s
 table_holds right n sides ms used table known u t s r =
     let a = known r.0 r.1 in
     let is = site_at_side right n a.side r.0.position (list_on right r.0.disjunct.now) r.2 s a.position a.list r.3 in
@@ -100,8 +101,8 @@ made right n i cs p x e = (
   record { connector = e; position = refl; from = refl; end = refl },
 )
 
-served_supported : (right : Bool) (n : ℕ) (ms : List Member) (table : List (List Site)) → ((s : Site) → Holds n table s → HasSite (not right) n ms s)
-    → ((s : Site) → HasSite (not right) n ms s → IsHeld n table s) → (i : ℕ) (a : Disjunct)
+served_supported : (right : Bool) (n : ℕ) (ms : List Member) (table : Table Site) → ((s : Site) → Holds table s → HasSite (not right) n ms s)
+    → ((s : Site) → HasSite (not right) n ms s → IsHeld table s) → (i : ℕ) (a : Disjunct)
     → IsServed right n table i (list_on right a) ↔ IsSupportedOn right n (Have ms) i a
 served_supported right n ms table has held i a = (
   (λ served p h.
@@ -121,7 +122,7 @@ served_supported right n ms table has held i a = (
 )
 
 -- a side is good where each of its connectors has a partner
-good_supported : (right : Bool) (n : ℕ) (sides others : List Side) (ms : List Member) (used used_others : List Bool) (table : List (List Site)) (good : List Bool)
+good_supported : (right : Bool) (n : ℕ) (sides others : List Side) (ms : List Member) (used used_others : List Bool) (table : Table Site) (good : List Bool)
     → ((m : Member) → Contains ms m → IsSideAt sides (side_on right m) m.position (list_on right m.disjunct.now))
     → ((m : Member) → Contains ms m → IsSideAt others (side_on (not right) m) m.position (list_on (not right) m.disjunct.now))
     → AreUsed right (length sides) ms used → AreUsed (not right) (length others) ms used_others → IsTableOf (not right) n others used_others table → AreServed right n table sides used good
@@ -141,7 +142,7 @@ is_on [] k = ((λ e. absurd cc), (λ e. absurd cc))
 is_on (b ∷ good) zero = ((λ e. ap (λ z. Some z) e), (λ e. same_Some b true e))
 is_on (b ∷ good) (suc k) = is_on good k
 
-pub round_keeps : (n : ℕ) (lefts rights : List Side) (ms new : List Member) (lu ru lg rg : List Bool) (lt rt : List (List Site)) → All (IsKnown lefts rights) ms
+pub round_keeps : (n : ℕ) (lefts rights : List Side) (ms new : List Member) (lu ru lg rg : List Bool) (lt rt : Table Site) → All (IsKnown lefts rights) ms
     → AreUsed false (length lefts) ms lu → AreUsed true (length rights) ms ru → IsTableOf false n lefts lu lt → IsTableOf true n rights ru rt
     → AreServed false n rt lefts lu lg → AreServed true n lt rights ru rg → Keeps (are_on lg rg) ms new → KeepsSupported n ms new
 round_keeps n lefts rights ms new lu ru lg rg lt rt known ul ur tl tr gl gr keeps =

@@ -1,8 +1,7 @@
 -- Sites: connectors with the positions where their links may end, and tables of sites.
-use Rattle.std.specs.Prelude.{◌≡◌, ◌↔◌, ℕ, ◌+◌, ◌-◌, ◌*◌, ◌%◌, ◌<◌, ◌≤◌, min, Bool, true, cond, List, length, map, fold, Some, slice_get, ◌⊎◌}
-use Rattle.std.specs.List.{Contains}
-use Rattle.std.specs.Global.{Vec}
+use Rattle.std.specs.Prelude.{◌≡◌, ◌↔◌, ℕ, ◌+◌, ◌-◌, ◌<◌, ◌≤◌, Bool, true, cond, List, length, Some, slice_get, ◌⊎◌}
 use Rattle.lg_gram.specs.Connectors.{Connector, Match}
+use Rattle.lg_member.specs.Cells.{Table, Stands, class_of}
 use Rattle.lg_member.specs.declared.side.Side.{Side}
 use Rattle.lg_pprune.specs.declared.site.Site.{Site}
 
@@ -33,24 +32,13 @@ pub record IsWider (wide s : Site) : Type 0 where
   pub from : wide.from ≤ s.from
   pub end : s.end ≤ wide.end
 
--- the class of some capital letters
-abbrev pub class_of : List ℕ → ℕ
-class_of caps = fold (λ n c. (n * 31 + c) % 64) 0 caps
-
--- A table for n positions has a cell for each position and class, and one more row for positions past the last.
-abbrev pub cells : ℕ → ℕ
-cells n = (n + 1) * 64
-
-abbrev pub cell_at : ℕ → ℕ → ℕ → ℕ
-cell_at n i class = min i n * 64 + class
-
 -- a table has the site in the cell of its position and its capital letters
-abbrev pub Holds : ℕ → List (List Site) → Site → Type 0
-Holds n table s = (cell : List Site) × (slice_get table (cell_at n s.position (class_of s.connector.caps)) ≡ Some cell) × Contains cell s
+abbrev pub Holds : Table Site → Site → Type 0
+Holds table s = Stands table s.position (class_of s.connector.caps) s
 
 -- a table has a site that is as wide
-abbrev pub IsHeld : ℕ → List (List Site) → Site → Type 0
-IsHeld n table s = (wide : Site) × Holds n table wide × IsWider wide s
+abbrev pub IsHeld : Table Site → Site → Type 0
+IsHeld table s = (wide : Site) × Holds table wide × IsWider wide s
 
 -- a site of a side of that number that is used
 pub record IsUsed (right : Bool) (n : ℕ) (sides : List Side) (used : List Bool) (k : ℕ) (s : Site) : Type 0 where
@@ -62,13 +50,13 @@ pub record IsUsed (right : Bool) (n : ℕ) (sides : List Side) (used : List Bool
   pub is : IsSiteOf right n side.position side.list.now place s
 
 -- the table has sites of the sides that are used, and no others, and for each of these one that is as wide
-pub record IsTableOf (right : Bool) (n : ℕ) (sides : List Side) (used : List Bool) (table : List (List Site)) : Type 0 where
-  pub only : (s : Site) → Holds n table s → (k : ℕ) × IsUsed right n sides used k s
-  pub held : (s : Site) (k : ℕ) → IsUsed right n sides used k s → IsHeld n table s
+pub record IsTableOf (right : Bool) (n : ℕ) (sides : List Side) (used : List Bool) (table : Table Site) : Type 0 where
+  pub only : (s : Site) → Holds table s → (k : ℕ) × IsUsed right n sides used k s
+  pub held : (s : Site) (k : ℕ) → IsUsed right n sides used k s → IsHeld table s
 
 -- a site meets one of the table
-abbrev pub HasPartner : Bool → ℕ → List (List Site) → Site → Type 0
-HasPartner right n table s = (other : Site) × Holds n table other × MeetsOn right s other
+abbrev pub HasPartner : Bool → Table Site → Site → Type 0
+HasPartner right table s = (other : Site) × Holds table other × MeetsOn right s other
 
 -- the same, one of this position
 pub record MeetsAt (right : Bool) (i : ℕ) (s other : Site) : Type 0 where
@@ -76,26 +64,15 @@ pub record MeetsAt (right : Bool) (i : ℕ) (s other : Site) : Type 0 where
   pub meets : MeetsOn right s other
 
 -- each site of the list meets one of the table
-abbrev pub IsServed : Bool → ℕ → List (List Site) → ℕ → List Connector → Type 0
-IsServed right n table i cs = (p : ℕ) (s : Site) → IsSiteOf right n i cs p s → HasPartner right n table s
+abbrev pub IsServed : Bool → ℕ → Table Site → ℕ → List Connector → Type 0
+IsServed right n table i cs = (p : ℕ) (s : Site) → IsSiteOf right n i cs p s → HasPartner right table s
 
 -- of the sides that are used, those that are served
-pub record AreServed (right : Bool) (n : ℕ) (table : List (List Site)) (sides : List Side) (used good : List Bool) : Type 0 where
+pub record AreServed (right : Bool) (n : ℕ) (table : Table Site) (sides : List Side) (used good : List Bool) : Type 0 where
   pub each : (k : ℕ) (s : Side) → slice_get sides k ≡ Some s → slice_get used k ≡ Some true → (slice_get good k ≡ Some true) ↔ IsServed right n table s.position s.list.now
 
--- a cell keeps its sites, gets no other than this one, and has one that is as wide
-pub record AddsTo (s : Site) (old new : List Site) : Type 0 where
-  pub kept : (x : Site) → Contains old x → Contains new x
-  pub only : (x : Site) → Contains new x → Contains old x ⊎ (s ≡ x)
-  pub held : (wide : Site) × Contains new wide × IsWider wide s
-
 -- a table keeps its sites, gets none but those of the first places of a list, and has for each of these one that is as wide
-pub record AddsSites (right : Bool) (n i : ℕ) (cs : List Connector) (places : ℕ) (old new : List (List Site)) : Type 0 where
-  pub long : length new ≡ length old
-  pub kept : (x : Site) → Holds n old x → Holds n new x
-  pub only : (x : Site) → Holds n new x → Holds n old x ⊎ ((p : ℕ) × (p < places) × IsSiteOf right n i cs p x)
-  pub held : (p : ℕ) (s : Site) → p < places → IsSiteOf right n i cs p s → IsHeld n new s
-
--- the sites of the cells
-abbrev pub table_in : List (Vec Site) → List (List Site)
-table_in table = map (λ v. v.items) table
+pub record AddsSites (right : Bool) (n i : ℕ) (cs : List Connector) (places : ℕ) (old new : Table Site) : Type 0 where
+  pub kept : (x : Site) → Holds old x → Holds new x
+  pub only : (x : Site) → Holds new x → Holds old x ⊎ ((p : ℕ) × (p < places) × IsSiteOf right n i cs p x)
+  pub held : (p : ℕ) (s : Site) → p < places → IsSiteOf right n i cs p s → IsHeld new s

@@ -3,7 +3,7 @@ ghost use Rattle.std.specs.Prelude.{◌≡◌, ◌<◌, ◌↔◌, length, IsTru
 ghost use Rattle.lg_pprune.specs.Sites.{IsSiteOf, IsWider, Meets, MeetsAt, MeetsOn};
 
 use lg_gram::{Connector, matches};
-use lg_member::Side;
+use lg_member::{Side, Wide};
 
 /// A connector at a position, and the positions where its link may end: from one of them up to the end, which is none of
 /// them.
@@ -68,14 +68,20 @@ fn meets(a: &Site, b: &Site) -> bool
         && matches(&a.connector, &b.connector)
 }
 
-/// Whether what meets the second site meets the first too.
-pub(crate) fn is_wider(wide: &Site, site: &Site) -> bool
-    ensures { IsTrue result ↔ IsWider wide.now site.now }
-{
-    wide.position == site.position
-        && wide.from <= site.from
-        && site.end <= wide.end
-        && is_same_connector(&wide.connector, &site.connector)
+impl Wide for Site {
+    ghost use Rattle.std.proofs.Common.{arith, refl};
+
+    ghost wider = { IsWider };
+
+    /// Whether what meets the other site meets this one too.
+    fn is_wider(&self, site: &Site) -> bool {
+        self.position == site.position
+            && self.from <= site.from
+            && site.end <= self.end
+            && is_same_connector(&self.connector, &site.connector)
+    }
+
+    ghost itself = { λ s. record { connector = refl; position = refl; from = omega arith; end = omega arith } };
 }
 
 fn is_same_connector(a: &Connector, b: &Connector) -> bool

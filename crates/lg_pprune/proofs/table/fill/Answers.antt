@@ -1,16 +1,11 @@
 use Rattle.std.proofs.Common.{◌+◌, ◌<◌, length, sym, subst, arith, ap, ◌∙◌, Some, refl, false}
-use Rattle.std.proofs.lemmas.List.{length-map}
 use Rattle.std.proofs.lemmas.Option.{slice_get_read, slice_get-get_or}
-use Rattle.lg_pprune.specs.Sites.{table_in}
-use Rattle.lg_pprune.proofs.Tables.{TableSoFar, items_of, table_none, table_used, table_unused, table_all}
+use Rattle.lg_pprune.proofs.Tables.{TableSoFar, table_none, table_used, table_unused, table_all}
 use Rattle.lg_pprune.proofs.table.fill.Goals as goal
 use Rattle.lg_pprune.proofs.table.fill.Goals.{then-used-index+in_ok-push_sites, else-used-index}
 
 pub loop-index-init : goal.loop-index-init
-loop-index-init c = table_none c.args.right c.args.words c.args.sides.now c.args.used.now c.args.table.now c.requires.long c.requires.none
-
-pub push_sites-requires : goal.push_sites-requires
-push_sites-requires c = let a = c.loop-index.invariant.long in let b = length-map c.loop-index.table items_of in omega arith
+loop-index-init c = table_none c.args.right c.args.words c.args.sides.now c.args.used.now c.args.table.now c.requires.none
 
 pub loop-index-preserved : goal.loop-index-preserved
 loop-index-preserved c =
@@ -18,12 +13,12 @@ loop-index-preserved c =
     let e = c.requires.same_length in
     let l : c.loop-index.index < length c.args.used.now = omega arith in
     elim c.if-used-index.branch [
-      | then-used-index+in_ok-push_sites w ↦ subst (λ z. TableSoFar c.args.right c.args.words c.args.sides.now c.args.used.now (c.loop-index.index + 1) (table_in z)) (sym w.table-is)
-          (table_used c.args.right c.args.words c.args.sides.now c.args.used.now c.loop-index.index (table_in c.loop-index.table) (table_in w.push_sites.new.table) w.index-sides-index.result
+      | then-used-index+in_ok-push_sites w ↦ subst (λ z. TableSoFar c.args.right c.args.words c.args.sides.now c.args.used.now (c.loop-index.index + 1) z) (sym w.table-is)
+          (table_used c.args.right c.args.words c.args.sides.now c.args.used.now c.loop-index.index c.loop-index.table w.push_sites.new.table w.index-sides-index.result
           (slice_get_read c.args.sides.now (length c.args.sides.now) c.loop-index.index w.index-sides-index.result refl h w.index-sides-index.is) (slice_get-get_or c.args.used.now c.loop-index.index false l ∙ ap (λ z. Some z) w.if-used-index.true) c.loop-index.invariant w.in_ok-push_sites.ensures)
-      | else-used-index w ↦ subst (λ z. TableSoFar c.args.right c.args.words c.args.sides.now c.args.used.now (c.loop-index.index + 1) (table_in z)) (sym w.table-is)
-          (table_unused c.args.right c.args.words c.args.sides.now c.args.used.now c.loop-index.index (table_in c.loop-index.table) (slice_get-get_or c.args.used.now c.loop-index.index false l ∙ ap (λ z. Some z) w.if-used-index.false) c.loop-index.invariant)
+      | else-used-index w ↦ subst (λ z. TableSoFar c.args.right c.args.words c.args.sides.now c.args.used.now (c.loop-index.index + 1) z) (sym w.table-is)
+          (table_unused c.args.right c.args.words c.args.sides.now c.args.used.now c.loop-index.index c.loop-index.table (slice_get-get_or c.args.used.now c.loop-index.index false l ∙ ap (λ z. Some z) w.if-used-index.false) c.loop-index.invariant)
     ]
 
 pub returns : goal.returns
-returns c = table_all c.args.right c.args.words c.args.sides.now c.args.used.now c.loop-index.index (table_in c.loop-index.table) c.loop-index-test.false c.loop-index.invariant
+returns c = table_all c.args.right c.args.words c.args.sides.now c.args.used.now c.loop-index.index c.loop-index.table c.loop-index-test.false c.loop-index.invariant
