@@ -48,7 +48,7 @@ impl<S: Wide> Cells<S> {
         Ok(Cells { words, cells })
     }
 
-    /// The sites of a position and a class.
+    /// The sites in the cell of a position and a class, which `class_of` gives.
     pub fn at(&self, position: usize, class: usize) -> &[S]
         requires { class < CLASSES }
         ensures { (site : S) → Contains result.now site ↔ Stands self.now position class site }

@@ -1,6 +1,7 @@
 //! The members of a problem: its disjuncts, each with its position and the numbers of its two lists.
 //!
-//! What takes disjuncts away works over members, since many of them share a list, and writes those that are left by position.
+//! What takes disjuncts away works over members, since many of them share a list, and writes those that are left by position. It
+//! finds partners of connectors in tables of sites, whose cells are by position and by capital letters.
 #![tactic(auto)]
 
 pub mod cells;
