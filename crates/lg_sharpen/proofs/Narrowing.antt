@@ -11,6 +11,7 @@ use Rattle.lg_gram.specs.Rules.{HasLink}
 use Rattle.lg_gram.specs.declared.linkage.Link.{Link}
 use Rattle.lg_sharpen.specs.Sites.{own, place_on, across, MatchOn, Holds, HasPartner, IsFrom, IsBelow, IsFromOf, IsEndOf, IsAfter, IsAhead}
 use Rattle.lg_sharpen.specs.Bounds.{Fits, Allows, Covers, AllowsAll, IsNarrowed, Narrows, NarrowsAll}
+use Rattle.lg_member.specs.Cells.{Table}
 use Rattle.lg_member.specs.declared.side.Side.{Side}
 use Rattle.lg_sharpen.specs.declared.site.Site.{Site}
 use Rattle.lg_sharpen.proofs.Ends.{longer, joined, is_across, short_on, covered}
@@ -19,7 +20,7 @@ match_same : (right : Bool) (a b c d : Connector) → a ≡ c → b ≡ d → Ma
 match_same right a b c d e f m = subst (λ z. MatchOn right z d) e (subst (λ z. MatchOn right a z) f m)
 
 -- a link has a partner of its site in the table, over its length
-has_partner : (right : Bool) (most i : ℕ) (table : List (List Site)) (g : Linkage) → Fits most g → AllowsAll g (not right) table → (l : Link) → HasLink g l → own right l ≡ i → (s asked : Site)
+has_partner : (right : Bool) (most i : ℕ) (table : Table Site) (g : Linkage) → Fits most g → AllowsAll g (not right) table → (l : Link) → HasLink g l → own right l ≡ i → (s asked : Site)
     → Allows g right l s → asked.connector ≡ s.connector → asked.nearest ≡ s.nearest → HasPartner right most i table asked (link_length l)
 has_partner right most i table g f all l h o s asked a ec en =
     let u = all l h in
@@ -37,7 +38,7 @@ has_partner right most i table g f all l h o s asked a ec en =
       },
     )
 
-pub narrowed_is : (right : Bool) (most i : ℕ) (table : List (List Site)) (sites : List Site) (p : ℕ) (s asked r : Site) → slice_get sites p ≡ Some s → IsFromOf sites p asked.span.from → IsEndOf sites p asked.span.end
+pub narrowed_is : (right : Bool) (most i : ℕ) (table : Table Site) (sites : List Site) (p : ℕ) (s asked r : Site) → slice_get sites p ≡ Some s → IsFromOf sites p asked.span.from → IsEndOf sites p asked.span.end
     → asked.connector ≡ s.connector → asked.nearest ≡ s.nearest → IsFrom right most i table asked r.span.from → IsBelow right most i table asked r.span.end → r.connector ≡ s.connector → r.nearest ≡ s.nearest
     → IsNarrowed right most i table sites p r
 narrowed_is right most i table sites p s asked r at from end ec en first last rc rn g f all cov l h o pl =
@@ -68,7 +69,7 @@ narrowed_is right most i table sites p s asked r at from end ec en first last rc
       nearest = λ x. let n = a.nearest (sym rn ∙ x) in (n.0, ap (λ z. z.multi) rc ∙ n.1);
     }
 
-pub narrow_set : (right : Bool) (most i : ℕ) (table : List (List Site)) (old now : List Site) (p : ℕ) (r : Site) → p < length now → IsNarrowed right most i table now p r → Narrows right most i table old now
+pub narrow_set : (right : Bool) (most i : ℕ) (table : Table Site) (old now : List Site) (p : ℕ) (r : Site) → p < length now → IsNarrowed right most i table now p r → Narrows right most i table old now
     → Narrows right most i table old (set now p r)
 narrow_set right most i table old now p r w is n g f a c =
     let v = n g f a c in
@@ -80,10 +81,10 @@ narrow_set right most i table old now p r w is n g f a c =
       ];
     }
 
-pub narrows_none : (right : Bool) (most : ℕ) (sides : List Side) (table lists : List (List Site)) → NarrowsAll right most sides table lists lists
+pub narrows_none : (right : Bool) (most : ℕ) (sides : List Side) (table : Table Site) (lists : List (List Site)) → NarrowsAll right most sides table lists lists
 narrows_none right most sides table lists = record { long = refl; each = λ g f a k side at c. c }
 
-pub narrows_more : (right : Bool) (most : ℕ) (sides : List Side) (table old now : List (List Site)) (k : ℕ) (side : Side) (u w : List Site) → slice_get sides k ≡ Some side → slice_get now k ≡ Some u
+pub narrows_more : (right : Bool) (most : ℕ) (sides : List Side) (table : Table Site) (old now : List (List Site)) (k : ℕ) (side : Side) (u w : List Site) → slice_get sides k ≡ Some side → slice_get now k ≡ Some u
     → Narrows right most side.position table u w → NarrowsAll right most sides table old now → NarrowsAll right most sides table old (set now k w)
 narrows_more right most sides table old now k side u w at is n all = record {
   long = length-set now k w ∙ all.long;
@@ -101,22 +102,22 @@ narrows_more right most sides table old now k side u w at is n all = record {
 }
 
 -- the length stays while sites are narrowed
-pub record NarrowsSame (right : Bool) (most i : ℕ) (table : List (List Site)) (old now : List Site) : Type 0 where
+pub record NarrowsSame (right : Bool) (most i : ℕ) (table : Table Site) (old now : List Site) : Type 0 where
   pub long : length now ≡ length old
   pub narrows : Narrows right most i table old now
 
-pub same_none : (right : Bool) (most i : ℕ) (table : List (List Site)) (sites : List Site) → NarrowsSame right most i table sites sites
+pub same_none : (right : Bool) (most i : ℕ) (table : Table Site) (sites : List Site) → NarrowsSame right most i table sites sites
 same_none right most i table sites = record { long = refl; narrows = λ g f a c. c }
 
-pub same_more : (right : Bool) (most i : ℕ) (table : List (List Site)) (old now : List Site) (p : ℕ) (r : Site) → p < length now → IsNarrowed right most i table now p r → NarrowsSame right most i table old now
+pub same_more : (right : Bool) (most i : ℕ) (table : Table Site) (old now : List Site) (p : ℕ) (r : Site) → p < length now → IsNarrowed right most i table now p r → NarrowsSame right most i table old now
     → NarrowsSame right most i table old (set now p r)
 same_more right most i table old now p r w is n = record { long = length-set now p r ∙ n.long; narrows = narrow_set right most i table old now p r w is n.narrows }
 
 -- no partner is nearer, and none is as far
-abbrev pub NoneBelow : Bool → ℕ → ℕ → List (List Site) → Site → ℕ → Type 0
+abbrev pub NoneBelow : Bool → ℕ → ℕ → Table Site → Site → ℕ → Type 0
 NoneBelow right most i table s e = (d : ℕ) → d < e → s.span.from ≤ d → HasPartner right most i table s d → ⊥
 
-pub none_more : (right : Bool) (most i : ℕ) (table : List (List Site)) (s : Site) (e : ℕ) (b : Bool) → (HasPartner right most i table s e → b ≡ true) → b ≡ false → NoneBelow right most i table s e
+pub none_more : (right : Bool) (most i : ℕ) (table : Table Site) (s : Site) (e : ℕ) (b : Bool) → (HasPartner right most i table s e → b ≡ true) → b ≡ false → NoneBelow right most i table s e
     → NoneBelow right most i table s (e + 1)
 none_more right most i table s e b found no' n d w from has =
     elim (cases_lt d e) [
@@ -124,16 +125,16 @@ none_more right most i table s e b found no' n d w from has =
       | inr h ↦ (let q : d ≡ e = omega arith in let f : ◌≡◌ {A = Bool} true false = sym (found (subst (λ z. HasPartner right most i table s z) q has)) ∙ no' in absurd cc)
     ]
 
-pub none_below : (right : Bool) (most i : ℕ) (table : List (List Site)) (s : Site) (e : ℕ) → NoneBelow right most i table s e → IsFrom right most i table s e
+pub none_below : (right : Bool) (most i : ℕ) (table : Table Site) (s : Site) (e : ℕ) → NoneBelow right most i table s e → IsFrom right most i table s e
 none_below right most i table s e n d w from has = elim (cases_lt d e) [ inl h ↦ absurd (n d h from has) | inr h ↦ h ]
 
-pub none_at_all : (right : Bool) (most i : ℕ) (table : List (List Site)) (s : Site) (e : ℕ) → s.span.end ≤ e → NoneBelow right most i table s e → IsFrom right most i table s s.span.end
+pub none_at_all : (right : Bool) (most i : ℕ) (table : Table Site) (s : Site) (e : ℕ) → s.span.end ≤ e → NoneBelow right most i table s e → IsFrom right most i table s s.span.end
 none_at_all right most i table s e h n d w from has = absurd (n d (omega arith) from has)
 
-abbrev pub NoneFrom : Bool → ℕ → ℕ → List (List Site) → Site → ℕ → Type 0
+abbrev pub NoneFrom : Bool → ℕ → ℕ → Table Site → Site → ℕ → Type 0
 NoneFrom right most i table s e = (d : ℕ) → d < s.span.end → e ≤ d → s.span.from ≤ d → HasPartner right most i table s d → ⊥
 
-pub none_before : (right : Bool) (most i : ℕ) (table : List (List Site)) (s : Site) (e : ℕ) (b : Bool) → s.span.from < e → (HasPartner right most i table s (e - 1) → b ≡ true) → b ≡ false
+pub none_before : (right : Bool) (most i : ℕ) (table : Table Site) (s : Site) (e : ℕ) (b : Bool) → s.span.from < e → (HasPartner right most i table s (e - 1) → b ≡ true) → b ≡ false
     → NoneFrom right most i table s e → NoneFrom right most i table s (e - 1)
 none_before right most i table s e b above found no' n d w g from has =
     elim (cases_lt d e) [
@@ -141,7 +142,7 @@ none_before right most i table s e b above found no' n d w g from has =
       | inr h ↦ n d w h from has
     ]
 
-pub none_from : (right : Bool) (most i : ℕ) (table : List (List Site)) (s : Site) (e : ℕ) → NoneFrom right most i table s e → IsBelow right most i table s e
+pub none_from : (right : Bool) (most i : ℕ) (table : Table Site) (s : Site) (e : ℕ) → NoneFrom right most i table s e → IsBelow right most i table s e
 none_from right most i table s e n d w from has = elim (cases_lt d e) [ inl h ↦ h | inr h ↦ absurd (n d w h from has) ]
 
 -- the distances that the sites beside a place leave

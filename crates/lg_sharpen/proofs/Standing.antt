@@ -10,6 +10,7 @@ use Rattle.lg_gram.specs.Rules.{HasLink, chosen_at}
 use Rattle.lg_gram.specs.declared.disjunct.Disjunct.{Disjunct}
 use Rattle.lg_gram.specs.declared.linkage.Link.{Link}
 use Rattle.lg_sharpen.specs.Sites.{own, place_on, Holds, IsWider, IsTableOf, AreStartedAll}
+use Rattle.lg_member.specs.Cells.{Table}
 use Rattle.lg_member.specs.Laws.{MembersGoByRounds}
 use Rattle.lg_member.specs.Members.{list_on, side_on, IsSideAt, IsKnown, AreUsed, Keeps, are_on}
 use Rattle.lg_sharpen.specs.Bounds.{list_at, Fits, Allows, Covers, AllowsAll, NarrowsAll, IsOpen, AreOpen, AreChosen, CoversAll, KeepsStanding, KeepsChosen}
@@ -65,7 +66,7 @@ at_member g right i d sides m e ei ed s =
     let p = s.position ∙ ei in
     (p, ap (λ z. list_at right g z) p ∙ list_of g right i d e ∙ ap (λ z. list_on right z) (sym ed) ∙ sym s.list)
 
-allows_all : (most : ℕ) (g : Linkage) → Fits most g → (right : Bool) (sides : List Side) (lists table : List (List Site)) (ms : List Member) (used : List Bool) → AreChosen g ms
+allows_all : (most : ℕ) (g : Linkage) → Fits most g → (right : Bool) (sides : List Side) (lists : List (List Site)) (table : Table Site) (ms : List Member) (used : List Bool) → AreChosen g ms
     → ((m : Member) → Contains ms m → IsSideAt sides (side_on right m) m.position (list_on right m.disjunct.now)) → AreUsed right (length sides) ms used → IsTableOf sides used lists table → CoversAll g right sides lists
     → AllowsAll g right table
 allows_all most g f right sides lists table ms used chosen known u t covers l h =
@@ -97,7 +98,7 @@ is_flagged most g f right i d sides lists flags m e ei ed s covers are =
     let c = covers (side_on right m) s.side s.at at.1 in
     get_or_from_slice_get flags (side_on right m) true false (are.each (side_on right m) c.0 c.1 (all_open most g f right s.side.position c.0 c.2))
 
-pub round_keeps : (most : ℕ) (lefts rights : List Side) (ll rl ll' rl' lt rt : List (List Site)) (ms new : List Member) (lu ru lo ro : List Bool) → All (IsKnown lefts rights) ms → AreUsed false (length lefts) ms lu
+pub round_keeps : (most : ℕ) (lefts rights : List Side) (ll rl ll' rl' : List (List Site)) (lt rt : Table Site) (ms new : List Member) (lu ru lo ro : List Bool) → All (IsKnown lefts rights) ms → AreUsed false (length lefts) ms lu
     → AreUsed true (length rights) ms ru → IsTableOf lefts lu ll lt → NarrowsAll true most rights lt rl rl' → IsTableOf rights ru rl' rt → NarrowsAll false most lefts rt ll ll' → AreOpen ll' lo → AreOpen rl' ro
     → Keeps (are_on lo ro) ms new → KeepsStanding most lefts rights ll rl ms ll' rl' new
 round_keeps most lefts rights ll rl ll' rl' lt rt ms new lu ru lo ro known ul ur tl nr tr nl ol or' keeps =

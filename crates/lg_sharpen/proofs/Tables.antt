@@ -1,18 +1,17 @@
 -- What tables of sites hold.
-use Rattle.std.proofs.Common.{◌≡◌, ℕ, ◌+◌, ◌<◌, ◌≤◌, List, [], ◌∷◌, ◌++◌, length, length-append, get_or, set, refl, sym, ap, ◌∙◌, subst, ◌↔◌, Some, inl, inr, Bool, true, false, Contains, arith}
+use Rattle.std.proofs.Common.{◌≡◌, ℕ, ◌+◌, ◌<◌, ◌≤◌, List, [], ◌∷◌, ◌++◌, length, length-append, get_or, refl, sym, ap, ◌∙◌, subst, ◌↔◌, Some, inl, inr, Bool, true, false, Contains, arith}
 use Rattle.std.specs.Global.{Vec}
 use Rattle.std.specs.List.{slice_get, Any}
 use Rattle.std.specs.Option.{option_map}
 use Rattle.std.proofs.lemmas.Grind.{elements}
-use Rattle.std.proofs.lemmas.Bool.{cases_eq, cases_lt}
+use Rattle.std.proofs.lemmas.Bool.{cases_lt}
 use Rattle.std.proofs.lemmas.Option.{same_Some, slice_get_within, slice_get_read, slice_get-map}
-use Rattle.std.proofs.lemmas.List.{length-set, length-map, map-set, map-append}
-use Rattle.std.proofs.lemmas.List.Elements.{Contains-append_left, Contains-push}
-use Rattle.lg_sharpen.specs.Sites.{MeetsOver, IsWider, cell_of, across, Holds, IsHeld, AddsTo, AddsSites, IsTableOf, HasPartner, IsStarted, AreStarted, AreStartedAll, IsReach, items_in}
-use Rattle.lg_member.specs.declared.side.Side.{Side}
-use Rattle.lg_sharpen.specs.declared.site.Site.{Site}
-use Rattle.lg_sharpen.specs.declared.table.TheConstants.{CELLS}
+use Rattle.std.proofs.lemmas.List.{map-append}
 use Rattle.lg_gram.specs.Connectors.{Connector}
+use Rattle.lg_member.specs.Cells.{Table, Stands, Adds, class_of}
+use Rattle.lg_member.specs.declared.side.Side.{Side}
+use Rattle.lg_sharpen.specs.Sites.{MeetsOver, IsWider, across, IsHeld, AddsSites, IsTableOf, HasPartner, IsStarted, AreStarted, AreStartedAll, IsReach, items_in}
+use Rattle.lg_sharpen.specs.declared.site.Site.{Site}
 
 abbrev pub items_of : Vec Site → List Site
 items_of v = v.items
@@ -20,69 +19,39 @@ items_of v = v.items
 pub list_in : (table : List (Vec Site)) (k : ℕ) (v : Vec Site) → k < length table → v ≡ get_or table k v → slice_get (items_in table) k ≡ Some v.items
 list_in table k v h e = slice_get-map items_of table k ∙ ap (option_map items_of) (slice_get_read table (length table) k v refl h e)
 
--- one site more in a cell
-pub adds_none : (s : Site) (old : List Site) → Any (λ w. IsWider w s) old → AddsTo s old old
-adds_none s old (k, w, l, e, is) = record { kept = λ x c. c; held = (w, (k, l, e), is) }
+-- a site that is as wide stands in the same cell
+held_in : (table : Table Site) (i : ℕ) (s : Site) → (w : Site) × Stands table i (class_of s.connector.caps) w × IsWider w s → IsHeld table i s
+held_in table i s (w, h, is) = (w, subst (λ z. Stands table i (class_of z.caps) w) (sym is.connector) h, is)
 
-pub adds_one : (s : Site) (old new : List Site) → new ≡ old ++ s ∷ [] → AddsTo s old new
-adds_one s old new e = record {
-  kept = λ x c. subst (λ z. Contains z x) (sym e) (Contains-append_left old (s ∷ []) x c);
-  held = (s, subst (λ z. Contains z s) (sym e) (Contains-push old s), record { from = omega arith; end = omega arith; nearest = λ n. n; connector = refl });
-}
-
--- what a table holds stays, where a cell grows
-holds_kept : (T : List (List Site)) (k : ℕ) (b b' : List Site) → slice_get T k ≡ Some b → ((x : Site) → Contains b x → Contains b' x) → (j : ℕ) (x : Site) → Holds T j x → Holds (set T k b') j x
-holds_kept T k b b' e kept j x h =
-    elim (cases_eq k (cell_of j x.connector.caps)) [
-      | inl q ↦ (
-        b',
-        (let c = cell_of j x.connector.caps in let l = slice_get_within T k b e in let t : slice_get (set T k b') c ≡ Some b' = grind (arith, elements) in t),
-        kept x (subst (λ z. Contains z x) (same_Some h.0 b (sym h.1 ∙ subst (λ z. slice_get T z ≡ Some b) q e)) h.2),
-      )
-      | inr n ↦ (let c = cell_of j x.connector.caps in let t : slice_get (set T k b') c ≡ slice_get T c = grind (arith, elements) in (h.0, t ∙ h.1, h.2))
-    ]
-
-sites_more : (i : ℕ) (sites : List Site) (p : ℕ) (old now : List (List Site)) (s : Site) (b b' : List Site) (k : ℕ) → slice_get sites p ≡ Some s → k ≡ cell_of i s.connector.caps → slice_get now k ≡ Some b → AddsTo s b b'
-    → AddsSites i sites p old now → AddsSites i sites (p + 1) old (set now k b')
-sites_more i sites p old now s b b' k at ek e add a = record {
-  long = length-set now k b' ∙ a.long;
-  kept = λ j x h. holds_kept now k b b' e add.kept j x (a.kept j x h);
+pub sites_more : (i : ℕ) (sites : List Site) (p : ℕ) (old now new : Table Site) (s : Site) → slice_get sites p ≡ Some s → Adds IsWider i (class_of s.connector.caps) s now new → AddsSites i sites p old now
+    → AddsSites i sites (p + 1) old new
+sites_more i sites p old now new s at add a = record {
+  kept = λ j x h. add.kept j (class_of x.connector.caps) x (a.kept j x h);
   each = λ q t l atq.
       elim (cases_lt q p) [
-        | inl h ↦ (let r = a.each q t h atq in (r.0, holds_kept now k b b' e add.kept i r.0 r.1, r.2))
+        | inl h ↦ (let r = a.each q t h atq in (r.0, add.kept i (class_of r.0.connector.caps) r.0 r.1, r.2))
         | inr h ↦ (let eq : q ≡ p = omega arith in
             let es : s ≡ t = same_Some s t (sym at ∙ subst (λ z. slice_get sites z ≡ Some t) eq atq) in
-            let w = add.held in
-            let ew : k ≡ cell_of i w.0.connector.caps = ek ∙ ap (λ z. cell_of i z.caps) (sym w.2.connector) in
-            let l = slice_get_within now k b e in
-            let new : slice_get (set now k b') k ≡ Some b' = grind (arith, elements) in
-            (w.0, (b', subst (λ z. slice_get (set now k b') z ≡ Some b') ew new, w.1), subst (λ z. IsWider w.0 z) es w.2))
+            subst (λ z. IsHeld new i z) es (held_in new i s add.held))
       ];
 }
 
-pub sites_step : (i : ℕ) (sites : List Site) (p : ℕ) (old : List (List Site)) (table : List (Vec Site)) (k : ℕ) (v w : Vec Site) (s : Site) → k ≡ cell_of i s.connector.caps → k < length table → v ≡ get_or table k v
-    → slice_get sites p ≡ Some s → AddsTo s v.items w.items → AddsSites i sites p old (items_in table) → AddsSites i sites (p + 1) old (items_in (set table k w))
-sites_step i sites p old table k v w s ek h ev at add a =
-    subst (λ z. AddsSites i sites (p + 1) old z) (sym (map-set items_of table k w)) (sites_more i sites p old (items_in table) s v.items w.items k at ek (list_in table k v h ev) add a)
+pub sites_none : (i : ℕ) (sites : List Site) (table : Table Site) → AddsSites i sites 0 table table
+sites_none i sites table = record { kept = λ j x h. h; each = λ p s l at. absurd (omega arith) }
 
-pub sites_none : (i : ℕ) (sites : List Site) (table : List (List Site)) → AddsSites i sites 0 table table
-sites_none i sites table = record { long = refl; kept = λ j x h. h; each = λ p s l at. absurd (omega arith) }
-
-pub sites_all : (i : ℕ) (sites : List Site) (p : ℕ) (old new : List (List Site)) → length sites ≤ p → AddsSites i sites p old new → AddsSites i sites (length sites) old new
-sites_all i sites p old new h a = record { long = a.long; kept = a.kept; each = λ q s l at. a.each q s (omega arith) at }
+pub sites_all : (i : ℕ) (sites : List Site) (p : ℕ) (old new : Table Site) → length sites ≤ p → AddsSites i sites p old new → AddsSites i sites (length sites) old new
+sites_all i sites p old new h a = record { kept = a.kept; each = λ q s l at. a.each q s (omega arith) at }
 
 -- the sites of the first lists of those in use
-pub record TableSoFar (sides : List Side) (used : List Bool) (lists : List (List Site)) (k : ℕ) (table : List (List Site)) : Type 0 where
-  pub long : length table ≡ CELLS
+pub record TableSoFar (sides : List Side) (used : List Bool) (lists : List (List Site)) (k : ℕ) (table : Table Site) : Type 0 where
   pub each : (j : ℕ) (side : Side) (sites : List Site) (p : ℕ) (s : Site) → j < k → slice_get sides j ≡ Some side → slice_get used j ≡ Some true → slice_get lists j ≡ Some sites → slice_get sites p ≡ Some s → IsHeld table side.position s
 
-pub table_none : (sides : List Side) (used : List Bool) (lists : List (List Site)) (items : List (Vec Site)) → length items ≡ CELLS → TableSoFar sides used lists 0 (items_in items)
-table_none sides used lists items long = record { long = length-map items items_of ∙ long; each = λ j side sites p s l. absurd (omega arith) }
+pub table_none : (sides : List Side) (used : List Bool) (lists : List (List Site)) (table : Table Site) → TableSoFar sides used lists 0 table
+table_none sides used lists table = record { each = λ j side sites p s l. absurd (omega arith) }
 
-pub table_used : (sides : List Side) (used : List Bool) (lists : List (List Site)) (k : ℕ) (old new : List (List Site)) (side : Side) (sites : List Site) → slice_get sides k ≡ Some side → slice_get lists k ≡ Some sites
+pub table_used : (sides : List Side) (used : List Bool) (lists : List (List Site)) (k : ℕ) (old new : Table Site) (side : Side) (sites : List Site) → slice_get sides k ≡ Some side → slice_get lists k ≡ Some sites
     → TableSoFar sides used lists k old → AddsSites side.position sites (length sites) old new → TableSoFar sides used lists (k + 1) new
 table_used sides used lists k old new side sites at is t a = record {
-  long = a.long ∙ t.long;
   each = λ j d ss p s l atj u isj atp.
       elim (cases_lt j k) [
         | inl h ↦ (let r = t.each j d ss p s h atj u isj atp in (r.0, a.kept d.position r.0 r.1, r.2))
@@ -94,10 +63,9 @@ table_used sides used lists k old new side sites at is t a = record {
       ];
 }
 
-pub table_unused : (sides : List Side) (used : List Bool) (lists : List (List Site)) (k : ℕ) (table : List (List Site)) → slice_get used k ≡ Some false → TableSoFar sides used lists k table
+pub table_unused : (sides : List Side) (used : List Bool) (lists : List (List Site)) (k : ℕ) (table : Table Site) → slice_get used k ≡ Some false → TableSoFar sides used lists k table
     → TableSoFar sides used lists (k + 1) table
 table_unused sides used lists k table no' t = record {
-  long = t.long;
   each = λ j d ss p s l atj u isj atp.
       elim (cases_lt j k) [
         | inl h ↦ t.each j d ss p s h atj u isj atp
@@ -105,7 +73,7 @@ table_unused sides used lists k table no' t = record {
       ];
 }
 
-pub table_all : (sides : List Side) (used : List Bool) (lists : List (List Site)) (k : ℕ) (table : List (List Site)) → length sides ≤ k → TableSoFar sides used lists k table → IsTableOf sides used lists table
+pub table_all : (sides : List Side) (used : List Bool) (lists : List (List Site)) (k : ℕ) (table : Table Site) → length sides ≤ k → TableSoFar sides used lists k table → IsTableOf sides used lists table
 table_all sides used lists k table h t j side sites p s at u is atp = let w = slice_get_within sides j side at in t.each j side sites p s (omega arith) at u is atp
 
 same_caps : (right : Bool) (most d : ℕ) (s x : Site) → MeetsOver right most d s x → x.connector.caps ≡ s.connector.caps
@@ -113,13 +81,11 @@ same_caps true most d s x m = sym m.match_at.capitals
 same_caps false most d s x m = m.match_at.capitals
 
 -- what meets a site stands in the cell of its capital letters
-pub partner_found : (right : Bool) (most i : ℕ) (table : List (Vec Site)) (s : Site) (d j k : ℕ) (v : Vec Site) (r : Bool) → j ≡ across right i d → k ≡ cell_of j s.connector.caps → k < length table → v ≡ get_or table k v
-    → ((r ≡ true) ↔ Any (MeetsOver right most d s) v.items) → HasPartner right most i (items_in table) s d → r ≡ true
-partner_found right most i table s d j k v r ej ek h ev found p =
-    let caps = same_caps right most d s p.0 p.2 in
-    let ec : cell_of (across right i d) p.0.connector.caps ≡ k = ap (λ z. cell_of (across right i d) z) caps ∙ ap (λ z. cell_of z s.connector.caps) (sym ej) ∙ sym ek in
-    let e : p.1.0 ≡ v.items = same_Some p.1.0 v.items (sym p.1.1 ∙ subst (λ z. slice_get (items_in table) z ≡ Some v.items) (sym ec) (list_in table k v h ev)) in
-    let c = subst (λ z. Contains z p.0) e p.1.2 in
+pub partner_found : (right : Bool) (most i : ℕ) (table : Table Site) (s : Site) (d j class : ℕ) (cell : List Site) (r : Bool) → j ≡ across right i d → class ≡ class_of s.connector.caps
+    → ((x : Site) → Contains cell x ↔ Stands table j class x) → ((r ≡ true) ↔ Any (MeetsOver right most d s) cell) → HasPartner right most i table s d → r ≡ true
+partner_found right most i table s d j class cell r ej ec at found p =
+    let e : class_of p.0.connector.caps ≡ class = ap class_of (same_caps right most d s p.0 p.2) ∙ sym ec in
+    let c = (at p.0).1 (subst (λ z. Stands table j z p.0) e (subst (λ z. Stands table z (class_of p.0.connector.caps) p.0) (sym ej) p.1)) in
     found.1 (c.0, p.0, c.1, c.2, p.2)
 
 -- the sites of a list before anything is known

@@ -7,6 +7,7 @@ use Rattle.lg_gram.specs.Rules.{Rules, IsConnected, IsLinked, HasLink, rights_of
 use Rattle.lg_gram.specs.Walks.{LinkFrom}
 use Rattle.lg_gram.specs.declared.disjunct.Disjunct.{Disjunct}
 use Rattle.lg_gram.specs.declared.linkage.Link.{Link}
+use Rattle.lg_member.specs.Cells.{Table}
 use Rattle.lg_member.specs.Members.{AreLeft, Have}
 use Rattle.lg_sharpen.specs.Sites.{own, place_on, Holds}
 use Rattle.lg_member.specs.declared.side.Side.{Side}
@@ -40,19 +41,19 @@ abbrev pub CoversAt : Linkage → Bool → ℕ → List (List Site) → ℕ → 
 CoversAt g right i lists k = (sites : List Site) × (slice_get lists k ≡ Some sites) × Covers g right i sites
 
 -- a table has a site for each link's end to the right, or to the left
-abbrev pub AllowsAll : Linkage → Bool → List (List Site) → Type 0
+abbrev pub AllowsAll : Linkage → Bool → Table Site → Type 0
 AllowsAll g right table = (l : Link) → HasLink g l → (s : Site) × Holds table (own right l) s × Allows g right l s
 
 -- the site allows all links of the place that the sites allow
-abbrev pub IsNarrowed : Bool → ℕ → ℕ → List (List Site) → List Site → ℕ → Site → Type 0
+abbrev pub IsNarrowed : Bool → ℕ → ℕ → Table Site → List Site → ℕ → Site → Type 0
 IsNarrowed right most i table sites p r =
     (g : Linkage) → Fits most g → AllowsAll g (not right) table → Covers g right i sites → (l : Link) → HasLink g l → own right l ≡ i → place_on right l ≡ p → Allows g right l r
 
 -- sites that allow all links still do
-abbrev pub Narrows : Bool → ℕ → ℕ → List (List Site) → List Site → List Site → Type 0
+abbrev pub Narrows : Bool → ℕ → ℕ → Table Site → List Site → List Site → Type 0
 Narrows right most i table old new = (g : Linkage) → Fits most g → AllowsAll g (not right) table → Covers g right i old → Covers g right i new
 
-pub record NarrowsAll (right : Bool) (most : ℕ) (sides : List Side) (table old new : List (List Site)) : Type 0 where
+pub record NarrowsAll (right : Bool) (most : ℕ) (sides : List Side) (table : Table Site) (old new : List (List Site)) : Type 0 where
   pub long : length new ≡ length old
   pub each : (g : Linkage) → Fits most g → AllowsAll g (not right) table → (k : ℕ) (side : Side) → slice_get sides k ≡ Some side → CoversAt g right side.position old k → CoversAt g right side.position new k
 

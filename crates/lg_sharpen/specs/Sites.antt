@@ -1,10 +1,10 @@
 -- Sites: connectors of lists with the distances of their partners, and tables of sites.
-use Rattle.std.specs.Prelude.{◌≡◌, ℕ, ◌+◌, ◌-◌, ◌*◌, ◌%◌, ◌<◌, ◌≤◌, Bool, true, false, cond, List, length, map, fold, Some, slice_get}
-use Rattle.std.specs.List.{Contains}
+use Rattle.std.specs.Prelude.{◌≡◌, ℕ, ◌+◌, ◌-◌, ◌<◌, ◌≤◌, Bool, true, false, cond, List, length, map, Some, slice_get}
 use Rattle.std.specs.Global.{Vec}
 use Rattle.lg_gram.specs.Connectors.{Connector, Match}
 use Rattle.lg_gram.specs.Linkages.{link_length}
 use Rattle.lg_gram.specs.declared.linkage.Link.{Link}
+use Rattle.lg_member.specs.Cells.{Table, Stands, class_of}
 use Rattle.lg_member.specs.declared.side.Side.{Side}
 use Rattle.lg_sharpen.specs.declared.site.Site.{Site}
 
@@ -58,46 +58,33 @@ pub record AreStartedAll (right : Bool) (n : ℕ) (sides : List Side) (lists : L
   pub same_length : length lists ≡ length sides
   pub each : (k : ℕ) (side : Side) → slice_get sides k ≡ Some side → (end : ℕ) × IsReach right n side.position end × (sites : List Site) × (slice_get lists k ≡ Some sites) × AreStarted side.list.now end sites
 
--- the bucket of some capital letters, and the cell of a position and its bucket
-abbrev pub bucket_of : List ℕ → ℕ
-bucket_of caps = fold (λ n c. (n * 31 + c) % 64) 0 caps
-
-abbrev pub cell_of : ℕ → List ℕ → ℕ
-cell_of i caps = (i % 256) * 64 + bucket_of caps
-
--- a table has the site, of this position, in its cell
-abbrev pub Holds : List (List Site) → ℕ → Site → Type 0
-Holds table i s = (cell : List Site) × (slice_get table (cell_of i s.connector.caps) ≡ Some cell) × Contains cell s
+-- a table has the site, of this position, in the cell of the position and its capital letters
+abbrev pub Holds : Table Site → ℕ → Site → Type 0
+Holds table i s = Stands table i (class_of s.connector.caps) s
 
 -- a table has a site that is as wide
-abbrev pub IsHeld : List (List Site) → ℕ → Site → Type 0
+abbrev pub IsHeld : Table Site → ℕ → Site → Type 0
 IsHeld table i s = (wide : Site) × Holds table i wide × IsWider wide s
 
--- a cell keeps its sites, and has one that is as wide
-pub record AddsTo (s : Site) (old new : List Site) : Type 0 where
-  pub kept : (x : Site) → Contains old x → Contains new x
-  pub held : (wide : Site) × Contains new wide × IsWider wide s
-
 -- a table keeps its sites, and has the first ones of a list of position i
-pub record AddsSites (i : ℕ) (sites : List Site) (places : ℕ) (old new : List (List Site)) : Type 0 where
-  pub long : length new ≡ length old
+pub record AddsSites (i : ℕ) (sites : List Site) (places : ℕ) (old new : Table Site) : Type 0 where
   pub kept : (j : ℕ) (x : Site) → Holds old j x → Holds new j x
   pub each : (p : ℕ) (s : Site) → p < places → slice_get sites p ≡ Some s → IsHeld new i s
 
 -- the table has the sites of the lists in use
-abbrev pub IsTableOf : List Side → List Bool → List (List Site) → List (List Site) → Type 0
+abbrev pub IsTableOf : List Side → List Bool → List (List Site) → Table Site → Type 0
 IsTableOf sides used lists table = (k : ℕ) (side : Side) (sites : List Site) (p : ℕ) (s : Site) → slice_get sides k ≡ Some side → slice_get used k ≡ Some true
     → slice_get lists k ≡ Some sites → slice_get sites p ≡ Some s → IsHeld table side.position s
 
 -- the table has a partner of a site of position i over this distance
-abbrev pub HasPartner : Bool → ℕ → ℕ → List (List Site) → Site → ℕ → Type 0
+abbrev pub HasPartner : Bool → ℕ → ℕ → Table Site → Site → ℕ → Type 0
 HasPartner right most i table s d = (other : Site) × Holds table (across right i d) other × MeetsOver right most d s other
 
 -- no partner is nearer than this, and none is as far as this
-abbrev pub IsFrom : Bool → ℕ → ℕ → List (List Site) → Site → ℕ → Type 0
+abbrev pub IsFrom : Bool → ℕ → ℕ → Table Site → Site → ℕ → Type 0
 IsFrom right most i table s r = (d : ℕ) → d < s.span.end → s.span.from ≤ d → HasPartner right most i table s d → r ≤ d
 
-abbrev pub IsBelow : Bool → ℕ → ℕ → List (List Site) → Site → ℕ → Type 0
+abbrev pub IsBelow : Bool → ℕ → ℕ → Table Site → Site → ℕ → Type 0
 IsBelow right most i table s r = (d : ℕ) → d < s.span.end → s.span.from ≤ d → HasPartner right most i table s d → d < r
 
 -- no more than any distance from here on that is more than another, and more than any distance below an end that is less than another

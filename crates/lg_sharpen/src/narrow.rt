@@ -2,11 +2,10 @@
 ghost use Rattle.std.specs.Prelude.{◌≡◌, ◌<◌, length};
 ghost use Rattle.lg_sharpen.specs.Sites.{IsAfter, IsAhead, IsBelow, IsEndOf, IsFrom, IsFromOf, items_in};
 ghost use Rattle.lg_sharpen.specs.Bounds.{IsNarrowed, Narrows, NarrowsAll};
-ghost use Rattle.lg_sharpen.specs.declared.table.TheConstants.{CELLS};
 
 use crate::site::{Site, Span};
 use crate::table::has_partner;
-use lg_member::Side;
+use lg_member::{Cells, Side};
 
 /// Narrows the sites of each list in use, of lists to the right, or to the left, to where the table has partners.
 pub(crate) fn narrow_all(
@@ -14,13 +13,12 @@ pub(crate) fn narrow_all(
     most: u64,
     sides: &[Side<'_>],
     used: &[bool],
-    table: &[Vec<Site>],
+    table: &Cells<Site>,
     lists: &mut [Vec<Site>],
 )
     requires same_length { length used.now ≡ length sides.now }
     requires long { length lists.old ≡ length sides.now }
-    requires cells { length table.now ≡ CELLS }
-    ensures { NarrowsAll right most sides.now (items_in table.now) (items_in lists.old) (items_in lists.new) }
+    ensures { NarrowsAll right most sides.now table.now (items_in lists.old) (items_in lists.new) }
 {
     for index in 0..sides.len() {
         if used[index] {
@@ -29,18 +27,16 @@ pub(crate) fn narrow_all(
     }
 }
 
-fn narrow(right: bool, most: u64, position: u32, table: &[Vec<Site>], sites: &mut Vec<Site>)
-    requires { length table.now ≡ CELLS }
-    ensures { Narrows right most position (items_in table.now) sites.old.items sites.new.items }
+fn narrow(right: bool, most: u64, position: u32, table: &Cells<Site>, sites: &mut Vec<Site>)
+    ensures { Narrows right most position table.now sites.old.items sites.new.items }
 {
     narrow_up(right, most, position, table, sites);
     narrow_down(right, most, position, table, sites);
 }
 
 // From the first place to the last, so that each is farther than the one before.
-fn narrow_up(right: bool, most: u64, position: u32, table: &[Vec<Site>], sites: &mut Vec<Site>)
-    requires { length table.now ≡ CELLS }
-    ensures { Narrows right most position (items_in table.now) sites.old.items sites.new.items }
+fn narrow_up(right: bool, most: u64, position: u32, table: &Cells<Site>, sites: &mut Vec<Site>)
+    ensures { Narrows right most position table.now sites.old.items sites.new.items }
 {
     let count = sites.len();
     for place in 0..count {
@@ -49,9 +45,8 @@ fn narrow_up(right: bool, most: u64, position: u32, table: &[Vec<Site>], sites: 
 }
 
 // From the last place to the first, so that each is nearer than the next.
-fn narrow_down(right: bool, most: u64, position: u32, table: &[Vec<Site>], sites: &mut Vec<Site>)
-    requires { length table.now ≡ CELLS }
-    ensures { Narrows right most position (items_in table.now) sites.old.items sites.new.items }
+fn narrow_down(right: bool, most: u64, position: u32, table: &Cells<Site>, sites: &mut Vec<Site>)
+    ensures { Narrows right most position table.now sites.old.items sites.new.items }
 {
     let count = sites.len();
     for behind in 0..count {
@@ -65,13 +60,12 @@ fn narrowed(
     right: bool,
     most: u64,
     position: u32,
-    table: &[Vec<Site>],
+    table: &Cells<Site>,
     sites: &[Site],
     place: usize,
 ) -> Site
-    requires cells { length table.now ≡ CELLS }
-    requires within { place < length sites.now }
-    ensures { IsNarrowed right most position (items_in table.now) sites.now place result }
+    requires { place < length sites.now }
+    ensures { IsNarrowed right most position table.now sites.now place result }
 {
     let from = from_of(sites, place);
     let end = end_of(sites, place);
@@ -140,9 +134,8 @@ fn ahead(end: u32, behind: u32) -> u32
 }
 
 // The distance of the first partner, or the end.
-fn first(right: bool, most: u64, position: u32, table: &[Vec<Site>], site: &Site) -> u32
-    requires { length table.now ≡ CELLS }
-    ensures { IsFrom right most position (items_in table.now) site.now result }
+fn first(right: bool, most: u64, position: u32, table: &Cells<Site>, site: &Site) -> u32
+    ensures { IsFrom right most position table.now site.now result }
 {
     for distance in site.span.from..site.span.end {
         if has_partner(right, most, position, site, distance, table) {
@@ -153,9 +146,8 @@ fn first(right: bool, most: u64, position: u32, table: &[Vec<Site>], site: &Site
 }
 
 // The distance behind the last partner.
-fn last(right: bool, most: u64, position: u32, table: &[Vec<Site>], site: &Site) -> u32
-    requires { length table.now ≡ CELLS }
-    ensures { IsBelow right most position (items_in table.now) site.now result }
+fn last(right: bool, most: u64, position: u32, table: &Cells<Site>, site: &Site) -> u32
+    ensures { IsBelow right most position table.now site.now result }
 {
     let mut end = site.span.end;
     while site.span.from < end {

@@ -29,6 +29,7 @@ pub(crate) fn settle(
     let mut right_lists = sites_of(alloc, true, words, rights)?;
     rounds(
         alloc,
+        words,
         most,
         lefts,
         rights,
@@ -42,6 +43,7 @@ pub(crate) fn settle(
 // Rounds until nothing changes.
 fn rounds(
     alloc: Global,
+    words: u32,
     most: u64,
     lefts: &[Side<'_>],
     rights: &[Side<'_>],
@@ -59,7 +61,16 @@ fn rounds(
     let mut size = size_of(left_lists, right_lists, members.len());
     while size < before {
         before = size;
-        round(alloc, most, lefts, rights, left_lists, right_lists, members)?;
+        round(
+            alloc,
+            words,
+            most,
+            lefts,
+            rights,
+            left_lists,
+            right_lists,
+            members,
+        )?;
         size = size_of(left_lists, right_lists, members.len());
     }
     Ok(())
@@ -68,6 +79,7 @@ fn rounds(
 // Narrows the lists of the members, and takes those away of which a connector has no partner left.
 fn round(
     alloc: Global,
+    words: u32,
     most: u64,
     lefts: &[Side<'_>],
     rights: &[Side<'_>],
@@ -82,9 +94,9 @@ fn round(
 {
     let left_used = used(alloc, false, lefts, rights, members)?;
     let right_used = used(alloc, true, lefts, rights, members)?;
-    let left_sites = table_of(alloc, lefts, &left_used, left_lists)?;
+    let left_sites = table_of(alloc, words, lefts, &left_used, left_lists)?;
     narrow_all(true, most, rights, &right_used, &left_sites, right_lists);
-    let right_sites = table_of(alloc, rights, &right_used, right_lists)?;
+    let right_sites = table_of(alloc, words, rights, &right_used, right_lists)?;
     narrow_all(false, most, lefts, &left_used, &right_sites, left_lists);
     let left_open = which_open(alloc, left_lists)?;
     let right_open = which_open(alloc, right_lists)?;

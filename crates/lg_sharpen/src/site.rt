@@ -3,6 +3,7 @@ ghost use Rattle.std.specs.Prelude.{◌≡◌, ◌↔◌, ◌≤◌, true, IsTru
 ghost use Rattle.lg_sharpen.specs.Sites.{IsWider, MatchOn, MeetsOver};
 
 use lg_gram::{Connector, matches};
+use lg_member::Wide;
 
 /// How many words away a partner may be: from one distance up to the end, which is none of them.
 #[derive(Clone, Copy)]
@@ -43,14 +44,20 @@ fn matches_on(right: bool, a: &Connector, b: &Connector) -> bool
     if right { matches(a, b) } else { matches(b, a) }
 }
 
-/// Whether what meets the second site meets the first too.
-pub(crate) fn is_wider(wide: &Site, site: &Site) -> bool
-    ensures { IsTrue result ↔ IsWider wide.now site.now }
-{
-    wide.span.from <= site.span.from
-        && site.span.end <= wide.span.end
-        && is_free(wide.nearest, site.nearest)
-        && is_same_connector(&wide.connector, &site.connector)
+impl Wide for Site {
+    ghost use Rattle.std.proofs.Common.{arith, refl};
+
+    ghost wider = { IsWider };
+
+    /// Whether what meets the other site meets this one too.
+    fn is_wider(&self, site: &Site) -> bool {
+        self.span.from <= site.span.from
+            && site.span.end <= self.span.end
+            && is_free(self.nearest, site.nearest)
+            && is_same_connector(&self.connector, &site.connector)
+    }
+
+    ghost itself = { λ s. record { from = omega arith; end = omega arith; nearest = λ n. n; connector = refl } };
 }
 
 fn is_free(wide: bool, nearest: bool) -> bool

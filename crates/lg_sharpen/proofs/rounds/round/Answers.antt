@@ -1,6 +1,5 @@
 use Rattle.std.proofs.Common.{true, false, length, subst}
 use Rattle.lg_sharpen.specs.Sites.{IsTableOf, items_in}
-use Rattle.lg_sharpen.specs.Bounds.{NarrowsAll}
 use Rattle.lg_member.specs.Members.{AreUsed, Keeps, are_on}
 use Rattle.lg_sharpen.proofs.Standing.{round_keeps}
 use Rattle.lg_sharpen.proofs.rounds.round.Goals as goal
@@ -16,16 +15,16 @@ returns c =
     let rl = items_in c.args.right_lists.now in
     let ll' = items_in c.narrow_all-2.new.lists in
     let rl' = items_in c.narrow_all.new.lists in
-    let lt = items_in c.in_ok-left_sites.left_sites.items in
-    let rt = items_in c.in_ok-right_sites.right_sites.items in
+    let lt = c.in_ok-left_sites.left_sites in
+    let rt = c.in_ok-right_sites.right_sites in
     let lo = c.in_ok-left_open.left_open.items in
     let ro = c.in_ok-right_open.right_open.items in
     round_keeps c.args.most lefts rights ll rl ll' rl' lt rt ms c.keep.new.members.items lu ru lo ro c.requires.known
     (subst (λ z. AreUsed false (length lefts) z lu) c.deref.ensures.value c.in_ok-left_used.ensures)
     (subst (λ z. AreUsed true (length rights) z ru) c.deref-2.ensures.value c.in_ok-right_used.ensures)
-    (subst (λ z. IsTableOf lefts z ll lt) c.deref-3.ensures.value c.in_ok-left_sites.ensures.sites)
-    (subst (λ z. NarrowsAll true c.args.most rights (items_in z) rl rl') c.deref-5.ensures.value c.narrow_all.ensures)
-    (subst (λ z. IsTableOf rights z rl' rt) c.deref-6.ensures.value c.in_ok-right_sites.ensures.sites)
-    (subst (λ z. NarrowsAll false c.args.most lefts (items_in z) ll ll') c.deref-8.ensures.value c.narrow_all-2.ensures)
+    (subst (λ z. IsTableOf lefts z ll lt) c.deref-3.ensures.value c.in_ok-left_sites.ensures)
+    c.narrow_all.ensures
+    (subst (λ z. IsTableOf rights z rl' rt) c.deref-5.ensures.value c.in_ok-right_sites.ensures)
+    c.narrow_all-2.ensures
     c.in_ok-left_open.ensures c.in_ok-right_open.ensures
-    (subst (λ z. Keeps (are_on z ro) ms c.keep.new.members.items) c.deref-9.ensures.value (subst (λ z. Keeps (are_on c.deref-9.result.now z) ms c.keep.new.members.items) c.deref-10.ensures.value c.keep.ensures))
+    (subst (λ z. Keeps (are_on z ro) ms c.keep.new.members.items) c.deref-7.ensures.value (subst (λ z. Keeps (are_on c.deref-7.result.now z) ms c.keep.new.members.items) c.deref-8.ensures.value c.keep.ensures))

@@ -1,5 +1,5 @@
-use Rattle.lg_sharpen.specs.Sites.{AddsSites, items_in}
+use Rattle.lg_sharpen.specs.Sites.{AddsSites}
 use Rattle.lg_sharpen.proofs.table.push_sites.Given as goal
 
 abbrev pub invariant-loop-site : goal.invariant-loop-site
-invariant-loop-site l = AddsSites l.position l.sites l.site-index (items_in l.fn.table) (items_in l.table)
+invariant-loop-site l = AddsSites l.position l.sites l.site-index l.fn.table l.table
