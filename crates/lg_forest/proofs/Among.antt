@@ -31,7 +31,7 @@ use Rattle.lg_forest.proofs.Once.{contains_at, contains_none, once_none}
 
 -- ---- lists that have values once
 
-append_cases : {X : Type 0} (xs ys : List X) (i : ℕ) (x : X) → slice_get (xs ++ ys) i ≡ Some x → (slice_get xs i ≡ Some x) ⊎ ((j : ℕ) × (i ≡ length xs + j) × (slice_get ys j ≡ Some x))
+pub append_cases : {X : Type 0} (xs ys : List X) (i : ℕ) (x : X) → slice_get (xs ++ ys) i ≡ Some x → (slice_get xs i ≡ Some x) ⊎ ((j : ℕ) × (i ≡ length xs + j) × (slice_get ys j ≡ Some x))
 append_cases [] ys i x e = inr (i, omega arith, e)
 append_cases (z ∷ xs) ys zero x e = inl e
 append_cases (z ∷ xs) ys (suc i) x e = elim (append_cases xs ys i x e) [ inl h ↦ inl h | inr h ↦ (let b = h.1 in inr (h.0, omega arith, h.2)) ]
@@ -154,7 +154,7 @@ pub ending_left : (gap : Gap) (g : Group) (b : Beginning) (a : Alt) → BeginsSo
 ending_left gap g b AllNull h = absurd h
 ending_left gap g b (At w number tl tr lk rk) h = h.1
 
-begins_same : (gap : Gap) (g : Group) (b b' : Beginning) (a : Alt) → BeginsSo gap g b a → BeginsSo gap g b' a → b ≡ b'
+pub begins_same : (gap : Gap) (g : Group) (b b' : Beginning) (a : Alt) → BeginsSo gap g b a → BeginsSo gap g b' a → b ≡ b'
 begins_same gap g b b' AllNull h h' = absurd h
 begins_same gap g b b' (At w number tl tr lk rk) h h' =
     let keys : ◌≡◌ {A = Option Key} (Some (left_of gap g b)) (Some (left_of gap g b')) = sym h.1 ∙ h'.1 in

@@ -91,7 +91,7 @@ asked_as n P Q a b from to x = record {
 keys_cases : (es : Entries) (k : Key) (alts : List Alt) (x : Key) → Contains (keys_of (es ++ (k, alts) ∷ [])) x → Contains (keys_of es) x ⊎ (k ≡ x)
 keys_cases es k alts x has = Contains-push_cases (keys_of es) k x (subst (λ z. Contains z x) (map-append (λ e. e.0) es ((k, alts) ∷ [])) has)
 
-keys_later : (es : Entries) (k : Key) (alts : List Alt) (x : Key) → Contains (keys_of es) x → Contains (keys_of (es ++ (k, alts) ∷ [])) x
+pub keys_later : (es : Entries) (k : Key) (alts : List Alt) (x : Key) → Contains (keys_of es) x → Contains (keys_of (es ++ (k, alts) ∷ [])) x
 keys_later es k alts x has = subst (λ z. Contains z x) (sym (map-append (λ e. e.0) es ((k, alts) ∷ []))) (Contains-append_left (keys_of es) (k ∷ []) x has)
 
 keys_last : (es : Entries) (k : Key) (alts : List Alt) → Contains (keys_of (es ++ (k, alts) ∷ [])) k

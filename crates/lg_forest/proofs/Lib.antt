@@ -14,3 +14,6 @@ pub mod Forested
 pub mod GoodLinkage
 pub mod SameLinkage
 mod Among
+pub mod Opening
+pub mod Starting
+pub mod Origins

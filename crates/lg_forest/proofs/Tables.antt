@@ -22,6 +22,33 @@ keys_same x y = search rules
 pub keys_laws : IsEquivalence key_eq
 keys_laws = search rules
 
+-- the same of any keys
+module _ {K X : Type 0} (eq : K → K → Bool) (same : (x y : K) → Decides (eq x y) (x ≡ y)) (laws : IsEquivalence eq) {S : Type 0} (old new : IndexMap K X S) (k : K) (unique : IsUnique eq new) where
+  -- what is in a table after a change at one key
+  pub changed_by : (w : Option X) → ((q : K) → get eq new q ≡ cond (eq k q) w (get eq old q)) → (q : K) (v : X) → Contains new.entries (q, v) → Contains old.entries (q, v) ⊎ ((k ≡ q) × (w ≡ Some v))
+  changed_by w after q v has = by (eq k q) refl
+    where
+      now : get eq new q ≡ Some v
+      now = lookup-from_Contains laws q v new.entries unique has
+
+      by : (b : Bool) → eq k q ≡ b → Contains old.entries (q, v) ⊎ ((k ≡ q) × (w ≡ Some v))
+      by true e = inr ((same k q).0 e, sym (after q ∙ ap (λ z. cond z w (get eq old q)) e) ∙ now)
+      by false e = inl (Contains-from_lookup (λ x y. (same x y).0) q v old.entries (sym (after q ∙ ap (λ z. cond z w (get eq old q)) e) ∙ now))
+
+  -- where it was taken out
+  pub left_by : ((q : K) → get eq new q ≡ cond (eq k q) None (get eq old q)) → (q : K) (v : X) → Contains new.entries (q, v) → Contains old.entries (q, v)
+  left_by after q v has = elim (changed_by None after q v has) [ inl old_one ↦ old_one | inr r ↦ absurd (none_some r.1) ]
+    where
+      none_some : None ≡ Some v → ⊥
+      none_some e = cc
+
+  -- where a value was put in
+  pub put_by : (w : X) → ((q : K) → get eq new q ≡ cond (eq k q) (Some w) (get eq old q)) → (q : K) (v : X) → Contains new.entries (q, v) → Contains old.entries (q, v) ⊎ ((q ≡ k) × (v ≡ w))
+  put_by w after q v has = elim (changed_by (Some w) after q v has) [ inl was ↦ inl was | inr r ↦ inr (sym r.0, same_value r.1) ]
+    where
+      same_value : Some w ≡ Some v → v ≡ w
+      same_value e = cc
+
 module _ {X : Type 0} where
   -- what a look-up finds
   pub found : (es : List (Key × X)) (k : Key) (r : Option (Bor X)) → option_copied r ≡ lookup (key_eq k) es → MatchOption r (Contains (keys_of es) k → ⊥) (λ v. Contains es (k, v.now))
@@ -39,17 +66,6 @@ module _ {X : Type 0} where
   pub added : {S : Type 0} (m : IndexMap Key X S) (k : Key) (v : X) → (Contains (keys m) k → ⊥) → insert_entry key_eq m.entries k v ≡ m.entries ++ (k, v) ∷ []
   added m k v new = insert_entry-new key_eq m k v (missing m.entries k new)
 
-  -- what is in a table after a change at one key
-  pub changed : {S : Type 0} (old new : IndexMap Key X S) (k : Key) (w : Option X) → IsUnique key_eq new → ((q : Key) → get key_eq new q ≡ cond (key_eq k q) w (get key_eq old q)) → (q : Key) (v : X) → Contains new.entries (q, v) → Contains old.entries (q, v) ⊎ ((k ≡ q) × (w ≡ Some v))
-  changed old new k w unique after q v has = by (key_eq k q) refl
-    where
-      now : get key_eq new q ≡ Some v
-      now = lookup-from_Contains keys_laws q v new.entries unique has
-
-      by : (b : Bool) → key_eq k q ≡ b → Contains old.entries (q, v) ⊎ ((k ≡ q) × (w ≡ Some v))
-      by true e = inr ((keys_same k q).0 e, sym (after q ∙ ap (λ z. cond z w (get key_eq old q)) e) ∙ now)
-      by false e = inl (Contains-from_lookup (λ x y. (keys_same x y).0) q v old.entries (sym (after q ∙ ap (λ z. cond z w (get key_eq old q)) e) ∙ now))
-
   -- what is taken out of a table, and what is left in it
   pub taken : {S : Type 0} (old new : IndexMap Key X S) (k : Key) (r : Option X) → r ≡ lookup (key_eq k) old.entries → length new.entries + (if is_some r then 1 else 0) ≡ length old.entries
       → MatchOption r (length new.entries ≡ length old.entries) (λ v. Contains old.entries (k, v) × (length new.entries + 1 ≡ length old.entries))
@@ -57,16 +73,10 @@ module _ {X : Type 0} where
   taken old new k None is len = omega (arith, len)
 
   pub left_in : {S : Type 0} (old new : IndexMap Key X S) (k : Key) → IsUnique key_eq new → ((q : Key) → get key_eq new q ≡ cond (key_eq k q) None (get key_eq old q)) → (q : Key) (v : X) → Contains new.entries (q, v) → Contains old.entries (q, v)
-  left_in old new k unique after q v has = elim (changed old new k None unique after q v has) [ inl old_one ↦ old_one | inr r ↦ absurd (none_some r.1) ]
-    where
-      none_some : None ≡ Some v → ⊥
-      none_some e = cc
+  left_in old new k unique = left_by key_eq keys_same keys_laws old new k unique
 
   pub put_in : {S : Type 0} (old new : IndexMap Key X S) (k : Key) (w : X) → IsUnique key_eq new → ((q : Key) → get key_eq new q ≡ cond (key_eq k q) (Some w) (get key_eq old q)) → (q : Key) (v : X) → Contains new.entries (q, v) → Contains old.entries (q, v) ⊎ ((q ≡ k) × (v ≡ w))
-  put_in old new k w unique after q v has = elim (changed old new k (Some w) unique after q v has) [ inl was ↦ inl was | inr r ↦ inr (sym r.0, same r.1) ]
-    where
-      same : Some w ≡ Some v → v ≡ w
-      same e = cc
+  put_in old new k w unique = put_by key_eq keys_same keys_laws old new k unique w
 
 -- some alternative is there
 abbrev pub is_live : {X : Type 0} → List X → Bool

@@ -1,5 +1,5 @@
 -- What workers found of keys before the caller walks.
-use Rattle.std.specs.Prelude.{◌≡◌, ◌↔◌, ◌≤◌, Bool, true, List, length}
+use Rattle.std.specs.Prelude.{◌≡◌, ◌↔◌, Bool, true, List}
 use mathlib.Core.Path.{sym, subst}
 use Rattle.std.specs.List.{Contains}
 use Rattle.lg_gram.specs.Connectors.{Connector}
@@ -23,11 +23,6 @@ AreKept positions k alts = (lists : List (List Connector)) → AreListsOf positi
 -- each key has its alternatives, if it may be asked for
 abbrev pub AreKnown : Numbering → List (Key × List Alt) → Type 0
 AreKnown n known = (k : Key) (alts : List Alt) → Contains known (k, alts) → IsValidKey n.positions n.lists k → AreAltsOf n.positions n.lists k alts
-
--- some of what was known is taken out
-pub record IsLeft (n : Numbering) (old new : List (Key × List Alt)) : Type 0 where
-  pub known : AreKnown n new
-  pub fewer : length new ≤ length old
 
 -- whether two keys are the same
 abbrev pub same_key : Key → Key → Bool

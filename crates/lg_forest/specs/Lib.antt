@@ -4,3 +4,4 @@ pub mod Known
 pub mod Search
 pub mod Drafts
 pub mod Halves
+pub mod Opened

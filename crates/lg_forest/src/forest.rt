@@ -10,11 +10,13 @@ ghost use Rattle.lg_region.specs.declared.key.Key.{Key};
 ghost use Rattle.lg_region.specs.declared.alternative.Alt.{Alt};
 ghost use Rattle.lg_forest.specs.Demands.{IsDemanded, HasLinkageUnder};
 ghost use Rattle.lg_forest.specs.Forests.{AreWorkers, IsForest, CountsKeys, HasStepped};
-ghost use Rattle.lg_forest.specs.Known.{AreKnown, IsLeft};
+ghost use Rattle.lg_forest.specs.Known.{AreKnown};
+ghost use Rattle.lg_forest.specs.Opened.{IsLeft, IsMemory};
 ghost use Rattle.lg_forest.specs.Search.{KeysAreDecided, Asked, IsWholeFrom, IsCounted};
 
 use crate::known::Known;
 use crate::law::keys_are_decided;
+use crate::memory::Memory;
 use crate::search::visit;
 use crate::table::Table;
 use crate::worker::Levels;
@@ -104,9 +106,10 @@ pub fn solve<R: Threads + Sync, L>(
     let last = problem.positions().len() as u32;
     let lists = Lists::of(alloc, problem)?;
     let levels = Levels { from: 0, end: last };
-    let mut known = known_of(rt, alloc, problem, &lists, levels, workers)?;
+    let known = known_of(rt, alloc, problem, &lists, levels, workers)?;
+    let mut memory = Memory::of(alloc, known);
     let mut table = Table::new(alloc);
-    let unused = fewest(alloc, &lists, last, &mut table, &mut known, steps)?;
+    let unused = fewest(alloc, &lists, last, &mut table, &mut memory, steps)?;
     Ok(Forest::of(unused, table))
 }
 
@@ -166,7 +169,7 @@ fn forest_at<L>(
     problem: &Problem,
     lists: &Lists<'_>,
     nulls: u32,
-    mut known: Known,
+    known: Known,
     steps: &mut Steps<L>,
 ) -> Result<Forest, NoMemory>
     requires positions { lists.now.positions ≡ problem.now }
@@ -183,7 +186,8 @@ fn forest_at<L>(
     let _positions = problem.positions();
     let mut table = Table::new(alloc);
     let key = Key::Whole { nulls };
-    visit(alloc, lists, &mut table, &mut known, key, steps)?;
+    let mut memory = Memory::of(alloc, known);
+    visit(alloc, lists, &mut table, &mut memory, key, steps)?;
     Ok(Forest::of(nulls, table))
 }
 
@@ -193,26 +197,26 @@ fn fewest<L>(
     lists: &Lists<'_>,
     last: u32,
     table: &mut Table,
-    known: &mut Known,
+    memory: &mut Memory,
     steps: &mut Steps<L>,
 ) -> Result<u32, NoMemory>
     requires decided { KeysAreDecided lists.now }
     requires last { last ≡ length lists.now.positions }
     requires few { last ≤ POSITIONS }
     requires empty { table.old ≡ [] }
-    requires known { AreKnown lists.now known.old }
+    requires known { IsMemory lists.now table.old memory.old }
     requires room { steps.old < 2 ^ 126 }
     ensures fewest { let n = lists.entry.now in IfOk result (IsFewest n.positions) }
     ensures asked { let n = lists.entry.now in IfOk result (λ nulls. Asked n (IsWholeFrom 0 (suc nulls)) table.old table.new) }
-    ensures left { OnOk result (IsLeft lists.entry.now known.old known.new) }
-    ensures steps { OnOk result (IsCounted 0 (steps.old + length known.new) table.old (steps.new + length known.old) table.new) }
+    ensures left { OnOk result (IsLeft lists.entry.now table.new memory.old memory.new) }
+    ensures steps { OnOk result (IsCounted 0 (steps.old + length memory.new.known) table.old (steps.new + length memory.old.known) table.new) }
 {
     for nulls in 0..last {
-        if visit(alloc, lists, table, known, Key::Whole { nulls }, steps)? {
+        if visit(alloc, lists, table, memory, Key::Whole { nulls }, steps)? {
             return Ok(nulls);
         }
     }
     let key = Key::Whole { nulls: last };
-    visit(alloc, lists, table, known, key, steps)?;
+    visit(alloc, lists, table, memory, key, steps)?;
     Ok(last)
 }

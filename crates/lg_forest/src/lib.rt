@@ -7,6 +7,8 @@ pub mod forest;
 mod known;
 mod law;
 mod linkages;
+mod memory;
+mod openings;
 mod search;
 pub mod spell;
 mod table;

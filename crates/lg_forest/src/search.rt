@@ -1,20 +1,24 @@
 //! The search: each key that is asked for is expanded once, depth first.
-ghost use Rattle.std.specs.Prelude.{◌≡◌, ◌↔◌, ◌+◌, ◌<◌, ◌^◌, suc, Some, length, IsTrue, IfOk, OnOk, IfSome};
+ghost use Rattle.std.specs.Prelude.{◌≡◌, ◌↔◌, ◌+◌, ◌<◌, ◌≤◌, ◌^◌, suc, Some, length, IsTrue, IfOk, OnOk, IfSome};
+ghost use Rattle.lg_region.specs.Alike.{BeginsWith};
 ghost use Rattle.lg_region.specs.Groups.{IsGroup, IsKnownGap, StandsIn};
 ghost use Rattle.lg_region.specs.Keys.{IsValidKey};
-ghost use Rattle.lg_region.specs.Openings.{AreGroups, BeginsSo, IsIn, IsKeyOfGap};
+ghost use Rattle.lg_region.specs.Openings.{AreGroups, BeginsSo, IsGapOf, IsIn, IsKeyOfGap};
 ghost use Rattle.lg_forest.specs.Halves.{AddsLive, AsksAmong, IsEnding};
 ghost use Rattle.lg_forest.specs.Demands.{HasLinkageUnder, AsksNext};
 ghost use Rattle.lg_forest.specs.Forests.{IsLive, AreLive};
-ghost use Rattle.lg_forest.specs.Known.{AreAltsOf, AreKnown, IsLeft};
+ghost use Rattle.lg_forest.specs.Known.{AreAltsOf, AreKnown};
+ghost use Rattle.lg_forest.specs.Opened.{AddsStarts, AsksLeft, IsAny, IsLeft, IsMemory, IsOpening, IsStart, OpensWord, StandsAt, StartsSo};
 ghost use Rattle.lg_forest.specs.Search.{KeysAreDecided, IsTable, HasValidKeys, IsLast, Asked, AsksOf, key_width, part_bound, alt_bound, HasRoom, IsCounted};
 
 use crate::known::Known;
+use crate::memory::Memory;
+use crate::openings::{Opening, Origin, Start};
 use crate::table::Table;
 use lg_base::{NoMemory, Steps};
 use lg_region::{
     Alt, Alts, Beginning, Gap, Group, Groups, Key, Lists, alternatives_are_small, beginnings,
-    expand_key, groups_of, push_endings,
+    expand_key, gap_of, groups_at, groups_of, push_endings, regions_begin_alike,
 };
 use std::alloc::Global;
 
@@ -31,24 +35,24 @@ pub(crate) fn visit<L>(
     alloc: Global,
     lists: &Lists<'_>,
     table: &mut Table,
-    known: &mut Known,
+    memory: &mut Memory,
     key: Key,
     steps: &mut Steps<L>,
 ) -> Result<bool, NoMemory>
     requires decided { KeysAreDecided lists.now }
     requires key { IsValidKey lists.now.positions lists.now.lists key }
     requires table { IsTable lists.now table.old }
-    requires known { AreKnown lists.now known.old }
+    requires known { IsMemory lists.now table.old memory.old }
     requires room { HasRoom (suc (key_width lists.now.positions key)) steps.old table.old }
     ensures found { let n = lists.entry.now in IfOk result (λ found. IsTrue found ↔ HasLinkageUnder n.positions n.lists key) }
     ensures asked { OnOk result (Asked lists.entry.now (λ k. k ≡ key) table.old table.new) }
-    ensures left { OnOk result (IsLeft lists.entry.now known.old known.new) }
-    ensures steps { OnOk result (IsCounted 0 (steps.old + length known.new) table.old (steps.new + length known.old) table.new) }
+    ensures left { OnOk result (IsLeft lists.entry.now table.new memory.old memory.new) }
+    ensures steps { OnOk result (IsCounted 0 (steps.old + length memory.new.known) table.old (steps.new + length memory.old.known) table.new) }
 {
     if let Some(alts) = table.get(&key) {
         return Ok(!alts.is_empty());
     }
-    let live = explore(alloc, lists, table, known, key, steps)?;
+    let live = explore(alloc, lists, table, memory, key, steps)?;
     let found = !live.is_empty();
     table.add(key, live)?;
     Ok(found)
@@ -60,32 +64,288 @@ fn explore<L>(
     alloc: Global,
     lists: &Lists<'_>,
     table: &mut Table,
-    known: &mut Known,
+    memory: &mut Memory,
     key: Key,
     steps: &mut Steps<L>,
 ) -> Result<Alts, NoMemory>
     requires decided { KeysAreDecided lists.now }
     requires key { IsValidKey lists.now.positions lists.now.lists key }
     requires table { IsTable lists.now table.old }
-    requires known { AreKnown lists.now known.old }
+    requires known { IsMemory lists.now table.old memory.old }
     requires room { HasRoom (suc (key_width lists.now.positions key)) steps.old table.old }
     ensures live { let n = lists.entry.now in IfOk result (AreLive n.positions n.lists key) }
     ensures asked { let n = lists.entry.now in OnOk result (Asked n (AsksNext n.positions n.lists key) table.old table.new) }
-    ensures left { OnOk result (IsLeft lists.entry.now known.old known.new) }
-    ensures steps { OnOk result (IsCounted 1 (steps.old + length known.new) table.old (steps.new + length known.old) table.new) }
+    ensures left { OnOk result (IsLeft lists.entry.now table.new memory.old memory.new) }
+    ensures steps { OnOk result (IsCounted 1 (steps.old + length memory.new.known) table.old (steps.new + length memory.old.known) table.new) }
 {
     // the call tells that the table is short
     let _size = table.len();
-    if known.has(&key) {
-        return explore_all(alloc, lists, table, known, key, steps);
+    if memory.known.has(&key) {
+        return explore_all(alloc, lists, table, memory, key, steps);
     }
-    match groups_of(alloc, lists, key)? {
-        None => explore_all(alloc, lists, table, known, key, steps),
-        Some(groups) => {
+    match gap_of(lists, key) {
+        None => explore_all(alloc, lists, table, memory, key, steps),
+        Some(gap) => {
             steps.tick();
-            explore_groups(alloc, lists, table, known, key, &groups, steps)
+            explore_gap(alloc, lists, table, memory, key, gap, steps)
         }
     }
+}
+
+// The same of a region with a list. Regions that begin with a list, and in which no word is unlinked, begin alike wherever they
+// end.
+#[cycle(search)]
+fn explore_gap<L>(
+    alloc: Global,
+    lists: &Lists<'_>,
+    table: &mut Table,
+    memory: &mut Memory,
+    key: Key,
+    gap: Gap,
+    steps: &mut Steps<L>,
+) -> Result<Alts, NoMemory>
+    requires decided { KeysAreDecided lists.now }
+    requires key { IsValidKey lists.now.positions lists.now.lists key }
+    requires gap { IsGapOf lists.now key gap }
+    requires table { IsTable lists.now table.old }
+    requires known { IsMemory lists.now table.old memory.old }
+    requires room { HasRoom (key_width lists.now.positions key) steps.old table.old }
+    ensures live { let n = lists.entry.now in IfOk result (AreLive n.positions n.lists key) }
+    ensures asked { let n = lists.entry.now in OnOk result (Asked n (AsksNext n.positions n.lists key) table.old table.new) }
+    ensures left { OnOk result (IsLeft lists.entry.now table.new memory.old memory.new) }
+    ensures steps { OnOk result (IsCounted 0 (steps.old + length memory.new.known) table.old (steps.new + length memory.old.known) table.new) }
+{
+    if gap.llist != 0 && gap.nulls == 0 {
+        return explore_opening(alloc, lists, table, memory, key, &gap, steps);
+    }
+    let groups = groups_of(alloc, lists, gap)?;
+    explore_groups(alloc, lists, table, memory, key, &groups, steps)
+}
+
+// The same from the ways to begin whose left key has a linkage.
+#[cycle(search)]
+fn explore_opening<L>(
+    alloc: Global,
+    lists: &Lists<'_>,
+    table: &mut Table,
+    memory: &mut Memory,
+    key: Key,
+    gap: &Gap,
+    steps: &mut Steps<L>,
+) -> Result<Alts, NoMemory>
+    requires decided { KeysAreDecided lists.now }
+    requires key { IsValidKey lists.now.positions lists.now.lists key }
+    requires gap { IsGapOf lists.now key gap.now }
+    requires alike { BeginsWith lists.now gap.now.left gap.now.llist gap.now }
+    requires table { IsTable lists.now table.old }
+    requires known { IsMemory lists.now table.old memory.old }
+    requires room { HasRoom (key_width lists.now.positions key) steps.old table.old }
+    ensures live { let n = lists.entry.now in IfOk result (AreLive n.positions n.lists key) }
+    ensures asked { let n = lists.entry.now in OnOk result (Asked n (AsksNext n.positions n.lists key) table.old table.new) }
+    ensures left { OnOk result (IsLeft lists.entry.now table.new memory.old memory.new) }
+    ensures steps { OnOk result (IsCounted 0 (steps.old + length memory.new.known) table.old (steps.new + length memory.old.known) table.new) }
+{
+    alternatives_are_small();
+    regions_begin_alike();
+    lists.are_numbered();
+    lists.keep_limits();
+    let opening = open(alloc, lists, table, memory, key, gap, steps)?;
+    let mut live = Vec::new(alloc);
+    for index in 0..opening.starts.len() {
+        let start = opening.starts[index];
+        explore_start(
+            alloc, lists, table, memory, key, gap, &start, &mut live, steps,
+        )?;
+    }
+    let origin = Origin {
+        left: gap.left,
+        llist: gap.llist,
+    };
+    memory.openings.put(origin, opening)?;
+    Alts::of(alloc, &live)
+}
+
+// Adds the live alternatives that start so, if the word of the start lies in the region.
+#[cycle(search)]
+fn explore_start<L>(
+    alloc: Global,
+    lists: &Lists<'_>,
+    table: &mut Table,
+    memory: &mut Memory,
+    key: Key,
+    gap: &Gap,
+    start: &Start,
+    live: &mut Vec<Alt>,
+    steps: &mut Steps<L>,
+) -> Result<(), NoMemory>
+    requires decided { KeysAreDecided lists.now }
+    requires key { IsValidKey lists.now.positions lists.now.lists key }
+    requires gap { IsGapOf lists.now key gap.now }
+    requires alike { BeginsWith lists.now gap.now.left gap.now.llist gap.now }
+    requires start { start.now.group.word < gap.now.right → IsStart lists.now gap.now start.now }
+    requires table { IsTable lists.now table.old }
+    requires known { IsMemory lists.now table.old memory.old }
+    requires room { HasRoom (key_width lists.now.positions key) steps.old table.old }
+    ensures live { OnOk result (AddsLive lists.entry.now key (StartsSo gap.now start.now) live.old.items live.new.items) }
+    ensures asked { OnOk result (Asked lists.entry.now (AsksAmong lists.entry.now key (StartsSo gap.now start.now)) table.old table.new) }
+    ensures left { OnOk result (IsLeft lists.entry.now table.new memory.old memory.new) }
+    ensures steps { OnOk result (IsCounted 0 (steps.old + length memory.new.known) table.old (steps.new + length memory.old.known) table.new) }
+{
+    regions_begin_alike();
+    lists.are_numbered();
+    if start.group.word >= gap.right {
+        return Ok(());
+    }
+    explore_beginning(
+        alloc,
+        lists,
+        table,
+        memory,
+        key,
+        gap,
+        &start.group,
+        &start.begin,
+        live,
+        steps,
+    )
+}
+
+// The opening of the region, where all its words were looked at. It is taken out of the memory.
+#[cycle(search)]
+fn open<L>(
+    alloc: Global,
+    lists: &Lists<'_>,
+    table: &mut Table,
+    memory: &mut Memory,
+    key: Key,
+    gap: &Gap,
+    steps: &mut Steps<L>,
+) -> Result<Opening, NoMemory>
+    requires decided { KeysAreDecided lists.now }
+    requires key { IsValidKey lists.now.positions lists.now.lists key }
+    requires gap { IsGapOf lists.now key gap.now }
+    requires alike { BeginsWith lists.now gap.now.left gap.now.llist gap.now }
+    requires table { IsTable lists.now table.old }
+    requires known { IsMemory lists.now table.old memory.old }
+    requires room { HasRoom (key_width lists.now.positions key) steps.old table.old }
+    ensures opened { IfOk result (IsOpening lists.entry.now table.new (record { left = gap.now.left; llist = gap.now.llist })) }
+    ensures done { IfOk result (λ opening. gap.now.right ≤ opening.done) }
+    ensures asked { OnOk result (Asked lists.entry.now (AsksLeft lists.entry.now key IsAny) table.old table.new) }
+    ensures left { OnOk result (IsLeft lists.entry.now table.new memory.old memory.new) }
+    ensures steps { OnOk result (IsCounted 0 (steps.old + length memory.new.known) table.old (steps.new + length memory.old.known) table.new) }
+{
+    regions_begin_alike();
+    lists.are_numbered();
+    let origin = Origin {
+        left: gap.left,
+        llist: gap.llist,
+    };
+    let mut opening = match memory.openings.take(&origin) {
+        Some(opening) => opening,
+        None => Opening {
+            done: gap.left + 1,
+            starts: Vec::new(alloc),
+        },
+    };
+    for word in opening.done..gap.right {
+        open_word(
+            alloc,
+            lists,
+            table,
+            memory,
+            key,
+            gap,
+            word,
+            &mut opening,
+            steps,
+        )?;
+    }
+    Ok(opening)
+}
+
+// Looks at one word more.
+#[cycle(search)]
+fn open_word<L>(
+    alloc: Global,
+    lists: &Lists<'_>,
+    table: &mut Table,
+    memory: &mut Memory,
+    key: Key,
+    gap: &Gap,
+    word: u32,
+    opening: &mut Opening,
+    steps: &mut Steps<L>,
+) -> Result<(), NoMemory>
+    requires decided { KeysAreDecided lists.now }
+    requires key { IsValidKey lists.now.positions lists.now.lists key }
+    requires gap { IsGapOf lists.now key gap.now }
+    requires after { gap.now.left < word }
+    requires before { word < gap.now.right }
+    requires table { IsTable lists.now table.old }
+    requires known { IsMemory lists.now table.old memory.old }
+    requires room { HasRoom (key_width lists.now.positions key) steps.old table.old }
+    ensures opens { OnOk result (OpensWord lists.entry.now gap.now word opening.old opening.new) }
+    ensures asked { OnOk result (Asked lists.entry.now (AsksLeft lists.entry.now key (StandsAt word)) table.old table.new) }
+    ensures left { OnOk result (IsLeft lists.entry.now table.new memory.old memory.new) }
+    ensures steps { OnOk result (IsCounted 0 (steps.old + length memory.new.known) table.old (steps.new + length memory.old.known) table.new) }
+{
+    let groups = groups_at(alloc, lists, gap, word)?;
+    for index in 0..groups.len() {
+        let group = groups[index];
+        open_group(
+            alloc,
+            lists,
+            table,
+            memory,
+            key,
+            gap,
+            &group,
+            &mut opening.starts,
+            steps,
+        )?;
+    }
+    opening.done = word + 1;
+    Ok(())
+}
+
+// Adds the starts of a group whose left key has a linkage.
+#[cycle(search)]
+fn open_group<L>(
+    alloc: Global,
+    lists: &Lists<'_>,
+    table: &mut Table,
+    memory: &mut Memory,
+    key: Key,
+    gap: &Gap,
+    group: &Group,
+    starts: &mut Vec<Start>,
+    steps: &mut Steps<L>,
+) -> Result<(), NoMemory>
+    requires decided { KeysAreDecided lists.now }
+    requires key { IsValidKey lists.now.positions lists.now.lists key }
+    requires is_key { IsKeyOfGap key gap.now }
+    requires gap { IsKnownGap lists.now gap.now }
+    requires group { IsGroup lists.now gap.now group.now }
+    requires table { IsTable lists.now table.old }
+    requires known { IsMemory lists.now table.old memory.old }
+    requires room { HasRoom (key_width lists.now.positions key) steps.old table.old }
+    ensures starts { OnOk result (AddsStarts lists.entry.now gap.now group.now starts.old.items starts.new.items) }
+    ensures asked { OnOk result (Asked lists.entry.now (AsksLeft lists.entry.now key (StandsIn group.now.word group.now.from group.now.to)) table.old table.new) }
+    ensures left { OnOk result (IsLeft lists.entry.now table.new memory.old memory.new) }
+    ensures steps { OnOk result (IsCounted 0 (steps.old + length memory.new.known) table.old (steps.new + length memory.old.known) table.new) }
+{
+    let begins = beginnings(alloc, lists, gap, group)?;
+    for index in 0..begins.len() {
+        let begin = begins[index];
+        let lkey = begin.key(gap, group);
+        if visit(alloc, lists, table, memory, lkey, steps)? {
+            starts.push(Start {
+                group: *group,
+                begin,
+            })?;
+        }
+    }
+    Ok(())
 }
 
 // The same from all alternatives of the key, which are known or are made.
@@ -94,23 +354,23 @@ fn explore_all<L>(
     alloc: Global,
     lists: &Lists<'_>,
     table: &mut Table,
-    known: &mut Known,
+    memory: &mut Memory,
     key: Key,
     steps: &mut Steps<L>,
 ) -> Result<Alts, NoMemory>
     requires decided { KeysAreDecided lists.now }
     requires key { IsValidKey lists.now.positions lists.now.lists key }
     requires table { IsTable lists.now table.old }
-    requires known { AreKnown lists.now known.old }
+    requires known { IsMemory lists.now table.old memory.old }
     requires room { HasRoom (suc (key_width lists.now.positions key)) steps.old table.old }
     ensures live { let n = lists.entry.now in IfOk result (AreLive n.positions n.lists key) }
     ensures asked { let n = lists.entry.now in OnOk result (Asked n (AsksNext n.positions n.lists key) table.old table.new) }
-    ensures left { OnOk result (IsLeft lists.entry.now known.old known.new) }
-    ensures steps { OnOk result (IsCounted 1 (steps.old + length known.new) table.old (steps.new + length known.old) table.new) }
+    ensures left { OnOk result (IsLeft lists.entry.now table.new memory.old memory.new) }
+    ensures steps { OnOk result (IsCounted 1 (steps.old + length memory.new.known) table.old (steps.new + length memory.old.known) table.new) }
 {
     // the call tells that the table is short
     let _size = table.len();
-    let alts = alts_of(alloc, lists, known, key, steps)?;
+    let alts = alts_of(alloc, lists, &mut memory.known, key, steps)?;
     let mut flags = Vec::new(alloc);
     let mut last = Last {
         key: None,
@@ -121,7 +381,7 @@ fn explore_all<L>(
             alloc,
             lists,
             table,
-            known,
+            memory,
             alts.get(index),
             &mut last,
             steps,
@@ -137,7 +397,7 @@ fn explore_groups<L>(
     alloc: Global,
     lists: &Lists<'_>,
     table: &mut Table,
-    known: &mut Known,
+    memory: &mut Memory,
     key: Key,
     groups: &Groups,
     steps: &mut Steps<L>,
@@ -146,12 +406,12 @@ fn explore_groups<L>(
     requires key { IsValidKey lists.now.positions lists.now.lists key }
     requires groups { AreGroups lists.now key groups.now }
     requires table { IsTable lists.now table.old }
-    requires known { AreKnown lists.now known.old }
+    requires known { IsMemory lists.now table.old memory.old }
     requires room { HasRoom (key_width lists.now.positions key) steps.old table.old }
     ensures live { let n = lists.entry.now in IfOk result (AreLive n.positions n.lists key) }
     ensures asked { let n = lists.entry.now in OnOk result (Asked n (AsksNext n.positions n.lists key) table.old table.new) }
-    ensures left { OnOk result (IsLeft lists.entry.now known.old known.new) }
-    ensures steps { OnOk result (IsCounted 0 (steps.old + length known.new) table.old (steps.new + length known.old) table.new) }
+    ensures left { OnOk result (IsLeft lists.entry.now table.new memory.old memory.new) }
+    ensures steps { OnOk result (IsCounted 0 (steps.old + length memory.new.known) table.old (steps.new + length memory.old.known) table.new) }
 {
     alternatives_are_small();
     lists.are_numbered();
@@ -163,7 +423,7 @@ fn explore_groups<L>(
             alloc,
             lists,
             table,
-            known,
+            memory,
             key,
             &groups.gap,
             &group,
@@ -180,7 +440,7 @@ fn explore_group<L>(
     alloc: Global,
     lists: &Lists<'_>,
     table: &mut Table,
-    known: &mut Known,
+    memory: &mut Memory,
     key: Key,
     gap: &Gap,
     group: &Group,
@@ -193,18 +453,18 @@ fn explore_group<L>(
     requires gap { IsKnownGap lists.now gap.now }
     requires group { IsGroup lists.now gap.now group.now }
     requires table { IsTable lists.now table.old }
-    requires known { AreKnown lists.now known.old }
+    requires known { IsMemory lists.now table.old memory.old }
     requires room { HasRoom (key_width lists.now.positions key) steps.old table.old }
     ensures live { OnOk result (AddsLive lists.entry.now key (StandsIn group.now.word group.now.from group.now.to) live.old.items live.new.items) }
     ensures asked { OnOk result (Asked lists.entry.now (AsksAmong lists.entry.now key (StandsIn group.now.word group.now.from group.now.to)) table.old table.new) }
-    ensures left { OnOk result (IsLeft lists.entry.now known.old known.new) }
-    ensures steps { OnOk result (IsCounted 0 (steps.old + length known.new) table.old (steps.new + length known.old) table.new) }
+    ensures left { OnOk result (IsLeft lists.entry.now table.new memory.old memory.new) }
+    ensures steps { OnOk result (IsCounted 0 (steps.old + length memory.new.known) table.old (steps.new + length memory.old.known) table.new) }
 {
     let begins = beginnings(alloc, lists, gap, group)?;
     for index in 0..begins.len() {
         let begin = begins[index];
         explore_beginning(
-            alloc, lists, table, known, key, gap, group, &begin, live, steps,
+            alloc, lists, table, memory, key, gap, group, &begin, live, steps,
         )?;
     }
     Ok(())
@@ -216,7 +476,7 @@ fn explore_beginning<L>(
     alloc: Global,
     lists: &Lists<'_>,
     table: &mut Table,
-    known: &mut Known,
+    memory: &mut Memory,
     key: Key,
     gap: &Gap,
     group: &Group,
@@ -231,15 +491,15 @@ fn explore_beginning<L>(
     requires group { IsGroup lists.now gap.now group.now }
     requires begins { (a : _) × IsIn lists.now gap.now group.now a × BeginsSo gap.now group.now begin.now a }
     requires table { IsTable lists.now table.old }
-    requires known { AreKnown lists.now known.old }
+    requires known { IsMemory lists.now table.old memory.old }
     requires room { HasRoom (key_width lists.now.positions key) steps.old table.old }
     ensures live { OnOk result (AddsLive lists.entry.now key (IsEnding gap.now group.now begin.now) live.old.items live.new.items) }
     ensures asked { OnOk result (Asked lists.entry.now (AsksAmong lists.entry.now key (IsEnding gap.now group.now begin.now)) table.old table.new) }
-    ensures left { OnOk result (IsLeft lists.entry.now known.old known.new) }
-    ensures steps { OnOk result (IsCounted 0 (steps.old + length known.new) table.old (steps.new + length known.old) table.new) }
+    ensures left { OnOk result (IsLeft lists.entry.now table.new memory.old memory.new) }
+    ensures steps { OnOk result (IsCounted 0 (steps.old + length memory.new.known) table.old (steps.new + length memory.old.known) table.new) }
 {
     let lkey = begin.key(gap, group);
-    if !visit(alloc, lists, table, known, lkey, steps)? {
+    if !visit(alloc, lists, table, memory, lkey, steps)? {
         return Ok(());
     }
     let mut last = Last {
@@ -250,7 +510,7 @@ fn explore_beginning<L>(
     push_endings(alloc, lists, gap, group, begin, &mut alts)?;
     for index in 0..alts.len() {
         let alt = alts[index];
-        if is_live(alloc, lists, table, known, alt, &mut last, steps)? {
+        if is_live(alloc, lists, table, memory, alt, &mut last, steps)? {
             live.push(alt)?;
         }
     }
@@ -269,7 +529,8 @@ fn alts_of<L>(
     requires known { AreKnown lists.now known.old }
     requires room { steps.old < 2 ^ 127 }
     ensures alts { let n = lists.entry.now in IfOk result (AreAltsOf n.positions n.lists key) }
-    ensures left { IsLeft lists.entry.now known.old known.new }
+    ensures kept { AreKnown lists.entry.now known.new }
+    ensures fewer { length known.new ≤ length known.old }
     ensures steps { steps.new + length known.old ≡ 1 + steps.old + length known.new }
 {
     if let Some(alts) = known.take(&key) {
@@ -284,7 +545,7 @@ fn is_live<L>(
     alloc: Global,
     lists: &Lists<'_>,
     table: &mut Table,
-    known: &mut Known,
+    memory: &mut Memory,
     alt: Alt,
     last: &mut Last,
     steps: &mut Steps<L>,
@@ -292,20 +553,20 @@ fn is_live<L>(
     requires decided { KeysAreDecided lists.now }
     requires keys { HasValidKeys lists.now alt }
     requires table { IsTable lists.now table.old }
-    requires known { AreKnown lists.now known.old }
+    requires known { IsMemory lists.now table.old memory.old }
     requires last { IsLast lists.now table.old last.old }
     requires room { HasRoom (alt_bound lists.now.positions alt) steps.old table.old }
     ensures live { let n = lists.entry.now in IfOk result (λ live. IsTrue live ↔ IsLive n.positions n.lists alt) }
     ensures asked { OnOk result (Asked lists.entry.now (AsksOf lists.entry.now alt) table.old table.new) }
     ensures last { OnOk result (IsLast lists.entry.now table.new last.new) }
-    ensures left { OnOk result (IsLeft lists.entry.now known.old known.new) }
-    ensures steps { OnOk result (IsCounted 0 (steps.old + length known.new) table.old (steps.new + length known.old) table.new) }
+    ensures left { OnOk result (IsLeft lists.entry.now table.new memory.old memory.new) }
+    ensures steps { OnOk result (IsCounted 0 (steps.old + length memory.new.known) table.old (steps.new + length memory.old.known) table.new) }
 {
     match alt {
         Alt::AllNull => Ok(true),
         Alt::Split { lkey, rkey, .. } => {
-            if visit_left(alloc, lists, table, known, lkey, last, steps)? {
-                visit_part(alloc, lists, table, known, rkey, steps)
+            if visit_left(alloc, lists, table, memory, lkey, last, steps)? {
+                visit_part(alloc, lists, table, memory, rkey, steps)
             } else {
                 Ok(false)
             }
@@ -319,7 +580,7 @@ fn visit_left<L>(
     alloc: Global,
     lists: &Lists<'_>,
     table: &mut Table,
-    known: &mut Known,
+    memory: &mut Memory,
     key: Option<Key>,
     last: &mut Last,
     steps: &mut Steps<L>,
@@ -327,19 +588,19 @@ fn visit_left<L>(
     requires decided { KeysAreDecided lists.now }
     requires key { IfSome key (IsValidKey lists.now.positions lists.now.lists) }
     requires table { IsTable lists.now table.old }
-    requires known { AreKnown lists.now known.old }
+    requires known { IsMemory lists.now table.old memory.old }
     requires last { IsLast lists.now table.old last.old }
     requires room { HasRoom (part_bound lists.now.positions key) steps.old table.old }
     ensures found { let n = lists.entry.now in IfOk result (λ found. IsTrue found ↔ IfSome key (HasLinkageUnder n.positions n.lists)) }
     ensures asked { OnOk result (Asked lists.entry.now (λ k. key ≡ Some k) table.old table.new) }
     ensures last { OnOk result (IsLast lists.entry.now table.new last.new) }
-    ensures left { OnOk result (IsLeft lists.entry.now known.old known.new) }
-    ensures steps { OnOk result (IsCounted 0 (steps.old + length known.new) table.old (steps.new + length known.old) table.new) }
+    ensures left { OnOk result (IsLeft lists.entry.now table.new memory.old memory.new) }
+    ensures steps { OnOk result (IsCounted 0 (steps.old + length memory.new.known) table.old (steps.new + length memory.old.known) table.new) }
 {
     if last.key == key {
         return Ok(last.live);
     }
-    let live = visit_part(alloc, lists, table, known, key, steps)?;
+    let live = visit_part(alloc, lists, table, memory, key, steps)?;
     *last = Last { key, live };
     Ok(live)
 }
@@ -350,22 +611,22 @@ fn visit_part<L>(
     alloc: Global,
     lists: &Lists<'_>,
     table: &mut Table,
-    known: &mut Known,
+    memory: &mut Memory,
     key: Option<Key>,
     steps: &mut Steps<L>,
 ) -> Result<bool, NoMemory>
     requires decided { KeysAreDecided lists.now }
     requires key { IfSome key (IsValidKey lists.now.positions lists.now.lists) }
     requires table { IsTable lists.now table.old }
-    requires known { AreKnown lists.now known.old }
+    requires known { IsMemory lists.now table.old memory.old }
     requires room { HasRoom (part_bound lists.now.positions key) steps.old table.old }
     ensures found { let n = lists.entry.now in IfOk result (λ found. IsTrue found ↔ IfSome key (HasLinkageUnder n.positions n.lists)) }
     ensures asked { OnOk result (Asked lists.entry.now (λ k. key ≡ Some k) table.old table.new) }
-    ensures left { OnOk result (IsLeft lists.entry.now known.old known.new) }
-    ensures steps { OnOk result (IsCounted 0 (steps.old + length known.new) table.old (steps.new + length known.old) table.new) }
+    ensures left { OnOk result (IsLeft lists.entry.now table.new memory.old memory.new) }
+    ensures steps { OnOk result (IsCounted 0 (steps.old + length memory.new.known) table.old (steps.new + length memory.old.known) table.new) }
 {
     match key {
         None => Ok(true),
-        Some(key) => visit(alloc, lists, table, known, key, steps),
+        Some(key) => visit(alloc, lists, table, memory, key, steps),
     }
 }

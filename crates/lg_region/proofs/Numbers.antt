@@ -19,7 +19,7 @@ use Rattle.lg_region.specs.declared.key.Key.TheVariants.{Whole, Region as Betwee
 use Rattle.lg_region.specs.declared.alternative.Alt.{Alt}
 use Rattle.lg_region.specs.declared.alternative.Alt.TheVariants.{AllNull, Split as At}
 use Rattle.lg_region.proofs.Elements.{contains_here, contains_later, contains_cases, contains_none}
-use Rattle.lg_region.proofs.Valid.{cut_valid, first_valid}
+use Rattle.lg_region.proofs.Valid.{known_right, cut_valid, first_valid}
 
 pub map_in : {X Y : Type 0} (f : X → Y) (xs : List X) (x : X) → Contains xs x → Contains (map f xs) (f x)
 map_in f [] x c = absurd (contains_none x c)
@@ -167,6 +167,10 @@ known_number positions lists are cs (inr (i, d, m, c, inr e)) =
       | inl z ↦ (0, omega arith, sym (e ∙ z))
       | inr z ↦ numbered positions lists are cs (subst (λ v. Contains (all_fronts positions) v) (sym e) (side_front positions i d (take m d.right) c (Contains-append_right (fronts d.left) (fronts d.right) (take m d.right) z)))
     ]
+
+-- the right list of a disjunct has a number
+pub right_number : (positions : List (List Disjunct)) (lists : List (List Connector)) → AreListsOf positions lists → (i : ℕ) (d : Disjunct) → Contains (get_or positions i []) d → (n : ℕ) × (n ≤ length lists) × (list_of lists n ≡ d.right)
+right_number positions lists are i d c = known_number positions lists are d.right (known_right positions i d c)
 
 region_again : (k : Region) (a b : List Connector) → a ≡ k.llist → b ≡ k.rlist → k ≡ record { left = k.left; right = k.right; llist = a; rlist = b; nulls = k.nulls }
 region_again k a b e f =

@@ -43,7 +43,7 @@ far_nil (Some j) near far near' far' cut e = let x = ap length e in let y = cut.
 known_left : (positions : List (List Disjunct)) (i : ℕ) (d : Disjunct) → Contains (slice_index_or positions i []) d → IsKnown positions d.left
 known_left positions i d h = inr (i, d, length d.left, h, inl (sym (take-length d.left)))
 
-known_right : (positions : List (List Disjunct)) (i : ℕ) (d : Disjunct) → Contains (slice_index_or positions i []) d → IsKnown positions d.right
+pub known_right : (positions : List (List Disjunct)) (i : ℕ) (d : Disjunct) → Contains (slice_index_or positions i []) d → IsKnown positions d.right
 known_right positions i d h = inr (i, d, length d.right, h, inr (sym (take-length d.right)))
 
 pub cut_valid : (positions : List (List Disjunct)) (k : Region) (c : Split) → IsValid positions k → IsCut positions k c → IsValid positions c.lkey × IsValid positions c.rkey

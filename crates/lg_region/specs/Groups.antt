@@ -9,6 +9,7 @@ use Rattle.lg_region.specs.Fronts.{Numbering, list_of}
 use Rattle.lg_region.specs.Keys.{region_of_numbers, IsAltOfRegion, IsAltOfWhole, IsDisjunctAt}
 use Rattle.lg_region.specs.Chains.{class_of, list_on, IsNext}
 use Rattle.lg_region.specs.Ways.{AddsExactly}
+use Rattle.lg_region.specs.declared.chains.Side.TheVariants.{Left}
 use Rattle.lg_region.specs.declared.key.Key.TheVariants.{Region as Between}
 use Rattle.lg_region.specs.declared.alternative.Alt.{Alt}
 use Rattle.lg_region.specs.declared.alternative.Alt.TheVariants.{AllNull, Split as At}
@@ -20,6 +21,10 @@ use Rattle.lg_region.specs.declared.group.Right.{Right}
 
 abbrev pub region_of_gap : List (List Connector) → Gap → Region
 region_of_gap lists gap = region_of_numbers lists gap.left gap.right gap.llist gap.rlist gap.nulls
+
+-- the disjuncts that can be joined with a list to their left
+abbrev pub left_lead : Numbering → ℕ → Lead
+left_lead n llist = record { side = Left; class = class_of (list_of n.lists llist) }
 
 -- a disjunct has the class that is looked for
 abbrev pub IsLed : Lead → Disjunct → Type 0

@@ -11,3 +11,4 @@ pub mod Groups
 pub mod Small
 pub mod Chains
 pub mod Openings
+pub mod Alike

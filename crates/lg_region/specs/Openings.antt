@@ -1,9 +1,9 @@
 -- How the alternatives of a region begin: by groups of disjuncts, and in a group by the left joint and the left key.
-use Rattle.std.specs.Prelude.{◌≡◌, ℕ, ◌≤◌, List, ◌++◌, Some, slice_get}
+use Rattle.std.specs.Prelude.{◌≡◌, ◌≢◌, ℕ, ◌<◌, ◌≤◌, List, ◌++◌, length, Some, slice_get}
 use Rattle.std.specs.List.{Contains}
 use Rattle.lg_region.specs.Fronts.{Numbering, AreOnce}
 use Rattle.lg_region.specs.Keys.{IsAltOfRegion}
-use Rattle.lg_region.specs.Groups.{region_of_gap, IsGroup, IsKnownGap, IsRightOf, StandsIn}
+use Rattle.lg_region.specs.Groups.{region_of_gap, IsGroup, IsKnownGap, IsRightOf, StandsIn, left_lead}
 use Rattle.lg_region.specs.declared.key.Key.{Key}
 use Rattle.lg_region.specs.declared.key.Key.TheVariants.{Region as Between}
 use Rattle.lg_region.specs.declared.alternative.Alt.{Alt}
@@ -18,6 +18,15 @@ use Rattle.lg_region.specs.declared.opening.Groups.{Groups}
 -- the key of a region
 abbrev pub IsKeyOfGap : Key → Gap → Type 0
 IsKeyOfGap key gap = key ≡ Between gap.left gap.right gap.llist gap.rlist gap.nulls
+
+-- the region of a valid key that has a list; where its left list is not empty, its disjuncts are found by that
+pub record IsGapOf (n : Numbering) (key : Key) (gap : Gap) : Type 0 where
+  pub key_is : IsKeyOfGap key gap
+  pub known : IsKnownGap n gap
+  pub ends : gap.left < gap.right
+  pub within : gap.right ≤ length n.positions
+  pub some : (gap.llist ≡ 0) × (gap.rlist ≡ 0) → ⊥
+  pub lead : gap.llist ≢ 0 → gap.lead ≡ left_lead n gap.llist
 
 -- an alternative of the region of a gap that stands in a group
 abbrev pub IsIn : Numbering → Gap → Group → Alt → Type 0

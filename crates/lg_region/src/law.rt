@@ -3,6 +3,7 @@ ghost use Rattle.std.specs.Prelude.{List};
 ghost use Rattle.lg_gram.specs.Connectors.{Connector};
 ghost use Rattle.lg_gram.specs.declared.disjunct.Disjunct.{Disjunct};
 ghost use Rattle.lg_region.specs.Fronts.{AreListsOf};
+ghost use Rattle.lg_region.specs.Alike.{RegionsBeginAlike};
 ghost use Rattle.lg_region.specs.Laws.{RegionsAreCutOnce, SentencesAreCutOnce, CutsAreValid, AlternativesDecide, WholeAlternativesDecide, PartsMakeLinkages, NumbersTellListsApart, AlternativesAreSmall};
 
 /// Every linkage under a region is spelled by exactly one alternative of the region, and an alternative spells only linkages
@@ -43,4 +44,10 @@ pub fn numbers_tell_lists_apart()
 /// The alternatives of a key of a problem have room in few bytes.
 pub fn alternatives_are_small()
     ensures { AlternativesAreSmall }
+{}
+
+/// Two regions that begin at one position with one list, in which no word is unlinked, begin alike: for each alternative of the
+/// one that cuts it before the end of the other, the other has one with the same word, disjunct, left joint and left key.
+pub fn regions_begin_alike()
+    ensures { RegionsBeginAlike }
 {}

@@ -22,7 +22,7 @@ pub use group::{Gap, Group};
 pub use key::{Joint, Key};
 pub use law::{
     alternatives_are_small, alternatives_decide, cuts_are_valid, numbers_tell_lists_apart,
-    parts_make_linkages, regions_are_cut_once, sentences_are_cut_once,
+    parts_make_linkages, regions_are_cut_once, regions_begin_alike, sentences_are_cut_once,
 };
 pub use lists::Lists;
-pub use opening::{Beginning, Groups, beginnings, groups_of, push_endings};
+pub use opening::{Beginning, Groups, beginnings, gap_of, groups_at, groups_of, push_endings};

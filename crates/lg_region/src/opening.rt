@@ -1,6 +1,6 @@
 //! How the alternatives of a region begin, so that a caller need not make those whose left key it has no use for.
 ghost use Rattle.std.specs.Prelude.{◌≡◌, ◌≢◌, ◌+◌, ◌++◌, ◌<◌, ◌≤◌, ◌↔◌, [], length, map, slice_index_or, IfOk, IfSome, IsTrue, OnOk};
-ghost use Rattle.lg_region.specs.Openings.{AreBeginnings, AreGroups, BeginsSo, GroupsOfWord, HasRight, IsKeyOfGap, begins_at, left_of};
+ghost use Rattle.lg_region.specs.Openings.{AreBeginnings, AreGroups, BeginsSo, GroupsOfWord, HasRight, IsGapOf, begins_at, left_of};
 ghost use Rattle.lg_region.specs.Groups.{IsGroup, IsKnownGap, StandsIn, region_of_gap};
 ghost use Rattle.lg_region.specs.Keys.{IsAltOfRegion, IsValidKey};
 ghost use Rattle.lg_region.specs.Ways.{AddsExactly};
@@ -44,13 +44,14 @@ impl Beginning {
     }
 }
 
-/// The groups of a region: each alternative of it stands in exactly one. None for the whole sentence, and where both lists are empty.
-pub fn groups_of(alloc: Global, lists: &Lists<'_>, key: Key) -> Result<Option<Groups>, NoMemory>
+/// The region of a key, with the class of the disjuncts that can cut it. None for the whole sentence, and where both lists are
+/// empty. No memory.
+pub fn gap_of(lists: &Lists<'_>, key: Key) -> Option<Gap>
     requires { IsValidKey lists.now.positions lists.now.lists key }
-    ensures { IfOk result (λ groups. IfSome groups (AreGroups lists.entry.now key)) }
+    ensures { IfSome result (IsGapOf lists.now key) }
 {
     match key {
-        Key::Whole { .. } => Ok(None),
+        Key::Whole { .. } => None,
         Key::Region {
             left,
             right,
@@ -59,29 +60,25 @@ pub fn groups_of(alloc: Global, lists: &Lists<'_>, key: Key) -> Result<Option<Gr
             nulls,
         } => {
             if llist == 0 && rlist == 0 {
-                return Ok(None);
+                return None;
             }
             let lead = lead_of(lists, llist, rlist);
-            let gap = Gap {
+            Some(Gap {
                 left,
                 right,
                 llist,
                 rlist,
                 nulls,
                 lead,
-            };
-            let groups = groups_of_gap(alloc, lists, gap)?;
-            Ok(Some(groups))
+            })
         }
     }
 }
 
-fn groups_of_gap(alloc: Global, lists: &Lists<'_>, gap: Gap) -> Result<Groups, NoMemory>
-    requires known { IsKnownGap lists.now gap }
-    requires ends { gap.left < gap.right }
-    requires within { gap.right ≤ length lists.now.positions }
-    requires some { (gap.llist ≡ 0) × (gap.rlist ≡ 0) → ⊥ }
-    ensures { IfOk result (λ groups. (key : _) → IsKeyOfGap key gap → AreGroups lists.entry.now key groups) }
+/// The groups of the region of a key: each alternative of it stands in exactly one.
+pub fn groups_of(alloc: Global, lists: &Lists<'_>, gap: Gap) -> Result<Groups, NoMemory>
+    requires { (key : _) × IsGapOf lists.now key gap }
+    ensures { IfOk result (λ groups. (key : _) → IsGapOf lists.entry.now key gap → (groups.gap ≡ gap) × AreGroups lists.entry.now key groups) }
 {
     lists.are_numbered();
     let mut items = Vec::new(alloc);
@@ -89,6 +86,24 @@ fn groups_of_gap(alloc: Global, lists: &Lists<'_>, gap: Gap) -> Result<Groups, N
         push_groups(lists, &gap, word, &mut items)?;
     }
     Ok(Groups { gap, items })
+}
+
+/// The groups of a region at one of its words: each alternative that cuts it there stands in exactly one.
+pub fn groups_at(
+    alloc: Global,
+    lists: &Lists<'_>,
+    gap: &Gap,
+    word: u32,
+) -> Result<Vec<Group>, NoMemory>
+    requires known { IsKnownGap lists.now gap.now }
+    requires after { gap.now.left < word }
+    requires before { word < gap.now.right }
+    requires within { gap.now.right ≤ length lists.now.positions }
+    ensures { IfOk result (λ groups. GroupsOfWord lists.entry.now gap.now word (length (slice_index_or lists.entry.now.positions word [])) [] groups.items) }
+{
+    let mut groups = Vec::new(alloc);
+    push_groups(lists, gap, word, &mut groups)?;
+    Ok(groups)
 }
 
 // Adds the groups of a word.

@@ -1,4 +1,4 @@
-use Rattle.std.proofs.Common.{refl, List, [], ◌∷◌, ◌++◌, ◌≡◌, ◌↔◌, ◌+◌, ◌∙◌, true≢false, Option, subst, sym, ap, Some, IsTrue, IfOk, OnOk, IfSome, length, take, slice_get, Contains, map, arith, rules}
+use Rattle.std.proofs.Common.{◌≢◌, ◌<◌, inl, inr, refl, List, [], ◌∷◌, ◌++◌, ◌≡◌, ◌↔◌, ◌+◌, ◌∙◌, true≢false, Option, subst, sym, ap, Some, IsTrue, IfOk, OnOk, IfSome, length, take, slice_get, Contains, map, arith, rules}
 use Rattle.lg_region.specs.Keys.{kept}
 use Rattle.lg_region.specs.Small.{full}
 use Rattle.lg_forest.specs.Demands.{HasLinkageUnder, left_key}
@@ -8,16 +8,21 @@ use Rattle.lg_region.specs.declared.key.Key.{Key}
 use Rattle.lg_region.specs.declared.alternative.Alt.TheVariants.{Split as At}
 use Rattle.lg_forest.proofs.Asked.{live_decides, not_there, asked_added, asked_as, asked_more, asked_all, asked_left, asked_both, ok_as, on_ok_as, last_kept, alt_at, exact}
 use Rattle.lg_forest.proofs.Flags.{Flags, kept_live, flags_long, flags_more, all_flags}
-use Rattle.lg_forest.specs.Halves.{AsksAmong, IsEnding}
+use Rattle.lg_forest.specs.Halves.{AddsLive, AsksAmong, IsEnding}
 use Rattle.lg_forest.proofs.Among as part
 use Rattle.lg_forest.proofs.Among.{Among, In}
 use Rattle.lg_region.specs.declared.alternative.Alt.{Alt}
 use Rattle.lg_region.specs.Fronts.{AreOnce}
+use Rattle.lg_region.specs.Alike.{BeginsWith}
 use Rattle.lg_region.specs.Openings.{AreGroups, left_of}
+use Rattle.lg_region.specs.declared.opening.Beginning.{Beginning}
+use Rattle.lg_forest.specs.Opened.{AsksLeft, IsAny, IsLeft, IsMemory, IsOpening, StandsAt, StartsSo}
 use Rattle.lg_region.specs.Ways.{AddsExactly}
 use Rattle.lg_forest.proofs.Once.{contains_at}
 use Rattle.lg_forest.proofs.search.+search.Goals as goal
-use Rattle.lg_forest.proofs.search.+search.Goals.{explore_beginning-then-branch+in_ok-push, explore_beginning-else-branch}
+use Rattle.lg_forest.proofs.search.+search.Goals.{explore_beginning-then-branch+in_ok-push, explore_beginning-else-branch, open_group-then-branch+in_ok-push, open_group-else-branch, open-in-Some, open-in-None}
+use Rattle.lg_forest.proofs.Opening.{memory_added, none_starts, opening_kept, opening_new, opening_some, word_opened, words_all, words_first, words_next}
+use Rattle.lg_forest.proofs.Starting.{IsOfGroup, OfFirst, SoFar, opening_asked, opening_live, start_asked, group_asked, group_started, group_there, groups_apart, groups_started, left_asked, lefts_as, lefts_then, start_dropped, start_kept, at_word, word_started}
 
 same_key : (k m : Key) → ◌≡◌ {A = Option Key} (Some k) (Some m) → k ≡ m
 same_key k m e = cc
@@ -119,6 +124,11 @@ visit-returns-clause-asked g t c =
     let x = asked_added c.args.lists.now c.args.key c.in_ok-live.live c.args.table.now c.explore.new.table c.requires.key c.in_ok-live.ensures.live c.in_ok-live.ensures.asked in
     subst (λ z. Asked c.args.lists.now (λ k. k ≡ c.args.key) c.args.table.now z) (sym c.in_ok-add.ensures) x
 
+pub visit-returns-clause-left : goal.visit-returns-clause-left
+visit-returns-clause-left g t c =
+    let left = c.in_ok-live.ensures.left in
+    record { known = subst (λ z. IsMemory c.args.lists.now z c.explore.new.memory) (sym c.in_ok-add.ensures) (memory_added c.args.lists.now c.explore.new.table c.args.key c.in_ok-live.live c.explore.new.memory left.known); fewer = left.fewer }
+
 pub visit_part-returns-in-Some-clause-found : goal.visit_part-returns-in-Some-clause-found
 visit_part-returns-in-Some-clause-found g t c =
     let n = c.args.lists.now in subst (λ z. IfOk c.visit.result (λ found. IsTrue found ↔ IfSome z (HasLinkageUnder n.positions n.lists))) (sym c.in-Some.is) c.visit.ensures.found
@@ -138,11 +148,298 @@ explore-tick-requires g t c =
     let fits = c.len-size.type_inv in
     omega arith
 
-pub explore-explore_groups-requires : goal.explore-explore_groups-requires
-explore-explore_groups-requires g t c κs within =
+pub explore-explore_gap-requires : goal.explore-explore_gap-requires
+explore-explore_gap-requires g t c κs within =
     let room = c.requires.room in
     let ticked = c.tick.ensures in
-    (search rules, (search rules, (c.requires.decided, (c.requires.key, (subst (λ z. IfSome z (AreGroups c.args.lists.now c.args.key)) c.in-Some.is c.in_ok-groups_of.ensures, (c.requires.table, (c.requires.known, omega arith)))))))
+    (search rules, (search rules, (c.requires.decided, (c.requires.key, (c.in-Some.ensures, (c.requires.table, (c.requires.known, omega arith)))))))
+
+pub explore_gap-explore_opening-requires : goal.explore_gap-explore_opening-requires
+explore_gap-explore_opening-requires g t c κs within =
+    let is = c.requires.gap in
+    let some : c.args.gap.llist ≢ 0 = c.if-gap-ne0.true in
+    let begins : BeginsWith c.args.lists.now c.args.gap.left c.args.gap.llist c.args.gap = record { left_is = refl; llist_is = refl; some = some; all_linked = c.if-gap-eq0.true; lead = is.lead some; known = is.known } in
+    let room = c.requires.room in
+    (search rules, (search rules, (c.requires.decided, (c.requires.key, (is, (begins, (c.requires.table, (c.requires.known, omega arith))))))))
+
+pub explore_gap-groups_of-requires : goal.explore_gap-groups_of-requires
+explore_gap-groups_of-requires g t c = (c.args.key, c.requires.gap)
+
+pub explore_gap-explore_groups-requires : goal.explore_gap-explore_groups-requires
+explore_gap-explore_groups-requires g t c κs within =
+    let room = c.requires.room in
+    (search rules, (search rules, (c.requires.decided, (c.requires.key, ((c.in_ok-groups.ensures c.args.key c.requires.gap).1, (c.requires.table, (c.requires.known, omega arith)))))))
+
+pub open_group-loop-index-init : goal.open_group-loop-index-init
+open_group-loop-index-init g t c = record {
+  starts = part.adds_none c.args.starts.now.items _ (λ s (u, m, v). part.among_none (λ (b : Beginning) (d : Beginning). b ≡ d) c.in_ok-begins.begins.items s.begin m);
+  asked = part.asked_start c.args.lists.now _ c.args.table.now c.requires.table (λ k m. part.among_none (λ (b : Beginning) (k : Key). left_of c.args.gap.now c.args.group.now b ≡ k) c.in_ok-begins.begins.items k m);
+  left = record { known = c.requires.known; fewer = omega arith };
+  steps = omega arith;
+}
+
+pub open_group-visit-requires : goal.open_group-visit-requires
+open_group-visit-requires g t c κs within =
+    let end : c.len-index-end.result ≡ length c.in_ok-begins.begins.items = c.len-index-end.ensures ∙ c.in_ok-begins.begins.ok.0 in
+    let test = c.loop-index-test.true in
+    let at = part.at_of c.in_ok-begins.begins.items c.loop-index.index c.index.result.now (omega arith) c.index.ensures in
+    let of = c.in_ok-begins.ensures.each c.index.result.now (contains_at c.in_ok-begins.begins.items c.loop-index.index c.index.result.now at) in
+    let valid = part.left_valid c.args.lists.now c.args.key c.args.gap.now c.args.group.now c.index.result.now c.key-lkey.result c.requires.decided c.requires.key c.requires.is_key c.key-lkey.ensures of in
+    let narrow = valid.1 in
+    let steps = c.loop-index.invariant.steps in
+    let fewer = c.loop-index.invariant.left.fewer in
+    let room = c.requires.room in
+    (search rules, (search rules, (c.requires.decided, (valid.0, (c.loop-index.invariant.asked.is_table, (c.loop-index.invariant.left.known, omega arith))))))
+
+pub open_group-loop-index-preserved : goal.open_group-loop-index-preserved
+open_group-loop-index-preserved g t c =
+    let n = c.args.lists.now in
+    let gap = c.args.gap.now in
+    let group = c.args.group.now in
+    let bs = c.in_ok-begins.begins.items in
+    let i = c.loop-index.index in
+    let b = c.index.result.now in
+    let end : c.len-index-end.result ≡ length bs = c.len-index-end.ensures ∙ c.in_ok-begins.begins.ok.0 in
+    let test = c.loop-index-test.true in
+    let at = part.at_of bs i b (omega arith) c.index.ensures in
+    let before = c.loop-index.invariant.steps in
+    let after = c.in_ok-visit.ensures.steps in
+    let fewer = c.loop-index.invariant.left.fewer in
+    let fewest = c.in_ok-visit.ensures.left.fewer in
+    let key = c.key-lkey.ensures in
+    record {
+      starts = elim c.if-branch.branch [
+        | open_group-then-branch+in_ok-push w ↦ subst (λ z. AddsExactly c.args.starts.now.items z (OfFirst n gap group bs (i + 1))) (sym (ap (λ v. v.items) w.starts-is))
+            (start_kept n gap group bs i (i + 1) b (omega arith) at c.args.starts.now.items c.loop-index.starts.items _ (record { group = group; begin = b }) c.in_ok-begins.ensures.once refl refl
+            (subst (λ z. HasLinkageUnder n.positions n.lists z) key (c.in_ok-visit.ensures.found.0 w.if-branch.true)) w.in_ok-push.ensures.items c.loop-index.invariant.starts)
+        | open_group-else-branch w ↦ subst (λ z. AddsExactly c.args.starts.now.items z (OfFirst n gap group bs (i + 1))) (sym (ap (λ v. v.items) w.starts-is))
+            (start_dropped n gap group bs i (i + 1) b (omega arith) at c.args.starts.now.items c.loop-index.starts.items (λ l. true≢false (sym (c.in_ok-visit.ensures.found.1 (subst (λ z. HasLinkageUnder n.positions n.lists z) (sym key) l)) ∙ w.if-branch.false)) c.loop-index.invariant.starts)
+      ];
+      asked = left_asked n gap group bs i (i + 1) b (omega arith) at c.args.table.now c.loop-index.table c.visit.new.table c.key-lkey.result key c.loop-index.invariant.asked c.in_ok-visit.ensures.asked;
+      left = record { known = c.in_ok-visit.ensures.left.known; fewer = omega arith };
+      steps = omega arith;
+    }
+
+pub open_group-returns-clause-starts : goal.open_group-returns-clause-starts
+open_group-returns-clause-starts g t c =
+    let bs = c.in_ok-begins.begins.items in
+    let end : c.len-index-end.result ≡ length bs = c.len-index-end.ensures ∙ c.in_ok-begins.begins.ok.0 in
+    let test = c.loop-index-test.false in
+    group_started c.args.lists.now c.args.key c.args.gap.now c.args.group.now c.requires.is_key bs c.in_ok-begins.ensures c.loop-index.index (omega arith) c.args.starts.now.items c.loop-index.starts.items c.loop-index.invariant.starts
+
+pub open_group-returns-clause-asked : goal.open_group-returns-clause-asked
+open_group-returns-clause-asked g t c =
+    let bs = c.in_ok-begins.begins.items in
+    let end : c.len-index-end.result ≡ length bs = c.len-index-end.ensures ∙ c.in_ok-begins.begins.ok.0 in
+    let test = c.loop-index-test.false in
+    group_asked c.args.lists.now c.args.key c.args.gap.now c.args.group.now c.requires.is_key bs c.in_ok-begins.ensures c.loop-index.index (omega arith) c.args.table.now c.loop-index.table c.loop-index.invariant.asked
+
+pub open_word-loop-index-init : goal.open_word-loop-index-init
+open_word-loop-index-init g t c = record {
+  starts = part.adds_none c.args.opening.now.starts.items _ (λ s m. part.among_none (IsOfGroup c.args.lists.now c.args.gap.now) c.in_ok-groups.groups.items s m);
+  asked = part.asked_start c.args.lists.now _ c.args.table.now c.requires.table (λ k (a, alt, m, e). part.among_none In c.in_ok-groups.groups.items a m);
+  left = record { known = c.requires.known; fewer = omega arith };
+  steps = omega arith;
+}
+
+pub open_word-open_group-requires : goal.open_word-open_group-requires
+open_word-open_group-requires g t c κs within =
+    let gs = c.in_ok-groups.groups.items in
+    let end : c.len-index-end.result ≡ length gs = c.len-index-end.ensures ∙ c.in_ok-groups.groups.ok.0 in
+    let test = c.loop-index-test.true in
+    let at = part.at_of gs c.loop-index.index c.index.result.now (omega arith) c.index.ensures in
+    let of = group_there c.args.lists.now c.args.gap.now c.args.word gs c.in_ok-groups.ensures c.index.result.now (contains_at gs c.loop-index.index c.index.result.now at) in
+    let steps = c.loop-index.invariant.steps in
+    let fewer = c.loop-index.invariant.left.fewer in
+    let room = c.requires.room in
+    (search rules, (search rules, (c.requires.decided, (c.requires.key, (c.requires.gap.key_is, (c.requires.gap.known, (of.0, (c.loop-index.invariant.asked.is_table, (c.loop-index.invariant.left.known, omega arith)))))))))
+
+pub open_word-loop-index-preserved : goal.open_word-loop-index-preserved
+open_word-loop-index-preserved g t c =
+    let n = c.args.lists.now in
+    let gs = c.in_ok-groups.groups.items in
+    let i = c.loop-index.index in
+    let end : c.len-index-end.result ≡ length gs = c.len-index-end.ensures ∙ c.in_ok-groups.groups.ok.0 in
+    let test = c.loop-index-test.true in
+    let at = part.at_of gs i c.index.result.now (omega arith) c.index.ensures in
+    let step = part.among_next In gs i (i + 1) c.index.result.now (omega arith) at in
+    let before = c.loop-index.invariant.steps in
+    let after = c.in_ok-open_group.ensures.steps in
+    let fewer = c.loop-index.invariant.left.fewer in
+    let fewest = c.in_ok-open_group.ensures.left.fewer in
+    record {
+      starts = groups_started n c.args.gap.now gs (groups_apart n c.args.gap.now c.args.word gs c.in_ok-groups.ensures) i (i + 1) c.index.result.now (omega arith) at c.args.opening.now.starts.items c.loop-index.opening.starts.items c.open_group.new.starts.items c.loop-index.invariant.starts c.in_ok-open_group.ensures.starts;
+      asked = lefts_then n c.args.key (Among In gs i) (In c.index.result.now) (Among In gs (i + 1)) step c.args.table.now c.loop-index.table c.open_group.new.table c.loop-index.invariant.asked c.in_ok-open_group.ensures.asked;
+      left = record { known = c.in_ok-open_group.ensures.left.known; fewer = omega arith };
+      steps = omega arith;
+    }
+
+pub open_word-returns-clause-opens : goal.open_word-returns-clause-opens
+open_word-returns-clause-opens g t c =
+    let gs = c.in_ok-groups.groups.items in
+    let end : c.len-index-end.result ≡ length gs = c.len-index-end.ensures ∙ c.in_ok-groups.groups.ok.0 in
+    let test = c.loop-index-test.false in
+    word_started c.args.lists.now c.args.gap.now c.args.word gs c.in_ok-groups.ensures c.loop-index.index (omega arith) c.args.opening.now (record { done = c.args.word + 1; starts = c.loop-index.opening.starts }) refl c.loop-index.invariant.starts
+
+pub open_word-returns-clause-asked : goal.open_word-returns-clause-asked
+open_word-returns-clause-asked g t c =
+    let n = c.args.lists.now in
+    let gs = c.in_ok-groups.groups.items in
+    let end : c.len-index-end.result ≡ length gs = c.len-index-end.ensures ∙ c.in_ok-groups.groups.ok.0 in
+    let test = c.loop-index-test.false in
+    lefts_as n c.args.key (Among In gs c.loop-index.index) (StandsAt c.args.word)
+    (at_word n c.args.gap.now c.args.word gs c.in_ok-groups.ensures c.loop-index.index (omega arith) c.args.key c.requires.gap.key_is) c.args.table.now c.loop-index.table c.loop-index.invariant.asked
+
+pub open-loop-word-init : goal.open-loop-word-init
+open-loop-word-init g t c =
+    let n = c.args.lists.now in
+    let gap = c.args.gap.now in
+    let opened : IsOpening n c.args.table.now (record { left = gap.left; llist = gap.llist }) c.match-take.opening = elim c.match-take.branch [
+      | open-in-Some w ↦ subst (λ z. IsOpening n c.args.table.now (record { left = gap.left; llist = gap.llist }) z) (sym w.opening-is) (c.requires.known.opened (record { left = gap.left; llist = gap.llist }) w.in-Some.opening w.in-Some.ensures.taken)
+      | open-in-None w ↦ subst (λ z. IsOpening n c.args.table.now (record { left = gap.left; llist = gap.llist }) z) (sym w.opening-is)
+          (opening_new n c.are_numbered.ensures c.regions_begin_alike.ensures gap.left gap.llist c.args.table.now (record { left = gap.left; llist = gap.llist }) _ refl refl refl w.new.ensures.items)
+    ] in
+    record {
+      done = refl;
+      after = opened.behind;
+      opened = opened;
+      asked = words_first n c.are_numbered.ensures c.regions_begin_alike.ensures c.args.key gap c.requires.gap.key_is c.requires.alike c.match-take.opening c.args.table.now c.requires.table opened;
+      left = record { known = record { known = c.requires.known.known; opened = λ o x has. c.requires.known.opened o x (c.take.ensures.left o x has) }; fewer = omega arith };
+      steps = omega arith;
+    }
+
+pub open-open_word-requires : goal.open-open_word-requires
+open-open_word-requires g t c κs within =
+    let steps = c.loop-word.invariant.steps in
+    let fewer = c.loop-word.invariant.left.fewer in
+    let room = c.requires.room in
+    (search rules, (search rules, (c.requires.decided, (c.requires.key, (c.requires.gap, (c.loop-word.invariant.after, (c.loop-word-test.true, (c.loop-word.invariant.asked.is_table, (c.loop-word.invariant.left.known, omega arith)))))))))
+
+pub open-loop-word-preserved : goal.open-loop-word-preserved
+open-loop-word-preserved g t c =
+    let n = c.args.lists.now in
+    let gap = c.args.gap.now in
+    let before = c.loop-word.invariant.steps in
+    let after = c.in_ok-open_word.ensures.steps in
+    let behind = c.loop-word.invariant.after in
+    let fewer = c.loop-word.invariant.left.fewer in
+    let fewest = c.in_ok-open_word.ensures.left.fewer in
+    record {
+      done = c.in_ok-open_word.ensures.opens.done;
+      after = omega arith;
+      opened = word_opened n c.are_numbered.ensures c.regions_begin_alike.ensures gap.left gap.llist c.args.key gap c.loop-word.word c.requires.gap.key_is c.requires.alike c.loop-word-test.true c.loop-word.table c.open_word.new.table c.loop-word.opening c.open_word.new.opening
+          c.loop-word.invariant.done c.in_ok-open_word.ensures.opens c.in_ok-open_word.ensures.asked.kept c.in_ok-open_word.ensures.asked.there c.loop-word.invariant.opened;
+      asked = words_next n c.args.key c.loop-word.word (c.loop-word.word + 1) refl c.args.table.now c.loop-word.table c.open_word.new.table c.loop-word.invariant.asked c.in_ok-open_word.ensures.asked;
+      left = record { known = c.in_ok-open_word.ensures.left.known; fewer = omega arith };
+      steps = omega arith;
+    }
+
+pub open-returns-clause-asked : goal.open-returns-clause-asked
+open-returns-clause-asked g t c =
+    words_all c.args.lists.now c.are_numbered.ensures c.regions_begin_alike.ensures c.args.key c.args.gap.now c.requires.gap.key_is c.requires.alike c.loop-word.word c.loop-word-test.false c.args.table.now c.loop-word.table c.loop-word.invariant.asked
+
+pub explore_start-returns-then-start-gap-clause-live : goal.explore_start-returns-then-start-gap-clause-live
+explore_start-returns-then-start-gap-clause-live g t c =
+    part.adds_none c.args.live.now.items _ (λ a (alt, s, l). none_starts c.args.lists.now c.are_numbered.ensures c.regions_begin_alike.ensures c.args.key c.args.gap.now c.requires.gap.key_is c.requires.alike c.args.start.now c.if-start-gap.true a alt s)
+
+pub explore_start-explore_beginning-requires : goal.explore_start-explore_beginning-requires
+explore_start-explore_beginning-requires g t c κs within =
+    let s = c.requires.start (omega arith) in
+    let room = c.requires.room in
+    (search rules, (search rules, (c.requires.decided, (c.requires.key, (c.requires.gap.key_is, (c.requires.gap.known, (s.group, (s.some, (c.requires.table, (c.requires.known, omega arith))))))))))
+
+pub explore_opening-loop-index-init : goal.explore_opening-loop-index-init
+explore_opening-loop-index-init g t c =
+    let n = c.args.lists.now in
+    let gap = c.args.gap.now in
+    let starts = c.in_ok-opening.opening.starts.items in
+    record {
+      asked = asked_as n (AsksLeft n c.args.key IsAny) (SoFar n c.args.key gap starts 0) c.args.table.now c.open.new.table (λ k h. inl h) (λ k h. elim h [ inl l ↦ l | inr (a, alt, m, o) ↦ absurd (part.among_none (StartsSo gap) starts a m) ]) c.in_ok-opening.ensures.asked;
+      live = subst (λ z. AddsLive n c.args.key (Among (StartsSo gap) starts 0) [] z) (sym c.new-live.ensures.items) (part.adds_none [] _ (λ a (alt, m, l). part.among_none (StartsSo gap) starts a m));
+      opened = c.in_ok-opening.ensures.opened;
+      left = c.in_ok-opening.ensures.left;
+      steps = c.in_ok-opening.ensures.steps;
+    }
+
+pub explore_opening-explore_start-requires : goal.explore_opening-explore_start-requires
+explore_opening-explore_start-requires g t c κs within =
+    let starts = c.in_ok-opening.opening.starts in
+    let end : c.len-index-end.result ≡ length starts.items = c.len-index-end.ensures ∙ starts.ok.0 in
+    let test = c.loop-index-test.true in
+    let at = part.at_of starts.items c.loop-index.index c.index.result.now (omega arith) c.index.ensures in
+    let has = contains_at starts.items c.loop-index.index c.index.result.now at in
+    let steps = c.loop-index.invariant.steps in
+    let fewer = c.loop-index.invariant.left.fewer in
+    let room = c.requires.room in
+    (search rules, (search rules, (c.requires.decided, (c.requires.key, (c.requires.gap, (c.requires.alike, ((λ l. c.loop-index.invariant.opened.each c.args.gap.now c.index.result.now c.requires.alike has l), (c.loop-index.invariant.asked.is_table, (c.loop-index.invariant.left.known, omega arith)))))))))
+
+pub explore_opening-loop-index-preserved : goal.explore_opening-loop-index-preserved
+explore_opening-loop-index-preserved g t c =
+    let n = c.args.lists.now in
+    let gap = c.args.gap.now in
+    let starts = c.in_ok-opening.opening.starts in
+    let i = c.loop-index.index in
+    let s = c.index.result.now in
+    let end : c.len-index-end.result ≡ length starts.items = c.len-index-end.ensures ∙ starts.ok.0 in
+    let test = c.loop-index-test.true in
+    let at = part.at_of starts.items i s (omega arith) c.index.ensures in
+    let R = StartsSo gap in
+    let step = part.among_next R starts.items i (i + 1) s (omega arith) at in
+    let before = c.loop-index.invariant.steps in
+    let after = c.in_ok-explore_start.ensures.steps in
+    let fewer = c.loop-index.invariant.left.fewer in
+    let fewest = c.in_ok-explore_start.ensures.left.fewer in
+    record {
+      asked = start_asked n c.args.key gap starts.items i (i + 1) s (omega arith) at c.args.table.now c.loop-index.table c.explore_start.new.table c.loop-index.invariant.asked c.in_ok-explore_start.ensures.asked;
+      live = part.live_parts n c.args.key (Among R starts.items i) (R s) (Among R starts.items (i + 1)) step [] c.loop-index.live.items c.explore_start.new.live.items
+          (part.among_apart R starts.items (λ j k u v a e f p q. c.loop-index.invariant.opened.apart gap j k u v a e f p q) i s at) c.loop-index.invariant.live c.in_ok-explore_start.ensures.live;
+      opened = opening_kept n c.loop-index.table c.explore_start.new.table c.in_ok-explore_start.ensures.asked.kept _ c.in_ok-opening.opening c.loop-index.invariant.opened;
+      left = record { known = c.in_ok-explore_start.ensures.left.known; fewer = omega arith };
+      steps = omega arith;
+    }
+
+pub explore_opening-returns-clause-live : goal.explore_opening-returns-clause-live
+explore_opening-returns-clause-live g t c =
+    let n = c.args.lists.now in
+    let starts = c.in_ok-opening.opening.starts in
+    let end : c.len-index-end.result ≡ length starts.items = c.len-index-end.ensures ∙ starts.ok.0 in
+    let test = c.loop-index-test.false in
+    let some = opening_some n c.are_numbered.ensures c.regions_begin_alike.ensures c.args.key c.args.gap.now c.requires.gap.key_is c.requires.alike c.in_ok-opening.opening c.loop-index.table c.in_ok-opening.ensures.done c.loop-index.invariant.opened in
+    let live = opening_live n c.args.key c.args.gap.now c.requires.gap.key_is starts.items c.loop-index.index (omega arith) some c.loop-index.live.items c.loop-index.invariant.live in
+    ok_as c.of.result (λ list. list ≡ c.deref.result.now) (AreLive n.positions n.lists c.args.key) (λ list e. subst (λ z. AreLive n.positions n.lists c.args.key z) (sym (e ∙ c.deref.ensures.value)) live) c.of.ensures
+
+pub explore_opening-returns-clause-asked : goal.explore_opening-returns-clause-asked
+explore_opening-returns-clause-asked g t c =
+    let n = c.args.lists.now in
+    let starts = c.in_ok-opening.opening.starts in
+    let end : c.len-index-end.result ≡ length starts.items = c.len-index-end.ensures ∙ starts.ok.0 in
+    let test = c.loop-index-test.false in
+    let some = opening_some n c.are_numbered.ensures c.regions_begin_alike.ensures c.args.key c.args.gap.now c.requires.gap.key_is c.requires.alike c.in_ok-opening.opening c.loop-index.table c.in_ok-opening.ensures.done c.loop-index.invariant.opened in
+    part.ok_any c.of.result _ (opening_asked n c.args.key c.args.gap.now c.requires.gap.key_is starts.items c.loop-index.index (omega arith) some c.args.table.now c.loop-index.table c.loop-index.invariant.asked)
+
+pub explore_opening-of-requires : goal.explore_opening-of-requires
+explore_opening-of-requires g t c = λ a h.
+    let n = c.args.lists.now in
+    let starts = c.in_ok-opening.opening.starts in
+    let end : c.len-index-end.result ≡ length starts.items = c.len-index-end.ensures ∙ starts.ok.0 in
+    let test = c.loop-index-test.false in
+    let some = opening_some n c.are_numbered.ensures c.regions_begin_alike.ensures c.args.key c.args.gap.now c.requires.gap.key_is c.requires.alike c.in_ok-opening.opening c.loop-index.table c.in_ok-opening.ensures.done c.loop-index.invariant.opened in
+    let live = opening_live n c.args.key c.args.gap.now c.requires.gap.key_is starts.items c.loop-index.index (omega arith) some c.loop-index.live.items c.loop-index.invariant.live in
+    c.alternatives_are_small.ensures n.positions n.lists c.args.key a c.keep_limits.ensures c.are_numbered.ensures c.requires.key ((live.exactly a).0 (subst (λ z. Contains z a) c.deref.ensures.value h)).0
+
+pub explore_opening-returns-clause-left : goal.explore_opening-returns-clause-left
+explore_opening-returns-clause-left g t c =
+    let left = c.loop-index.invariant.left in
+    part.ok_any c.of.result _ (record {
+      known = record {
+        known = left.known.known;
+        opened = λ o x has. elim (c.in_ok-put.ensures o x has) [
+          | inl h ↦ left.known.opened o x h
+          | inr (e, f) ↦ subst (λ z. IsOpening c.args.lists.now c.loop-index.table z x) (sym e) (subst (λ z. IsOpening c.args.lists.now c.loop-index.table (record { left = c.args.gap.now.left; llist = c.args.gap.now.llist }) z) (sym f) c.loop-index.invariant.opened)
+        ];
+      };
+      fewer = left.fewer;
+    })
 
 pub explore_beginning-visit-requires : goal.explore_beginning-visit-requires
 explore_beginning-visit-requires g t c κs within =

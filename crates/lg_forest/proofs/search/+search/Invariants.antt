@@ -1,11 +1,13 @@
-use Rattle.std.proofs.Common.{◌≡◌, ◌+◌, ◌*◌, [], take, map, length}
+use Rattle.std.proofs.Common.{◌≡◌, ◌+◌, ◌*◌, ◌<◌, [], take, map, length}
 use Rattle.lg_region.specs.Openings.{left_of}
 use Rattle.lg_region.specs.Small.{full}
 use Rattle.lg_region.specs.Ways.{AddsExactly}
 use Rattle.lg_region.specs.declared.alternative.Alt.{Alt}
 use Rattle.lg_forest.specs.Forests.{IsLive}
 use Rattle.lg_forest.specs.Halves.{AddsLive, AsksAmong, IsEnding}
-use Rattle.lg_forest.specs.Known.{IsLeft}
+use Rattle.lg_region.specs.Groups.{StandsBefore}
+use Rattle.lg_forest.specs.Opened.{AsksLeft, IsLeft, IsOpening, StartsSo}
+use Rattle.lg_forest.proofs.Starting.{IsOfGroup, LeftOfFirst, OfFirst, SoFar}
 use Rattle.lg_forest.specs.Search.{Asked, IsLast, key_width, part_bound, alt_bound, IsCounted}
 use Rattle.lg_forest.proofs.Among.{Among, AsksFor, In}
 use Rattle.lg_forest.proofs.Asked.{AsksBy}
@@ -13,31 +15,49 @@ use Rattle.lg_forest.proofs.Flags.{Flags}
 use Rattle.lg_forest.proofs.search.+search.Given as goal
 
 abbrev pub decreases-visit : goal.decreases-visit
-decreases-visit g l = 8 * key_width l.lists.now.positions l.key + 7
+decreases-visit g l = 9 * key_width l.lists.now.positions l.key + 8
 
 abbrev pub decreases-explore : goal.decreases-explore
-decreases-explore g l = 8 * key_width l.lists.now.positions l.key + 6
+decreases-explore g l = 9 * key_width l.lists.now.positions l.key + 7
 
 abbrev pub decreases-explore_all : goal.decreases-explore_all
-decreases-explore_all g l = 8 * key_width l.lists.now.positions l.key + 5
+decreases-explore_all g l = 9 * key_width l.lists.now.positions l.key + 6
+
+abbrev pub decreases-explore_gap : goal.decreases-explore_gap
+decreases-explore_gap g l = 9 * key_width l.lists.now.positions l.key + 6
+
+abbrev pub decreases-explore_opening : goal.decreases-explore_opening
+decreases-explore_opening g l = 9 * key_width l.lists.now.positions l.key + 5
+
+abbrev pub decreases-explore_start : goal.decreases-explore_start
+decreases-explore_start g l = 9 * key_width l.lists.now.positions l.key + 4
+
+abbrev pub decreases-open : goal.decreases-open
+decreases-open g l = 9 * key_width l.lists.now.positions l.key + 4
+
+abbrev pub decreases-open_word : goal.decreases-open_word
+decreases-open_word g l = 9 * key_width l.lists.now.positions l.key + 3
+
+abbrev pub decreases-open_group : goal.decreases-open_group
+decreases-open_group g l = 9 * key_width l.lists.now.positions l.key + 2
 
 abbrev pub decreases-explore_groups : goal.decreases-explore_groups
-decreases-explore_groups g l = 8 * key_width l.lists.now.positions l.key + 5
+decreases-explore_groups g l = 9 * key_width l.lists.now.positions l.key + 5
 
 abbrev pub decreases-explore_group : goal.decreases-explore_group
-decreases-explore_group g l = 8 * key_width l.lists.now.positions l.key + 4
+decreases-explore_group g l = 9 * key_width l.lists.now.positions l.key + 4
 
 abbrev pub decreases-explore_beginning : goal.decreases-explore_beginning
-decreases-explore_beginning g l = 8 * key_width l.lists.now.positions l.key + 3
+decreases-explore_beginning g l = 9 * key_width l.lists.now.positions l.key + 3
 
 abbrev pub decreases-is_live : goal.decreases-is_live
-decreases-is_live g l = 8 * alt_bound l.lists.now.positions l.alt + 2
+decreases-is_live g l = 9 * alt_bound l.lists.now.positions l.alt + 2
 
 abbrev pub decreases-visit_left : goal.decreases-visit_left
-decreases-visit_left g l = 8 * part_bound l.lists.now.positions l.key + 1
+decreases-visit_left g l = 9 * part_bound l.lists.now.positions l.key + 1
 
 abbrev pub decreases-visit_part : goal.decreases-visit_part
-decreases-visit_part g l = 8 * part_bound l.lists.now.positions l.key
+decreases-visit_part g l = 9 * part_bound l.lists.now.positions l.key
 
 -- what the alternatives so far ask for is in the table, and each has its flag
 abbrev pub invariant-explore_all-loop-index : goal.invariant-explore_all-loop-index
@@ -45,8 +65,8 @@ invariant-explore_all-loop-index g l = record {
   asked : Asked l.lists (AsksBy l.lists (map full l.alts-inside.items.items) l.index) l.fn.table l.table;
   flags : Flags (IsLive l.lists.positions l.lists.lists) (take l.index (map full l.alts-inside.items.items)) l.flags.items;
   last : IsLast l.lists l.table l.last;
-  left : IsLeft l.lists l.fn.known l.known;
-  steps : IsCounted 1 (l.fn.steps + length l.known) l.fn.table (l.steps + length l.fn.known) l.table;
+  left : IsLeft l.lists l.table l.fn.memory l.memory;
+  steps : IsCounted 1 (l.fn.steps + length l.memory.known) l.fn.table (l.steps + length l.fn.memory.known) l.table;
 }
 
 -- the groups so far
@@ -54,8 +74,8 @@ abbrev pub invariant-explore_groups-loop-index : goal.invariant-explore_groups-l
 invariant-explore_groups-loop-index g l = record {
   asked : Asked l.lists (AsksAmong l.lists l.key (Among In l.groups.items.items l.index)) l.fn.table l.table;
   live : AddsLive l.lists l.key (Among In l.groups.items.items l.index) [] l.live.items;
-  left : IsLeft l.lists l.fn.known l.known;
-  steps : IsCounted 0 (l.fn.steps + length l.known) l.fn.table (l.steps + length l.fn.known) l.table;
+  left : IsLeft l.lists l.table l.fn.memory l.memory;
+  steps : IsCounted 0 (l.fn.steps + length l.memory.known) l.fn.table (l.steps + length l.fn.memory.known) l.table;
 }
 
 -- the beginnings so far
@@ -63,8 +83,8 @@ abbrev pub invariant-explore_group-loop-index : goal.invariant-explore_group-loo
 invariant-explore_group-loop-index g l = record {
   asked : Asked l.lists (AsksAmong l.lists l.key (Among (IsEnding l.gap l.group) l.begins.items l.index)) l.fn.table l.table;
   live : AddsLive l.lists l.key (Among (IsEnding l.gap l.group) l.begins.items l.index) l.fn.live.items l.live.items;
-  left : IsLeft l.lists l.fn.known l.known;
-  steps : IsCounted 0 (l.fn.steps + length l.known) l.fn.table (l.steps + length l.fn.known) l.table;
+  left : IsLeft l.lists l.table l.fn.memory l.memory;
+  steps : IsCounted 0 (l.fn.steps + length l.memory.known) l.fn.table (l.steps + length l.fn.memory.known) l.table;
 }
 
 -- the alternatives so far
@@ -73,6 +93,45 @@ invariant-explore_beginning-loop-index g l = record {
   asked : Asked l.lists (AsksFor l.lists (left_of l.gap l.group l.begin) l.alts.items l.index) l.fn.table l.table;
   live : AddsExactly l.fn.live.items l.live.items (λ a. IsLive l.lists.positions l.lists.lists a × Among (λ (x : Alt) (y : Alt). x ≡ y) l.alts.items l.index a);
   last : IsLast l.lists l.table l.last;
-  left : IsLeft l.lists l.fn.known l.known;
-  steps : IsCounted 0 (l.fn.steps + length l.known) l.fn.table (l.steps + length l.fn.known) l.table;
+  left : IsLeft l.lists l.table l.fn.memory l.memory;
+  steps : IsCounted 0 (l.fn.steps + length l.memory.known) l.fn.table (l.steps + length l.fn.memory.known) l.table;
+}
+
+-- the starts so far; the opening stands by the table
+abbrev pub invariant-explore_opening-loop-index : goal.invariant-explore_opening-loop-index
+invariant-explore_opening-loop-index g l = record {
+  asked : Asked l.lists (SoFar l.lists l.key l.gap l.opening.starts.items l.index) l.fn.table l.table;
+  live : AddsLive l.lists l.key (Among (StartsSo l.gap) l.opening.starts.items l.index) [] l.live.items;
+  opened : IsOpening l.lists l.table (record { left = l.gap.left; llist = l.gap.llist }) l.opening;
+  left : IsLeft l.lists l.table l.fn.memory l.memory;
+  steps : IsCounted 0 (l.fn.steps + length l.memory.known) l.fn.table (l.steps + length l.fn.memory.known) l.table;
+}
+
+-- the words so far
+abbrev pub invariant-open-loop-word : goal.invariant-open-loop-word
+invariant-open-loop-word g l = record {
+  done : l.opening.done ≡ l.word;
+  after : l.gap.left < l.word;
+  opened : IsOpening l.lists l.table (record { left = l.gap.left; llist = l.gap.llist }) l.opening;
+  asked : Asked l.lists (AsksLeft l.lists l.key (StandsBefore l.word)) l.fn.table l.table;
+  left : IsLeft l.lists l.table l.fn.memory l.memory;
+  steps : IsCounted 0 (l.fn.steps + length l.memory.known) l.fn.table (l.steps + length l.fn.memory.known) l.table;
+}
+
+-- the groups of the word so far
+abbrev pub invariant-open_word-loop-index : goal.invariant-open_word-loop-index
+invariant-open_word-loop-index g l = record {
+  starts : AddsExactly l.fn.opening.starts.items l.opening.starts.items (Among (IsOfGroup l.lists l.gap) l.groups.items l.index);
+  asked : Asked l.lists (AsksLeft l.lists l.key (Among In l.groups.items l.index)) l.fn.table l.table;
+  left : IsLeft l.lists l.table l.fn.memory l.memory;
+  steps : IsCounted 0 (l.fn.steps + length l.memory.known) l.fn.table (l.steps + length l.fn.memory.known) l.table;
+}
+
+-- the beginnings of the group so far
+abbrev pub invariant-open_group-loop-index : goal.invariant-open_group-loop-index
+invariant-open_group-loop-index g l = record {
+  starts : AddsExactly l.fn.starts.items l.starts.items (OfFirst l.lists l.gap l.group l.begins.items l.index);
+  asked : Asked l.lists (LeftOfFirst l.gap l.group l.begins.items l.index) l.fn.table l.table;
+  left : IsLeft l.lists l.table l.fn.memory l.memory;
+  steps : IsCounted 0 (l.fn.steps + length l.memory.known) l.fn.table (l.steps + length l.fn.memory.known) l.table;
 }

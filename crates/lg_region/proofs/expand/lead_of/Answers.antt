@@ -1,6 +1,12 @@
+use Rattle.std.proofs.Common.{◌≡◌, ap}
+use Rattle.lg_region.specs.declared.chains.Side.TheVariants.{Left}
+use Rattle.lg_region.specs.declared.group.Lead.{Lead}
 use Rattle.lg_region.proofs.Expanding.{led_left}
 use Rattle.lg_region.proofs.expand.lead_of.Goals as goal
 
 pub returns-else-llist-eq0-clause-led : goal.returns-else-llist-eq0-clause-led
 returns-else-llist-eq0-clause-led c = λ k l r.
     led_left c.args.lists.now.positions c.args.lists.now.lists c.args.llist c.class-else-llist-eq0.result k c.are_numbered.ensures c.requires.llist c.if-llist-eq0.false c.class-else-llist-eq0.ensures.value l
+
+pub returns-else-llist-eq0-clause-left : goal.returns-else-llist-eq0-clause-left
+returns-else-llist-eq0-clause-left c = λ some i. record { side = Left; class = c.class-else-llist-eq0.ensures.value i }

@@ -1,15 +1,14 @@
-use Rattle.std.proofs.Common.{refl, subst}
-use Rattle.lg_region.specs.Keys.{region_of_numbers, IsValidKey}
+use Rattle.std.proofs.Common.{refl}
+use Rattle.lg_region.proofs.Grouped.{words_none, words_more, words_all}
 use Rattle.lg_region.proofs.opening.groups_of.Goals as goal
 
-pub groups_of_gap-requires-clause-known : goal.groups_of_gap-requires-clause-known
-groups_of_gap-requires-clause-known c =
-    let positions = c.args.lists.now.positions in
-    let lists = c.args.lists.now.lists in
-    let k = subst (λ z. IsValidKey positions lists z) c.in-Region.is c.requires in
-    record {
-      llist = k.0;
-      rlist = k.1;
-      small = c.lead_of-lead.ensures.small;
-      led = c.lead_of-lead.ensures.led (region_of_numbers lists c.in-Region.left c.in-Region.right c.in-Region.llist c.in-Region.rlist c.in-Region.nulls) refl refl;
-    }
+pub loop-word-init : goal.loop-word-init
+loop-word-init c =
+    let is = c.requires.1 in
+    words_none c.args.lists.now c.args.gap c.new-items.result.items c.are_numbered.ensures is.known.llist is.known.rlist is.some c.new-items.ensures.items
+
+pub loop-word-preserved : goal.loop-word-preserved
+loop-word-preserved c = words_more c.args.lists.now c.args.gap c.loop-word.word c.loop-word.items.items c.push_groups.new.groups.items c.loop-word.invariant c.in_ok-push_groups.ensures
+
+pub returns : goal.returns
+returns c = λ key is. (refl, words_all c.args.lists.now c.args.gap c.loop-word.word _ key refl is.known c.loop-word-test.false c.loop-word.invariant is.key_is)

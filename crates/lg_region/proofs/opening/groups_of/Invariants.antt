@@ -1,5 +1,5 @@
 use Rattle.lg_region.proofs.Grouped.{GroupsBefore}
-use Rattle.lg_region.proofs.opening.groups_of_gap.Given as goal
+use Rattle.lg_region.proofs.opening.groups_of.Given as goal
 
 -- the groups of the words so far
 abbrev pub invariant-loop-word : goal.invariant-loop-word

@@ -1,0 +1,254 @@
+-- Openings: how they begin, grow and are kept, and what they tell of a region.
+use Rattle.std.proofs.Common.{◌≡◌, ◌↔◌, ℕ, ◌+◌, ◌<◌, ◌≤◌, ◌⊎◌, inl, inr, refl, sym, ap, ◌∙◌, subst, List, [], ◌∷◌, ◌++◌, length, Option, Some, None, IfSome, Contains, slice_get, arith}
+use Rattle.std.proofs.lemmas.Bool.{cases_lt}
+use Rattle.std.proofs.lemmas.List.Elements.{Contains-append_left, Contains-append_right, Contains-append_cases}
+use Rattle.std.specs.Map.{keys_of}
+use Rattle.lg_region.specs.Alike.{BeginsWith, HaveSameLeft, RegionsBeginAlike}
+use Rattle.lg_region.specs.Fronts.{AreListsOf, AreOnce, Numbering}
+use Rattle.lg_region.specs.Groups.{region_of_gap, IsGroup, StandsBefore, StandsIn}
+use Rattle.lg_region.specs.Keys.{IsAltOf, IsAltOfRegion}
+use Rattle.lg_region.specs.Openings.{AreApart, AreBeginnings, BeginsSo, GroupsOfWord, IsGapOf, IsIn, IsKeyOfGap, left_of}
+use Rattle.lg_region.specs.Ways.{AddsExactly}
+use Rattle.lg_region.specs.declared.key.Key.{Key}
+use Rattle.lg_region.specs.declared.alternative.Alt.{Alt}
+use Rattle.lg_region.specs.declared.alternative.Alt.TheVariants.{AllNull, Split as At}
+use Rattle.lg_region.specs.declared.group.Gap.{Gap}
+use Rattle.lg_region.specs.declared.group.Group.{Group}
+use Rattle.lg_region.specs.declared.opening.Beginning.{Beginning}
+use Rattle.lg_forest.specs.Demands.{AsksNext, HasLinkageUnder, left_key}
+use Rattle.lg_forest.specs.Demands.AsksNext.{left as next_left, right as next_right}
+use Rattle.lg_forest.specs.Forests.{IsLive, AreLive}
+use Rattle.lg_forest.specs.Halves.{AddsLive, AsksAmong, IsEnding}
+use Rattle.lg_forest.specs.Known.{AreKnown}
+use Rattle.lg_forest.specs.Opened.{AddsStarts, AsksLeft, IsAny, IsLiveLeft, IsLiveStart, IsMemory, IsOpening, IsStart, OpensWord, StandsAt, StartsSo}
+use Rattle.lg_forest.specs.Search.{Asked, IsTable}
+use Rattle.lg_forest.specs.declared.memory.Memory.{Memory}
+use Rattle.lg_forest.specs.declared.openings.Opening.{Opening}
+use Rattle.lg_forest.specs.declared.openings.Origin.{Origin}
+use Rattle.lg_forest.specs.declared.openings.Start.{Start}
+use Rattle.lg_forest.proofs.Asked.{asked_same, keys_later}
+use Rattle.lg_forest.proofs.Among.{append_cases, alt_in, alt_out}
+use Rattle.lg_forest.proofs.Starting.{lefts_as, lefts_then}
+use Rattle.lg_forest.proofs.Once.{contains_at, contains_none}
+
+abbrev Entries : Type 0
+Entries = List (Key × List Alt)
+
+-- ---- a table that only grew
+
+module _ (n : Numbering) (old new : Entries) (kept : (k : Key) → Contains (keys_of old) k → Contains (keys_of new) k) where
+  pub opening_kept : (origin : Origin) (o : Opening) → IsOpening n old origin o → IsOpening n new origin o
+  opening_kept origin o x = record { behind = x.behind; before = x.before; each = x.each; some = x.some; apart = x.apart; asked = λ gap a k b i s e. kept k (x.asked gap a k b i s e) }
+
+  pub memory_kept : (m : Memory) → IsMemory n old m → IsMemory n new m
+  memory_kept m x = record { known = x.known; opened = λ origin o has. opening_kept origin o (x.opened origin o has) }
+
+pub memory_added : (n : Numbering) (es : Entries) (k : Key) (alts : List Alt) (m : Memory) → IsMemory n es m → IsMemory n (es ++ (k, alts) ∷ []) m
+memory_added n es k alts m x = memory_kept n es (es ++ (k, alts) ∷ []) (λ q h. keys_later es k alts q h) m x
+
+-- before the search
+pub memory_first : (n : Numbering) (es : Entries) (m : Memory) (known : List (Key × List Alt)) → m.known ≡ known → m.openings ≡ [] → AreKnown n known → IsMemory n es m
+memory_first n es m known e f are = record {
+  known = subst (λ z. AreKnown n z) (sym e) are;
+  opened = λ origin o has. absurd (contains_none (origin, o) (subst (λ z. Contains z (origin, o)) f has));
+}
+
+-- ---- alternatives with the same left joint and the same left key
+
+same_key : (a z : Alt) → HaveSameLeft a z → left_key a ≡ left_key z
+same_key AllNull z h = absurd h
+same_key (At w i tl tr lk rk) AllNull h = absurd h
+same_key (At w i tl tr lk rk) (At w' i' tl' tr' lk' rk') h = h.3
+
+same_word : (word : ℕ) (a z : Alt) → HaveSameLeft a z → StandsAt word a → StandsAt word z
+same_word word AllNull z h s = absurd h
+same_word word (At w i tl tr lk rk) AllNull h s = absurd h
+same_word word (At w i tl tr lk rk) (At w' i' tl' tr' lk' rk') h s = sym h.0 ∙ s
+
+same_in : (word from to : ℕ) (a z : Alt) → HaveSameLeft a z → StandsIn word from to a ↔ StandsIn word from to z
+same_in word from to AllNull z h = absurd h
+same_in word from to (At w i tl tr lk rk) AllNull h = absurd h
+same_in word from to (At w i tl tr lk rk) (At w' i' tl' tr' lk' rk') h =
+    let e = h.0 in let f = h.1 in (λ s. (sym e ∙ s.0, (let x = s.1 in omega arith), (let x = s.2 in omega arith)), λ s. (e ∙ s.0, (let x = s.1 in omega arith), (let x = s.2 in omega arith)))
+
+same_begin : (gap other : Gap) (g : Group) (b : Beginning) (a z : Alt) → gap.left ≡ other.left → HaveSameLeft a z → BeginsSo gap g b a ↔ BeginsSo other g b z
+same_begin gap other g b AllNull z l h = absurd h
+same_begin gap other g b (At w i tl tr lk rk) AllNull l h = absurd h
+same_begin gap other g b (At w i tl tr lk rk) (At w' i' tl' tr' lk' rk') l h =
+    let keys : left_of gap g b ≡ left_of other g b = λ i. left_of (record gap { left = l i }) g b in (
+      λ s. (sym h.2 ∙ s.0, sym h.3 ∙ s.1 ∙ ap Some keys),
+      λ s. (h.2 ∙ s.0, h.3 ∙ s.1 ∙ sym (ap Some keys)),
+    )
+
+-- the same alternative, seen from two regions
+begin_from : (gap other : Gap) (g : Group) (b : Beginning) (a : Alt) → gap.left ≡ other.left → BeginsSo gap g b a → BeginsSo other g b a
+begin_from gap other g b AllNull l s = absurd s
+begin_from gap other g b (At w i tl tr lk rk) l s = (s.0, s.1 ∙ ap Some (λ i. left_of (record gap { left = l i }) g b))
+
+start_at : (gap : Gap) (s : Start) (a : Alt) → StartsSo gap s a → StandsAt s.group.word a
+start_at gap s AllNull h = absurd h.0
+start_at gap s (At w i tl tr lk rk) h = h.0.0
+
+one_word : (v w : ℕ) (a : Alt) → StandsAt v a → StandsAt w a → v ≡ w
+one_word v w AllNull s t = absurd s
+one_word v w (At u i tl tr lk rk) s t = sym s ∙ t
+
+in_at : (word from to : ℕ) (a : Alt) → StandsIn word from to a → StandsAt word a
+in_at word from to AllNull s = absurd s
+in_at word from to (At w i tl tr lk rk) s = s.0
+
+before_at : (word end : ℕ) (a : Alt) → StandsAt word a → word < end → StandsBefore end a
+before_at word end AllNull s l = absurd s
+before_at word end (At w i tl tr lk rk) s l = let e = s in omega arith
+
+before_cases : (word : ℕ) (a : Alt) → StandsBefore (word + 1) a → StandsBefore word a ⊎ StandsAt word a
+before_cases word AllNull s = inl tt
+before_cases word (At w i tl tr lk rk) s = elim (cases_lt w word) [ inl h ↦ inl h | inr h ↦ inr (let x = s in omega arith) ]
+
+-- ---- the alternatives of a region that begins with a list
+
+module _ (n : Numbering) (are : AreListsOf n.positions n.lists) (law : RegionsBeginAlike) (left llist : ℕ) where
+  abbrev IsOf : Gap → Alt → Type 0
+  IsOf gap a = IsAltOfRegion n.positions n.lists (region_of_gap n.lists gap) a
+
+  null_not : (z : Alt) → HaveSameLeft AllNull z → ⊥
+  null_not AllNull h = h
+  null_not (At w i tl tr lk rk) h = h
+
+  module _ (gap : Gap) (b : BeginsWith n left llist gap) where
+    not_null : IsOf gap AllNull → ⊥
+    not_null i = let r = law n left llist gap gap AllNull are b b i tt in null_not r.0 r.2
+
+    -- it is cut inside
+    pub cut_inside : (a : Alt) → IsOf gap a → (w : ℕ) × StandsAt w a × (gap.left < w) × (w < gap.right)
+    cut_inside AllNull i = absurd (not_null i)
+    cut_inside (At w m tl tr None rk) i = absurd i
+    cut_inside (At w m tl tr (Some lk) None) i = absurd i
+    cut_inside (At w m tl tr (Some lk) (Some rk)) (c, is) = let a = is.cut.after in let z = is.cut.before in let p = is.place in (w, refl, omega arith, omega arith)
+
+    pub none_before : (a : Alt) → IsOf gap a → StandsBefore (gap.left + 1) a → ⊥
+    none_before AllNull i s = not_null i
+    none_before (At w m tl tr lk rk) i s = let r = cut_inside (At w m tl tr lk rk) i in let x = r.1 in let y = r.2 in omega arith
+
+    module _ (other : Gap) (o : BeginsWith n left llist other) where
+      lefts : gap.left ≡ other.left
+      lefts = b.left_is ∙ sym o.left_is
+
+      -- an alternative of the one, before the end of the other
+      moved : (word : ℕ) (a : Alt) → IsOf gap a → StandsAt word a → word < other.right → (z : Alt) × IsOf other z × HaveSameLeft a z
+      moved word a i s l = law n left llist other gap a are o b i (before_at word other.right a s l)
+
+      pub start_moved : (s : Start) → IsStart n gap s → s.group.word < other.right → IsStart n other s
+      start_moved s x l =
+          let lead : gap.lead ≡ other.lead = b.lead ∙ sym o.lead in
+          let e = lefts in
+          let after = x.group.after in
+          let a = x.some.0 in
+          let r = moved s.group.word a x.some.1.0 (in_at s.group.word s.group.from s.group.to a x.some.1.1) l in record {
+            group = record {
+              after = omega arith;
+              before = l;
+              listed = x.group.listed;
+              known = x.group.known;
+              left = subst (λ z. Rattle.lg_region.specs.Groups.HaveLeft n z s.group.word s.group.left s.group.from s.group.to) lead x.group.left;
+              first = subst (λ z. Rattle.lg_region.specs.Groups.IsNextLed n z s.group.word s.group.from s.group.from) lead x.group.first;
+            };
+            some = (r.0, (r.1, (same_in s.group.word s.group.from s.group.to a r.0 r.2).0 x.some.1.1), (same_begin gap other s.group s.begin a r.0 e r.2).0 x.some.2);
+          }
+
+  -- nothing was looked at
+  pub opening_new : (es : Entries) (origin : Origin) (o : Opening) → origin.left ≡ left → origin.llist ≡ llist → o.done ≡ left + 1 → o.starts.items ≡ [] → IsOpening n es origin o
+  opening_new es origin o l m d e =
+      let none : (s : Start) → Contains o.starts.items s → ⊥ = λ s c. contains_none s (subst (λ z. Contains z s) e c) in
+      let behind : (gap : Gap) (a : Alt) → BeginsWith n origin.left origin.llist gap → IsOf gap a → StandsBefore o.done a → ⊥ =
+      λ gap a b i s. (let b' = subst (λ z. BeginsWith n origin.left z gap) m (b) in
+      let b'' = subst (λ z. BeginsWith n z llist gap) l b' in
+      let q = b''.left_is in
+      let d' : o.done ≡ gap.left + 1 = omega arith in
+      none_before gap b'' a i (subst (λ z. StandsBefore z a) d' s)) in record {
+        behind = omega arith;
+        before = λ s c. absurd (none s c);
+        each = λ gap s b c. absurd (none s c);
+        some = λ gap a b i s live. absurd (behind gap a b i s);
+        apart = λ gap i j s t a f g. absurd (none s (contains_at o.starts.items i s f));
+        asked = λ gap a k b i s f. absurd (behind gap a b i s);
+      }
+
+  -- one word more was looked at
+  module _ (key : Key) (gap : Gap) (word : ℕ) (is : IsKeyOfGap key gap) (b : BeginsWith n left llist gap) (lt : word < gap.right) (mid new : Entries) (old : Opening) (next : Opening) (d : old.done ≡ word) (opens : OpensWord n gap word old next)
+      (kept : (k : Key) → Contains (keys_of mid) k → Contains (keys_of new) k) (there : (k : Key) → AsksLeft n key (StandsAt word) k → Contains (keys_of new) k) where
+    abbrev here : Origin
+    here = record { left = left; llist = llist }
+
+    starts_cases : (s : Start) → Contains next.starts.items s → Contains old.starts.items s ⊎ Contains opens.more s
+    starts_cases s c = Contains-append_cases old.starts.items opens.more s (subst (λ z. Contains z s) opens.added c)
+
+    starts_left : (s : Start) → Contains old.starts.items s → Contains next.starts.items s
+    starts_left s c = subst (λ z. Contains z s) (sym opens.added) (Contains-append_left old.starts.items opens.more s c)
+
+    starts_right : (s : Start) → Contains opens.more s → Contains next.starts.items s
+    starts_right s c = subst (λ z. Contains z s) (sym opens.added) (Contains-append_right old.starts.items opens.more s c)
+
+    end_cases : (a : Alt) → StandsBefore next.done a → StandsBefore old.done a ⊎ StandsAt word a
+    end_cases a s = elim (before_cases word a (subst (λ z. StandsBefore z a) opens.done s)) [ inl h ↦ inl (subst (λ z. StandsBefore z a) (sym d) h) | inr h ↦ inr h ]
+
+    pub word_opened : IsOpening n mid here old → IsOpening n new here next
+    word_opened x = record {
+      behind = (let e = opens.done in let l = x.behind in omega arith);
+      before = λ s c. (let e = opens.done in elim (starts_cases s c) [ inl h ↦ (let l = x.before s h in omega arith) | inr h ↦ (let l = (opens.each s h).0 in omega arith) ]);
+      each = λ other s o c l. elim (starts_cases s c) [ inl h ↦ x.each other s o h l | inr h ↦ start_moved gap b other o s (opens.each s h).1 l ];
+      some = λ other a o i s live. elim (end_cases a s) [
+        | inl h ↦ (let r = x.some other a o i h live in (r.0, starts_left r.0 r.1, r.2))
+        | inr h ↦ (let m = moved other o gap b word a i h lt in
+            let r = opens.some m.0 m.1 (same_word word a m.0 m.2 h) (subst (λ z. IfSome z (HasLinkageUnder n.positions n.lists)) (same_key a m.0 m.2) live) in
+            let l = lefts other o gap b in
+            (r.0, starts_right r.0 r.1, ((same_in r.0.group.word r.0.group.from r.0.group.to a m.0 m.2).1 r.2.0, (same_begin other gap r.0.group r.0.begin a m.0 l m.2).1 r.2.1)))
+      ];
+      apart = λ other i j s t a f g p q. elim (append_cases old.starts.items opens.more i s (subst (λ z. slice_get z i ≡ Some s) opens.added f)) [
+        | inl h ↦ elim (append_cases old.starts.items opens.more j t (subst (λ z. slice_get z j ≡ Some t) opens.added g)) [
+          | inl k ↦ x.apart other i j s t a h k p q
+          | inr k ↦ absurd (old_not_more other s t a (contains_at old.starts.items i s h) (contains_at opens.more k.0 t k.2) p q)
+        ]
+        | inr h ↦ elim (append_cases old.starts.items opens.more j t (subst (λ z. slice_get z j ≡ Some t) opens.added g)) [
+          | inl k ↦ absurd (old_not_more other t s a (contains_at old.starts.items j t k) (contains_at opens.more h.0 s h.2) q p)
+          | inr k ↦ (let e = opens.apart other h.0 k.0 s t a h.2 k.2 p q in let u = h.1 in let v = k.1 in omega arith)
+        ]
+      ];
+      asked = λ other a k o i s e. elim (end_cases a s) [
+        | inl h ↦ kept k (x.asked other a k o i h e)
+        | inr h ↦ (let m = moved other o gap b word a i h lt in there k (m.0, alt_in n key gap m.0 is m.1, same_word word a m.0 m.2 h, sym (same_key a m.0 m.2) ∙ e))
+      ];
+    }
+      where
+        old_not_more : (other : Gap) (s t : Start) (a : Alt) → Contains old.starts.items s → Contains opens.more t → StartsSo other s a → StartsSo other t a → ⊥
+        old_not_more other s t a c e p q =
+            let l = x.before s c in let w = (opens.each t e).0 in let same = one_word s.group.word t.group.word a (start_at other s a p) (start_at other t a q) in omega arith
+
+-- ---- the words of a region
+
+before_next : (word next : ℕ) (a : Alt) → next ≡ word + 1 → StandsBefore next a ↔ (StandsBefore word a ⊎ StandsAt word a)
+before_next word next AllNull e = (λ s. inl tt, λ h. tt)
+before_next word next (At w i tl tr lk rk) e = (λ s. elim (cases_lt w word) [ inl h ↦ inl h | inr h ↦ inr (omega arith) ], λ h. elim h [ inl s ↦ omega arith | inr s ↦ (let x = s in omega arith) ])
+
+pub words_next : (n : Numbering) (key : Key) (word next : ℕ) → next ≡ word + 1 → (old mid new : Entries) → Asked n (AsksLeft n key (StandsBefore word)) old mid → Asked n (AsksLeft n key (StandsAt word)) mid new → Asked n (AsksLeft n key (StandsBefore next)) old new
+words_next n key word next e old mid new x y = lefts_then n key (StandsBefore word) (StandsAt word) (StandsBefore next) (λ a. before_next word next a e) old mid new x y
+
+module _ (n : Numbering) (are : AreListsOf n.positions n.lists) (law : RegionsBeginAlike) (key : Key) (gap : Gap) (is : IsKeyOfGap key gap) (b : BeginsWith n gap.left gap.llist gap) where
+  abbrev mine : Origin
+  mine = record { left = gap.left; llist = gap.llist }
+
+  -- what an opening tells is in the table
+  pub words_first : (o : Opening) (es : Entries) → IsTable n es → IsOpening n es mine o → Asked n (AsksLeft n key (StandsBefore o.done)) es es
+  words_first o es table x = asked_same n (AsksLeft n key (StandsBefore o.done)) es table (λ k (a, alt, s, e). x.asked gap a k b (alt_out n key gap a is alt) s e)
+
+  pub words_all : (word : ℕ) → gap.right ≤ word → (old new : Entries) → Asked n (AsksLeft n key (StandsBefore word)) old new → Asked n (AsksLeft n key IsAny) old new
+  words_all word l old new x =
+      lefts_as n key (StandsBefore word) IsAny (λ a alt. (λ s. tt, λ t. let r = cut_inside n are law gap.left gap.llist gap b a (alt_out n key gap a is alt) in let lt = r.3 in before_at r.0 word a r.1 (omega arith))) old new x
+
+  -- each alternative whose left key has a linkage starts so
+  pub opening_some : (o : Opening) (es : Entries) → gap.right ≤ o.done → IsOpening n es mine o → (a : Alt) → IsAltOfRegion n.positions n.lists (region_of_gap n.lists gap) a → IsLiveLeft n a → (s : Start) × Contains o.starts.items s × StartsSo gap s a
+  opening_some o es l x a i live = let r = cut_inside n are law gap.left gap.llist gap b a i in let lt = r.3 in x.some gap a b i (before_at r.0 o.done a r.1 (omega arith)) live
+
+  -- none starts at a word that does not lie in the region
+  pub none_starts : (s : Start) → gap.right ≤ s.group.word → (a : Alt) → IsAltOf n.positions n.lists key a → StartsSo gap s a → ⊥
+  none_starts s l a alt h = let r = cut_inside n are law gap.left gap.llist gap b a (alt_out n key gap a is alt) in let e = one_word r.0 s.group.word a r.1 (start_at gap s a h) in let lt = r.3 in omega arith

@@ -1,0 +1,88 @@
+-- How regions begin that begin at one position with one list, and what of it the search has found.
+use Rattle.std.specs.Prelude.{◌≡◌, ℕ, ◌+◌, ◌<◌, ◌≤◌, List, ◌++◌, length, Some, slice_get, IfSome}
+use Rattle.std.specs.List.{Contains}
+use Rattle.std.specs.Map.{keys_of}
+use Rattle.lg_region.specs.Alike.{BeginsWith}
+use Rattle.lg_region.specs.Fronts.{Numbering}
+use Rattle.lg_region.specs.Groups.{region_of_gap, IsGroup, StandsBefore}
+use Rattle.lg_region.specs.Keys.{IsAltOf, IsAltOfRegion}
+use Rattle.lg_region.specs.Openings.{BeginsSo, IsIn, left_of}
+use Rattle.lg_region.specs.Ways.{AddsExactly}
+use Rattle.lg_region.specs.declared.key.Key.{Key}
+use Rattle.lg_region.specs.declared.alternative.Alt.{Alt}
+use Rattle.lg_region.specs.declared.alternative.Alt.TheVariants.{AllNull, Split as At}
+use Rattle.lg_region.specs.declared.group.Gap.{Gap}
+use Rattle.lg_region.specs.declared.group.Group.{Group}
+use Rattle.lg_forest.specs.Demands.{HasLinkageUnder, left_key}
+use Rattle.lg_forest.specs.Halves.{IsEnding}
+use Rattle.lg_forest.specs.Known.{AreKnown}
+use Rattle.lg_forest.specs.declared.memory.Memory.{Memory}
+use Rattle.lg_forest.specs.declared.openings.Opening.{Opening}
+use Rattle.lg_forest.specs.declared.openings.Origin.{Origin}
+use Rattle.lg_forest.specs.declared.openings.Start.{Start}
+
+-- an alternative starts so: it stands in the group, with this left joint and this left key
+abbrev pub StartsSo : Gap → Start → Alt → Type 0
+StartsSo gap s a = IsEnding gap s.group s.begin a
+
+-- a group of the region, and a way in which some alternative begins that stands in it
+pub record IsStart (n : Numbering) (gap : Gap) (s : Start) : Type 0 where
+  pub group : IsGroup n gap s.group
+  pub some : (a : Alt) × IsIn n gap s.group a × BeginsSo gap s.group s.begin a
+
+-- the left key of a start has a linkage
+abbrev pub IsLiveStart : Numbering → Gap → Start → Type 0
+IsLiveStart n gap s = HasLinkageUnder n.positions n.lists (left_of gap s.group s.begin)
+
+-- the left key of an alternative has a linkage
+abbrev pub IsLiveLeft : Numbering → Alt → Type 0
+IsLiveLeft n a = IfSome (left_key a) (HasLinkageUnder n.positions n.lists)
+
+-- Of each region that begins so: the starts are ones of it where their words lie in it, each alternative before `done` whose left key has a
+-- linkage starts as exactly one of them, and the left keys of all alternatives before `done` are in the table.
+pub record IsOpening (n : Numbering) (entries : List (Key × List Alt)) (origin : Origin) (o : Opening) : Type 0 where
+  pub behind : origin.left < o.done
+  pub before : (s : Start) → Contains o.starts.items s → s.group.word < o.done
+  pub each : (gap : Gap) (s : Start) → BeginsWith n origin.left origin.llist gap → Contains o.starts.items s → s.group.word < gap.right → IsStart n gap s
+  pub some : (gap : Gap) (a : Alt) → BeginsWith n origin.left origin.llist gap → IsAltOfRegion n.positions n.lists (region_of_gap n.lists gap) a → StandsBefore o.done a → IsLiveLeft n a
+      → (s : Start) × Contains o.starts.items s × StartsSo gap s a
+  pub apart : (gap : Gap) (i j : ℕ) (s t : Start) (a : Alt) → slice_get o.starts.items i ≡ Some s → slice_get o.starts.items j ≡ Some t → StartsSo gap s a → StartsSo gap t a → i ≡ j
+  pub asked : (gap : Gap) (a : Alt) (k : Key) → BeginsWith n origin.left origin.llist gap → IsAltOfRegion n.positions n.lists (region_of_gap n.lists gap) a → StandsBefore o.done a → left_key a ≡ Some k
+      → Contains (keys_of entries) k
+
+-- what is remembered is right: the alternatives that workers found, and each opening, by the table
+pub record IsMemory (n : Numbering) (entries : List (Key × List Alt)) (m : Memory) : Type 0 where
+  pub known : AreKnown n m.known
+  pub opened : (origin : Origin) (o : Opening) → Contains m.openings (origin, o) → IsOpening n entries origin o
+
+-- it is still right, and some of what was known is taken out
+pub record IsLeft (n : Numbering) (entries : List (Key × List Alt)) (old new : Memory) : Type 0 where
+  pub known : IsMemory n entries new
+  pub fewer : length new.known ≤ length old.known
+
+-- the left keys of the alternatives that have P are asked for
+abbrev pub AsksLeft : Numbering → Key → (Alt → Type 0) → Key → Type 0
+AsksLeft n key P k = (a : Alt) × IsAltOf n.positions n.lists key a × P a × (left_key a ≡ Some k)
+
+-- the live starts of a group of the region are added, each once
+abbrev pub AddsStarts : Numbering → Gap → Group → List Start → List Start → Type 0
+AddsStarts n gap g old new = AddsExactly old new (λ s. (s.group ≡ g) × ((a : Alt) × IsIn n gap g a × BeginsSo gap g s.begin a) × IsLiveStart n gap s)
+
+-- any alternative
+abbrev pub IsAny : Alt → Type 0
+IsAny a = Unit {0}
+
+-- an alternative stands at a word
+abbrev pub StandsAt : ℕ → Alt → Type 0
+StandsAt word AllNull = ⊥
+StandsAt word (At w number to_left to_right lkey rkey) = w ≡ word
+
+-- A word more was looked at: its live starts came behind those that were there, and each of its alternatives whose left key has a linkage
+-- starts as exactly one of them.
+pub record OpensWord (n : Numbering) (gap : Gap) (word : ℕ) (old new : Opening) : Type 0 where
+  pub done : new.done ≡ word + 1
+  pub more : List Start
+  pub added : new.starts.items ≡ old.starts.items ++ more
+  pub each : (s : Start) → Contains more s → (s.group.word ≡ word) × IsStart n gap s
+  pub some : (a : Alt) → IsAltOfRegion n.positions n.lists (region_of_gap n.lists gap) a → StandsAt word a → IsLiveLeft n a → (s : Start) × Contains more s × StartsSo gap s a
+  pub apart : (other : Gap) (i j : ℕ) (s t : Start) (a : Alt) → slice_get more i ≡ Some s → slice_get more j ≡ Some t → StartsSo other s a → StartsSo other t a → i ≡ j

@@ -1,0 +1,26 @@
+//! What the search remembers beside its table.
+ghost use Rattle.std.specs.Prelude.{◌≡◌, []};
+
+use crate::known::Known;
+use crate::openings::Openings;
+use std::alloc::Global;
+
+/// The alternatives that workers found, and how the regions begin that begin alike.
+#[derive(Drop)]
+pub(crate) struct Memory {
+    pub(crate) known: Known,
+    pub(crate) openings: Openings,
+}
+
+impl Memory {
+    /// Before the search: what workers found. No memory.
+    pub(crate) fn of(alloc: Global, known: Known) -> Memory
+        ensures known { result.known ≡ known }
+        ensures openings { result.openings ≡ [] }
+    {
+        Memory {
+            known,
+            openings: Openings::new(alloc),
+        }
+    }
+}
