@@ -23,4 +23,4 @@ pub use memory::NoMemory;
 pub use printing::{write_bytes, write_number};
 pub use sinks::{Sink, SinkFault};
 pub use steps::{Own, Steps};
-pub use text::{Codes, Numbers, Text, Texts};
+pub use text::{Codes, Numbers, Text, Texts, copied};

@@ -89,13 +89,6 @@ impl MemFiles {
     }
 }
 
-fn copied(alloc: Global, bytes: &[u8]) -> Result<Vec<u8>, NoMemory>
-    ensures { IfOk result (λ v. v.items ≡ bytes.now) }
-{
-    let copy = bytes.to_vec(alloc)?;
-    Ok(copy)
-}
-
 impl Files for MemFiles {
     ghost contents = { λ m. Some m.contents };
 

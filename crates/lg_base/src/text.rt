@@ -56,6 +56,14 @@ impl Text {
     }
 }
 
+/// A copy of these bytes.
+pub fn copied(alloc: Global, bytes: &[u8]) -> Result<Vec<u8>, NoMemory>
+    ensures { IfOk result (λ copy. copy.items ≡ bytes.now) }
+{
+    let copy = bytes.to_vec(alloc)?;
+    Ok(copy)
+}
+
 /// A list of texts.
 pub type Texts = List<Text>;
 

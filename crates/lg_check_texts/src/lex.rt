@@ -1,7 +1,8 @@
 use lg_lex::{
-    Class, Marks, Place, Separators, Spot, Token, bytes_are_utf8_or_at_fault, class_of, next_run,
-    next_spotted, next_token, place_at, places_add_up, runs_are_one_list, section_to,
-    sections_keep_their_tokens, tokens_are_one_list, tokens_are_utf8, utf8_fault, without_mark,
+    Class, Location, Marks, Separators, Spot, Token, bytes_are_utf8_or_at_fault, class_of,
+    location_at, locations_add_up, next_run, next_spotted, next_token, runs_are_one_list,
+    section_to, sections_keep_their_tokens, tokens_are_one_list, tokens_are_utf8, utf8_fault,
+    without_mark,
 };
 use std::test::Fail;
 
@@ -69,7 +70,7 @@ fn tokens_differ_between_the_kinds_of_text(rt: HostRuntime) -> Result<(), Fail> 
 }
 
 #[test]
-fn places_count_lines_and_bytes(rt: HostRuntime) {
+fn locations_count_lines_and_bytes(rt: HostRuntime) {
     let text = "é%\r\n\nab".as_bytes();
     let table = [
         (0, 1, 1),
@@ -81,16 +82,16 @@ fn places_count_lines_and_bytes(rt: HostRuntime) {
     ];
     for (index, line, column) in table {
         assert!(rt; index <= text.len());
-        assert_eq!(rt; place_at(text, index), Place { line, column });
+        assert_eq!(rt; location_at(text, index), Location { line, column });
     }
-    let last = Place {
+    let last = Location {
         line: u32::MAX,
         column: u32::MAX,
     };
     assert_eq!(rt; last.past(b"a"), last);
     assert_eq!(rt;
         last.past(b"\na"),
-        Place {
+        Location {
             line: u32::MAX,
             column: 2
         }
@@ -102,8 +103,8 @@ fn tokens_have_their_spots(rt: HostRuntime) -> Result<(), Fail> {
     let text = b"% a\n x:".as_slice();
     let word = next_spotted(Marks::Knowledge, text, Spot::START).ok_or("a token")?;
     assert_eq!(rt; (word.start.at, word.end.at), (5, 6));
-    assert_eq!(rt; word.start.place, Place { line: 2, column: 2 });
-    assert_eq!(rt; word.end.place, Place { line: 2, column: 3 });
+    assert_eq!(rt; word.start.location, Location { line: 2, column: 2 });
+    assert_eq!(rt; word.end.location, Location { line: 2, column: 3 });
     let colon = next_spotted(Marks::Knowledge, text, word.end).ok_or("a token")?;
     assert_eq!(rt; (colon.token, colon.start), (Token::Sign(b':'), word.end));
     assert_eq!(rt; next_spotted(Marks::Knowledge, text, colon.end), None);
@@ -155,7 +156,7 @@ fn laws_do_nothing() {
     tokens_are_one_list();
     tokens_are_utf8();
     runs_are_one_list();
-    places_add_up();
+    locations_add_up();
     sections_keep_their_tokens();
     bytes_are_utf8_or_at_fault();
 }

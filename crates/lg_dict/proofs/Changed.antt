@@ -141,30 +141,30 @@ slice_seam : (formulas : List Expr) (e : Expr) → slice_get (formulas ++ e ∷ 
 slice_seam formulas e =
     slice_get_read (formulas ++ e ∷ []) (length formulas + 1) (length formulas) e (omega (arith, length-append formulas (e ∷ []))) (omega arith) (sym (get_or-append_seam formulas e [] e))
 
-slice_within : (formulas : List Expr) (e : Expr) (place : ℕ) → place < length formulas → slice_get (formulas ++ e ∷ []) place ≡ slice_get formulas place
-slice_within formulas e place low =
-    slice_get-get_or (formulas ++ e ∷ []) place e (omega (arith, length-append formulas (e ∷ [])))
-    ∙ ap Some (get_or_append_left formulas (e ∷ []) e place low)
-    ∙ sym (slice_get-get_or formulas place e low)
+slice_within : (formulas : List Expr) (e : Expr) (number : ℕ) → number < length formulas → slice_get (formulas ++ e ∷ []) number ≡ slice_get formulas number
+slice_within formulas e number low =
+    slice_get-get_or (formulas ++ e ∷ []) number e (omega (arith, length-append formulas (e ∷ [])))
+    ∙ ap Some (get_or_append_left formulas (e ∷ []) e number low)
+    ∙ sym (slice_get-get_or formulas number e low)
 
 module _ (formulas : List Expr) (e : Expr) where
   pub new_tree : tree_at (formulas ++ e ∷ []) (length formulas) ≡ tree_of e
   new_tree = ap (λ o. option_map_or tree_of o empty) (slice_seam formulas e)
 
-  old_tree : (place : ℕ) → place < length formulas → tree_at (formulas ++ e ∷ []) place ≡ tree_at formulas place
-  old_tree place low = ap (λ o. option_map_or tree_of o empty) (slice_within formulas e place low)
+  old_tree : (number : ℕ) → number < length formulas → tree_at (formulas ++ e ∷ []) number ≡ tree_at formulas number
+  old_tree number low = ap (λ o. option_map_or tree_of o empty) (slice_within formulas e number low)
 
   old_word : (words : TextMap Tree) (word : List ℕ) (change : Change) → IsGiven formulas change → word_by words (formulas ++ e ∷ []) word change ≡ word_by words formulas word change
   old_word words word Same h = refl
   old_word words word Removed h = refl
   old_word words word (Own formula) h = refl
-  old_word words word (Given place) h = ap Some (old_tree place h)
+  old_word words word (Given number) h = ap Some (old_tree number h)
 
   still_given : (change : Change) → IsGiven formulas change → IsGiven (formulas ++ e ∷ []) change
   still_given Same h = tt
   still_given Removed h = tt
   still_given (Own formula) h = tt
-  still_given (Given place) h = omega (arith, length-append formulas (e ∷ []))
+  still_given (Given number) h = omega (arith, length-append formulas (e ∷ []))
 
 -- ---- words that get a formula
 

@@ -172,7 +172,7 @@ module _ {E X : Type 0} (names : E → List (List ℕ)) (show : E → X) where
         ∙ ap (λ x. gathered names show (take i es) ++ with_value x (names (get_or es i d))) shows
         ∙ sym (flat_map-more (λ e. map (λ name. (name, show e)) (names e)) es i d within)
 
--- what stands at the place of an entry
+-- what stands at the number of an entry
 pub tree_at-map : (es : List Entry) (i : ℕ) (d : Entry) → i < length es → tree_at (map (λ e. e.formula) es) i ≡ tree_of (get_or es i d).formula
 tree_at-map es i d within =
     ap (λ o. option_map_or tree_of o empty) (slice_get-map (λ (e : Entry). e.formula) es i ∙ ap (option_map (λ (e : Entry). e.formula)) (slice_get-get_or es i d within))

@@ -152,5 +152,5 @@ module _ (text word : List ℕ) where
 pub among_all : {X : Type 0} (P : X → Type 0) (xs : List X) (x : X) → All P xs → IsAmong xs x → P x
 among_all P xs x all one = subst P (sym one.1.1) (all one.0 x one.1.0)
 
-pub tree_at-get_or : (formulas : List Expr) (place : ℕ) (formula : Expr) → place < length formulas → formula ≡ get_or formulas place formula → tree_at formulas place ≡ tree_of formula
-tree_at-get_or formulas place formula within is = ap (λ o. option_map_or tree_of o empty) (slice_get-get_or formulas place formula within ∙ ap Some (sym is))
+pub tree_at-get_or : (formulas : List Expr) (number : ℕ) (formula : Expr) → number < length formulas → formula ≡ get_or formulas number formula → tree_at formulas number ≡ tree_of formula
+tree_at-get_or formulas number formula within is = ap (λ o. option_map_or tree_of o empty) (slice_get-get_or formulas number formula within ∙ ap Some (sym is))

@@ -27,7 +27,7 @@ abbrev pub word_by : TextMap Tree → List Expr → List ℕ → Change → Opti
 word_by words formulas word Same = get words word
 word_by words formulas word Removed = None
 word_by words formulas word (Own formula) = Some (tree_of formula)
-word_by words formulas word (Given place) = Some (tree_at formulas place)
+word_by words formulas word (Given number) = Some (tree_at formulas number)
 
 -- what a macro stands for now, and its level
 abbrev pub named_by : Named → Tree × ℕ
@@ -48,18 +48,18 @@ change_at c word = unwrap_or (at_text c.words word) Same
 abbrev pub IsNamed : Changes → List ℕ → Type 0
 IsNamed c word = IsSome (at_text c.words word)
 
--- a formula that a change gives by its place is there
+-- a formula that a change gives by its number is there
 abbrev pub IsGiven : List Expr → Change → Type 0
 IsGiven formulas Same = Unit {0}
 IsGiven formulas Removed = Unit {0}
 IsGiven formulas (Own formula) = Unit {0}
-IsGiven formulas (Given place) = place < length formulas
+IsGiven formulas (Given number) = number < length formulas
 
 -- a macro keeps to its level
 abbrev pub KeepsToLevel : Named → Type 0
 KeepsToLevel m = Fits m.level (tree_of m.formula)
 
--- each formula that is given by its place is there, each macro keeps to its level, and each stem lists words that have it, among them each that is named
+-- each formula that is given by its number is there, each macro keeps to its level, and each stem lists words that have it, among them each that is named
 pub record IsLaid (c : Changes) : Type 0 where
   pub words : (word : List ℕ) → IsGiven c.formulas.items (change_at c word)
   pub macros : (name : List ℕ) → IfSome (at_text c.macros name) KeepsToLevel

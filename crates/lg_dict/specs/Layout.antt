@@ -15,7 +15,7 @@ shown a = record {
 
 -- each formula is there, each level fits, each stem lists the words that have it and a subscript, and the longest word is so long
 pub record IsKept (a : Inside) : Type 0 where
-  pub words : All (λ place. place < length a.formulas.items) (values a.words)
+  pub words : All (λ number. number < length a.formulas.items) (values a.words)
   pub macros : All (IsMacro a.formulas.items) (values a.macros)
   pub stems : (stem : List ℕ) → listed (text_keys a.words) a.stems stem ≡ filter (λ word. is_under stem word) (text_keys a.words)
   pub longest : IsLongest (Contains (text_keys a.words)) a.longest

@@ -49,9 +49,9 @@ same_text = pointwise nat_eq
 unfoldable pub is_under : List ℕ → List ℕ → Bool
 is_under stem word = same_text stem (stem_of word) && not (same_text (stem_of word) word)
 
--- the tree of the formula at this place
+-- the tree of the formula at this number
 abbrev pub tree_at : List Expr → ℕ → Tree
-tree_at formulas place = option_map_or tree_of (slice_get formulas place) empty
+tree_at formulas number = option_map_or tree_of (slice_get formulas number) empty
 
 abbrev pub with_trees : List Expr → List (List ℕ × ℕ) → List (List ℕ × Tree)
 with_trees formulas entries = map (λ e. (e.0, tree_at formulas e.1)) entries

@@ -12,7 +12,7 @@ ghost use Rattle.lg_dict.specs.Tables.{at_text, same_text};
 ghost use Rattle.lg_dict.specs.declared.changes.Change.TheVariants.{Given};
 
 use crate::dict::Dict;
-use crate::tables::{Table, copied, list_text};
+use crate::tables::{Table, list_text};
 use indexmap::IndexMap;
 use lg_base::{NoMemory, Text};
 use lg_gram::Formula;
@@ -26,7 +26,7 @@ pub enum Change {
     Removed,
     /// The formula that was given to this word alone. It goes when the word is changed again.
     Own(Formula),
-    /// The place, among those of the changes, of a formula that was given to several words at once.
+    /// The number, among those of the changes, of a formula that was given to several words at once.
     Given(usize),
 }
 
@@ -133,9 +133,9 @@ impl Changes {
         ensures unchanged { OnErr result ((dict : Dictionary) → changed dict self.new ≡ changed dict self.old) }
     {
         self.admit_all(alloc, words)?;
-        let place = self.formulas.len();
+        let number = self.formulas.len();
         self.formulas.push(formula)?;
-        self.set_all(words, place);
+        self.set_all(words, number);
         Ok(())
     }
 
@@ -169,17 +169,17 @@ impl Changes {
         Ok(())
     }
 
-    // Gives each of these words, for which there is room, the formula at this place.
-    fn set_all(&mut self, words: &[Text], place: usize)
+    // Gives each of these words, for which there is room, the formula of this number.
+    fn set_all(&mut self, words: &[Text], number: usize)
         requires named { All (IsNamed self.old) words.now }
-        ensures words { (text : List ℕ) → change_at self.new text ≡ (if list_any (same_text text) words.now then Given place else change_at self.old text) }
+        ensures words { (text : List ℕ) → change_at self.new text ≡ (if list_any (same_text text) words.now then Given number else change_at self.old text) }
         ensures names { (text : List ℕ) → is_some (at_text self.new.words text) ≡ is_some (at_text self.old.words text) }
         ensures stems { self.new.stems ≡ self.old.stems }
         ensures formulas { self.new.formulas ≡ self.old.formulas }
         ensures macros { self.new.macros ≡ self.old.macros }
     {
         for word in words {
-            set_change(&mut self.words, word.bytes(), Change::Given(place));
+            set_change(&mut self.words, word.bytes(), Change::Given(number));
         }
     }
 }
@@ -209,7 +209,7 @@ pub(crate) fn looked_up<'b>(
         Some(Change::Same) => base.get(word),
         Some(Change::Removed) => None,
         Some(Change::Own(formula)) => Some(formula),
-        Some(Change::Given(place)) => Some(&changes.formulas[*place]),
+        Some(Change::Given(number)) => Some(&changes.formulas[*number]),
     }
 }
 

@@ -78,8 +78,8 @@ impl Dict {
         if word.len() > self.longest {
             return None;
         }
-        let place = *self.words.get(word)?;
-        Some(&self.formulas[place])
+        let number = *self.words.get(word)?;
+        Some(&self.formulas[number])
     }
 
     /// The formula and the level of a macro. No memory.

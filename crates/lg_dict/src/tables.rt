@@ -7,7 +7,7 @@ ghost use Rattle.lg_dict.specs.Tables.{text_entries, text_keys, text_at, at_text
 
 use crate::subscript::stem;
 use indexmap::IndexMap;
-use lg_base::{NoMemory, Text};
+use lg_base::{NoMemory, Text, copied};
 use lg_gram::Entry;
 use std::alloc::Global;
 
@@ -20,31 +20,31 @@ pub struct Macro {
     pub level: u32,
 }
 
-/// The place of its entry for each word.
+/// The number of its entry for each word.
 pub(crate) fn word_table(alloc: Global, entries: &[Entry]) -> Result<Table<usize>, NoMemory>
     requires { AreEntries entries.now }
     ensures kept { IfOk result (λ table. with_trees (map (λ e. e.formula) entries.now) (text_entries table) ≡ words_with_formulas entries.now) }
-    ensures within { IfOk result (λ table. All (λ place. place < length entries.now) (values table)) }
+    ensures within { IfOk result (λ table. All (λ number. number < length entries.now) (values table)) }
 {
     let mut table = IndexMap::with_capacity(alloc, entries.len())?;
-    for (place, entry) in entries.iter().enumerate() {
-        add_names(alloc, &mut table, entry.words.items(), place)?;
+    for (number, entry) in entries.iter().enumerate() {
+        add_names(alloc, &mut table, entry.words.items(), number)?;
     }
     Ok(table)
 }
 
-/// The place of its entry, and the entry's level, for each macro.
+/// The number of its entry, and the entry's level, for each macro.
 pub(crate) fn macro_table(alloc: Global, entries: &[Entry]) -> Result<Table<Macro>, NoMemory>
     requires { AreEntries entries.now }
     ensures kept { IfOk result (λ table. with_macros (map (λ e. e.formula) entries.now) (text_entries table) ≡ macros_with_formulas entries.now) }
     ensures fit { IfOk result (λ table. All (IsMacro (map (λ e. e.formula) entries.now)) (values table)) }
 {
     let mut table = IndexMap::new(alloc);
-    for (place, entry) in entries.iter().enumerate() {
+    for (number, entry) in entries.iter().enumerate() {
         // the call tells that the formula is within the limits
         let _expr = entry.formula.expr();
         let found = Macro {
-            formula: place,
+            formula: number,
             level: entry.level,
         };
         add_names(alloc, &mut table, entry.macros.items(), found)?;
@@ -67,13 +67,6 @@ fn add_names<V: Copy>(
         table.insert(key, value)?;
     }
     Ok(())
-}
-
-pub(crate) fn copied(alloc: Global, bytes: &[u8]) -> Result<Vec<u8>, NoMemory>
-    ensures { IfOk result (λ copy. copy.items ≡ bytes.now) }
-{
-    let copy = bytes.to_vec(alloc)?;
-    Ok(copy)
 }
 
 /// The length in bytes of the longest word; 0 where there is no word.

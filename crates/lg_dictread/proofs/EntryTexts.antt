@@ -2,11 +2,11 @@
 use Rattle.std.proofs.Common.{◌≡◌, ℕ, List, [], ◌∷◌, ◌⊎◌, inl, inr, Result, Ok, Err, refl, sym, ap, subst, ◌∙◌}
 use Rattle.std.specs.Str.{IsUtf8, IsValidUpTo}
 use Rattle.lg_lex.specs.declared.marks.Marks.TheVariants.{Dictionary}
-use Rattle.lg_lex.specs.declared.place.Place.{Place}
+use Rattle.lg_lex.specs.declared.location.Location.{Location}
 use Rattle.lg_lex.specs.Lexing.{between, lex}
 use Rattle.lg_lex.specs.Marked.{without_mark}
 use Rattle.lg_lex.specs.Tokens.{AreTokens, Token, IsText}
-use Rattle.lg_lex.specs.Spots.{place_left}
+use Rattle.lg_lex.specs.Spots.{location_left}
 use Rattle.lg_expr.specs.declared.fault.Fault as expr_fault
 use Rattle.lg_expr.specs.declared.fault.Fault.TheVariants as faults
 use Rattle.lg_expr.specs.declared.macros.Known.TheVariants.{Unknown, Free}
@@ -32,13 +32,13 @@ no_unknown ts f rest (in_items is are stops) e = cc
 no_unknown ts f rest (in_expression is mark body any are c h) e = no_unknown_part body rest (subst (λ (x : expr_fault.Fault). FirstFault Token part free_rules body x rest) e h)
 
 -- the error of a fault
-error_at : (p : Place) (f : expr_fault.Fault) → (f ≡ faults.UnknownMacro → ⊥) → (error : EntryError) × IsErrorAt p f error
+error_at : (p : Location) (f : expr_fault.Fault) → (f ≡ faults.UnknownMacro → ⊥) → (error : EntryError) × IsErrorAt p f error
 error_at p faults.Syntax known = (Syntax p.line p.column, refl)
 error_at p faults.CostForm known = (CostForm p.line, refl)
 error_at p faults.UnknownMacro known = absurd (known refl)
 error_at p faults.TooDeep known = (TooDeep p.line, refl)
 
-same_error : (p : Place) (f : expr_fault.Fault) (d e : EntryError) → IsErrorAt p f d → IsErrorAt p f e → d ≡ e
+same_error : (p : Location) (f : expr_fault.Fault) (d e : EntryError) → IsErrorAt p f d → IsErrorAt p f e → d ≡ e
 same_error p faults.Syntax d e h k = h ∙ sym k
 same_error p faults.CostForm d e h k = h ∙ sym k
 same_error p faults.UnknownMacro d e h k = absurd h
@@ -53,13 +53,13 @@ text_is bytes ts (fault f left) x is h (d, error, leads) = subst (EntryTextIs by
 
 some_result : (text : List ℕ) (ts : List Token) (a : EntryAnswer) → EntryIs free_rules ts a → (x : Result EntryView EntryError) × LeadsTo text a x
 some_result text ts (entry e []) h = (Ok (written_view text e), refl)
-some_result text ts (entry e (t ∷ rest)) h = let d = error_at (place_left text (t ∷ rest)) faults.Syntax (λ q. cc) in (Err d.0, (d.0, d.1, refl))
-some_result text ts (fault f left) h = let d = error_at (place_left text left) f (no_unknown ts f left h) in (Err d.0, (d.0, d.1, refl))
+some_result text ts (entry e (t ∷ rest)) h = let d = error_at (location_left text (t ∷ rest)) faults.Syntax (λ q. cc) in (Err d.0, (d.0, d.1, refl))
+some_result text ts (fault f left) h = let d = error_at (location_left text left) f (no_unknown ts f left h) in (Err d.0, (d.0, d.1, refl))
 
 same_result : (text : List ℕ) (a : EntryAnswer) (x y : Result EntryView EntryError) → LeadsTo text a x → LeadsTo text a y → x ≡ y
 same_result text (entry e []) x y h k = h ∙ sym k
-same_result text (entry e (t ∷ rest)) x y (d, h, xd) (f, k, yf) = xd ∙ ap Err (same_error (place_left text (t ∷ rest)) faults.Syntax d f h k) ∙ sym yf
-same_result text (fault f left) x y (d, h, xd) (e, k, ye) = xd ∙ ap Err (same_error (place_left text left) f d e h k) ∙ sym ye
+same_result text (entry e (t ∷ rest)) x y (d, h, xd) (f, k, yf) = xd ∙ ap Err (same_error (location_left text (t ∷ rest)) faults.Syntax d f h k) ∙ sym yf
+same_result text (fault f left) x y (d, h, xd) (e, k, ye) = xd ∙ ap Err (same_error (location_left text left) f d e h k) ∙ sym ye
 
 -- the text is at fault before all else, or an answer of its tokens leads to the result
 abbrev Reached : List ℕ → Result EntryView EntryError → Type 0
@@ -77,7 +77,7 @@ reached bytes x (faulty ts f left error is h at) = inr (ts, fault f left, is, h,
 -- a fault that is told is none of a macro
 pub knows_macros : (text : List ℕ) (ts : List Token) (a : EntryAnswer) (stop : Stop) → EntryIs free_rules ts a → TellsStop text (λ f left. a ≡ fault f left) stop → KnowsMacros stop
 knows_macros text ts a stops.NoMemory is h = tt
-knows_macros text ts a (stops.Syntax place) is h = tt
+knows_macros text ts a (stops.Syntax location) is h = tt
 knows_macros text ts a (stops.CostForm line) is h = tt
 knows_macros text ts a (stops.UnknownMacro line name) is h = no_unknown ts h.0 h.1 (subst (EntryIs free_rules ts) h.2 is) h.3.0
 knows_macros text ts a (stops.TooDeep line) is h = tt

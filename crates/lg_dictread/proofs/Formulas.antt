@@ -19,21 +19,21 @@ use Rattle.lg_gram.specs.declared.entry.Entry.{Entry}
 use Rattle.lg_gram.specs.Trees.{Tree, tree_of}
 use Rattle.lg_dictread.specs.Definitions.{same_text}
 use Rattle.lg_dictread.specs.Tables.{text_entries}
-use Rattle.lg_dictread.specs.Reading.{entry_formula, formula_at, place_of_macro, formulas_of, IsKept}
+use Rattle.lg_dictread.specs.Reading.{entry_formula, formula_at, number_of_macro, formulas_of, IsKept}
 use Rattle.lg_dictread.proofs.Lookups.{seen_lookup}
 
--- the entry at a place
-pub entry_got : (entries : List Entry) (place : ℕ) (r : Option (Bor Entry)) → IsItemAt entries place r → option_map (λ e. entry_formula e.now) r ≡ formula_at entries (Some place)
-entry_got entries place None h = sym (ap (option_map entry_formula) (slice_get_past entries place h.3))
-entry_got entries place (Some e) h = sym (ap (option_map entry_formula) (slice_get_read entries (length entries) place e.now refl h.3.0 h.1))
+-- the entry at a number
+pub entry_got : (entries : List Entry) (number : ℕ) (r : Option (Bor Entry)) → IsItemAt entries number r → option_map (λ e. entry_formula e.now) r ≡ formula_at entries (Some number)
+entry_got entries number None h = sym (ap (option_map entry_formula) (slice_get_past entries number h.3))
+entry_got entries number (Some e) h = sym (ap (option_map entry_formula) (slice_get_read entries (length entries) number e.now refl h.3.0 h.1))
 
 module _ {A V S : Type 0} (table : IndexMap (Vec ℕ A) V S) (name : List ℕ) where
   -- what a look-up by bytes finds
-  pub place_found : (place : Bor V) → Some place.now ≡ get_by (λ k. pointwise nat_eq name k.items) table → lookup (same_text name) (text_entries table) ≡ Some place.now
-  place_found place is = seen_lookup name table.entries ∙ sym is
+  pub number_found : (number : Bor V) → Some number.now ≡ get_by (λ k. pointwise nat_eq name k.items) table → lookup (same_text name) (text_entries table) ≡ Some number.now
+  number_found number is = seen_lookup name table.entries ∙ sym is
 
-  pub place_missing : None ≡ get_by (λ k. pointwise nat_eq name k.items) table → lookup (same_text name) (text_entries table) ≡ None
-  place_missing is = seen_lookup name table.entries ∙ sym is
+  pub number_missing : None ≡ get_by (λ k. pointwise nat_eq name k.items) table → lookup (same_text name) (text_entries table) ≡ None
+  number_missing is = seen_lookup name table.entries ∙ sym is
 
 -- ---- one entry more
 
@@ -41,29 +41,29 @@ slice_seam : (entries : List Entry) (e : Entry) → slice_get (entries ++ e ∷ 
 slice_seam entries e =
     slice_get_read (entries ++ e ∷ []) (length entries + 1) (length entries) e (omega (arith, length-append entries (e ∷ []))) (omega arith) (sym (get_or-append_seam entries e [] e))
 
-slice_within : (entries : List Entry) (e : Entry) (place : ℕ) → place < length entries → slice_get (entries ++ e ∷ []) place ≡ slice_get entries place
-slice_within entries e place low =
-    slice_get-get_or (entries ++ e ∷ []) place e (omega (arith, length-append entries (e ∷ [])))
-    ∙ ap Some (get_or_append_left entries (e ∷ []) e place low)
-    ∙ sym (slice_get-get_or entries place e low)
+slice_within : (entries : List Entry) (e : Entry) (number : ℕ) → number < length entries → slice_get (entries ++ e ∷ []) number ≡ slice_get entries number
+slice_within entries e number low =
+    slice_get-get_or (entries ++ e ∷ []) number e (omega (arith, length-append entries (e ∷ [])))
+    ∙ ap Some (get_or_append_left entries (e ∷ []) e number low)
+    ∙ sym (slice_get-get_or entries number e low)
 
-pub formula_within : (entries : List Entry) (e : Entry) (old : Option ℕ) → IfSome old (λ place. place < length entries) → formula_at (entries ++ e ∷ []) old ≡ formula_at entries old
+pub formula_within : (entries : List Entry) (e : Entry) (old : Option ℕ) → IfSome old (λ number. number < length entries) → formula_at (entries ++ e ∷ []) old ≡ formula_at entries old
 formula_within entries e None low = refl
-formula_within entries e (Some place) low = ap (option_map entry_formula) (slice_within entries e place low)
+formula_within entries e (Some number) low = ap (option_map entry_formula) (slice_within entries e number low)
 
-formula_more : (entries : List Entry) (e : Entry) (place : ℕ) (is_new : Bool) (old : Option ℕ) → place ≡ length entries → IfSome old (λ p. p < length entries)
-    → formula_at (entries ++ e ∷ []) (cond is_new (Some place) old) ≡ cond is_new (Some (entry_formula e)) (formula_at entries old)
-formula_more entries e place true old at low = ap (λ (n : ℕ). option_map entry_formula (slice_get (entries ++ e ∷ []) n)) at ∙ ap (option_map entry_formula) (slice_seam entries e)
-formula_more entries e place false old at low = formula_within entries e old low
+formula_more : (entries : List Entry) (e : Entry) (number : ℕ) (is_new : Bool) (old : Option ℕ) → number ≡ length entries → IfSome old (λ p. p < length entries)
+    → formula_at (entries ++ e ∷ []) (cond is_new (Some number) old) ≡ cond is_new (Some (entry_formula e)) (formula_at entries old)
+formula_more entries e number true old at low = ap (λ (n : ℕ). option_map entry_formula (slice_get (entries ++ e ∷ []) n)) at ∙ ap (option_map entry_formula) (slice_seam entries e)
+formula_more entries e number false old at low = formula_within entries e old low
 
-pub place_more : (entries : List Entry) (e : Entry) (place : ℕ) (is_new : Bool) (old : Option ℕ) → place ≡ length entries → IfSome old (λ p. p < length entries)
-    → IfSome (cond is_new (Some place) old) (λ p. p < length (entries ++ e ∷ []))
-place_more entries e place true old at low = omega (arith, length-append entries (e ∷ []))
-place_more entries e place false None at low = tt
-place_more entries e place false (Some p) at low = omega (arith, length-append entries (e ∷ []))
+pub number_more : (entries : List Entry) (e : Entry) (number : ℕ) (is_new : Bool) (old : Option ℕ) → number ≡ length entries → IfSome old (λ p. p < length entries)
+    → IfSome (cond is_new (Some number) old) (λ p. p < length (entries ++ e ∷ []))
+number_more entries e number true old at low = omega (arith, length-append entries (e ∷ []))
+number_more entries e number false None at low = tt
+number_more entries e number false (Some p) at low = omega (arith, length-append entries (e ∷ []))
 
-module _ (entries : List Entry) (e : Entry) (place : ℕ) (names : List (List ℕ)) (now old : List ℕ → Option ℕ) (at : place ≡ length entries) (low : (name : List ℕ) → IfSome (old name) (λ p. p < length entries))
-    (named : (name : List ℕ) → now name ≡ (if list_any (same_text name) names then Some place else old name)) where
+module _ (entries : List Entry) (e : Entry) (number : ℕ) (names : List (List ℕ)) (now old : List ℕ → Option ℕ) (at : number ≡ length entries) (low : (name : List ℕ) → IfSome (old name) (λ p. p < length entries))
+    (named : (name : List ℕ) → now name ≡ (if list_any (same_text name) names then Some number else old name)) where
   abbrev pub after : Formulas
   after name = formula_at (entries ++ e ∷ []) (now name)
 
@@ -71,10 +71,10 @@ module _ (entries : List Entry) (e : Entry) (place : ℕ) (names : List (List �
   wanted name = if list_any (same_text name) names then Some (entry_formula e) else formula_at entries (old name)
 
   pub formulas_more : after ≡ wanted
-  formulas_more = λ i name. (ap (formula_at (entries ++ e ∷ [])) (named name) ∙ formula_more entries e place (list_any (same_text name) names) (old name) at (low name)) i
+  formulas_more = λ i name. (ap (formula_at (entries ++ e ∷ [])) (named name) ∙ formula_more entries e number (list_any (same_text name) names) (old name) at (low name)) i
 
-  pub places_more : (name : List ℕ) → IfSome (now name) (λ p. p < length (entries ++ e ∷ []))
-  places_more name = subst (λ (o : Option ℕ). IfSome o (λ p. p < length (entries ++ e ∷ []))) (sym (named name)) (place_more entries e place (list_any (same_text name) names) (old name) at (low name))
+  pub numbers_more : (name : List ℕ) → IfSome (now name) (λ p. p < length (entries ++ e ∷ []))
+  numbers_more name = subst (λ (o : Option ℕ). IfSome o (λ p. p < length (entries ++ e ∷ []))) (sym (named name)) (number_more entries e number (list_any (same_text name) names) (old name) at (low name))
 
 pub all_push : {T : Type 0} (P : T → Type 0) (xs : List T) (x : T) → AllByRecursion P xs → P x → AllByRecursion P (xs ++ x ∷ [])
 all_push P [] x h k = (k, tt)
@@ -85,26 +85,26 @@ all_push P (y ∷ xs) x h k = (h.0, all_push P xs x h.1 k)
 AtFits : Option Entry → Type 0
 AtFits found = IfSome (option_map entry_formula found) (λ m. Fits m.1 m.0)
 
-fit_at : (entries : List Entry) (place : ℕ) → All (λ x. Fits x.level (tree_of x.formula)) entries → AtFits (slice_get entries place)
+fit_at : (entries : List Entry) (number : ℕ) → All (λ x. Fits x.level (tree_of x.formula)) entries → AtFits (slice_get entries number)
 unfolding AtFits
-fit_at entries place h =
+fit_at entries number h =
     ⊎_elim
-    (λ (e, low, found, got). subst AtFits (sym found) (subst (λ (x : Entry). Fits x.level (tree_of x.formula)) got (h place e low)))
+    (λ (e, low, found, got). subst AtFits (sym found) (subst (λ (x : Entry). Fits x.level (tree_of x.formula)) got (h number e low)))
     (λ (past, missing). subst AtFits (sym missing) tt)
-    (slice_get_cases entries place).1
+    (slice_get_cases entries number).1
 
 fits_found : (entries : List Entry) (found : Option ℕ) → AllByRecursion (λ x. Fits x.level (tree_of x.formula)) entries → IfSome (formula_at entries found) (λ m. Fits m.1 m.0)
 unfolding AtFits
 fits_found entries None h = tt
-fits_found entries (Some place) h = fit_at entries place (All-from_recursion (λ x. Fits x.level (tree_of x.formula)) entries h)
+fits_found entries (Some number) h = fit_at entries number (All-from_recursion (λ x. Fits x.level (tree_of x.formula)) entries h)
 
 pub all_fit : (e : code_earlier.Earlier) → IsKept e → AllFit (formulas_of e)
-all_fit e kept name = fits_found e.entries.items (place_of_macro e name) kept.fits
+all_fit e kept name = fits_found e.entries.items (number_of_macro e name) kept.fits
 
 -- ---- what is recalled
 
 -- a section that is recalled after one more entry writes the formula of its entry
-module _ (entries : List Entry) (e : Entry) (Written : List ℕ → Tree × ℕ → Type 0) (old now : List ℕ → Option ℕ) (place : ℕ) (at : place ≡ length entries)
+module _ (entries : List Entry) (e : Entry) (Written : List ℕ → Tree × ℕ → Type 0) (old now : List ℕ → Option ℕ) (number : ℕ) (at : number ≡ length entries)
     (low : (text : List ℕ) → IfSome (old text) (λ p. p < length entries)) (written : (text : List ℕ) → IfSome (formula_at entries (old text)) (Written text)) where
   abbrev pub WrittenAt : List ℕ → Type 0
   WrittenAt text = IfSome (formula_at (entries ++ e ∷ []) (now text)) (Written text)
@@ -117,7 +117,7 @@ module _ (entries : List Entry) (e : Entry) (Written : List ℕ → Tree × ℕ 
       subst (λ (o : Option ℕ). IfSome (formula_at (entries ++ e ∷ []) o) (Written text)) (sym is)
       (subst (λ (m : Option (Tree × ℕ)). IfSome m (Written text)) (sym (formula_within entries e (old text) (low text))) (written text))
 
-  pub written_now : (text : List ℕ) → now text ≡ Some place → Written text (entry_formula e) → WrittenAt text
+  pub written_now : (text : List ℕ) → now text ≡ Some number → Written text (entry_formula e) → WrittenAt text
   written_now text is h =
       subst (λ (o : Option ℕ). IfSome (formula_at (entries ++ e ∷ []) o) (Written text)) (sym is)
       (subst (λ (n : ℕ). IfSome (option_map entry_formula (slice_get (entries ++ e ∷ []) n)) (Written text)) (sym at)

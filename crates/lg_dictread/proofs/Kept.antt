@@ -10,7 +10,7 @@ use Rattle.lg_lex.specs.Tokens.{Token}
 use Rattle.lg_lex.specs.Spots.{IsSpot}
 use Rattle.lg_dictread.specs.Items.{Head, item, colon, other, head_of}
 use Rattle.lg_dictread.specs.Scanning.{scan_step, scan}
-use Rattle.lg_dictread.specs.Places.{line_of}
+use Rattle.lg_dictread.specs.Lines.{line_of}
 use Rattle.lg_dictread.specs.View.{KeepsItems}
 
 no_sign : (b : Bool) (i : Item) → item i ≡ cond b colon other → ⊥
@@ -31,7 +31,7 @@ item_scanned t i n is left more e next =
     ∙ ap (λ (h : Head). scan_step h (λ js. scan js more) is (lexeme_of t, n) more) (sym e)
 
 pub item_kept : (text : List ℕ) (is : List (Item × ℕ)) (items more_items : List Item) (lines more_lines : List ℕ) (i : Item) (s : Spot) → KeepsItems text is items lines → IsSpot text s
-    → more_items ≡ items ++ i ∷ [] → more_lines ≡ lines ++ s.place.line ∷ [] → KeepsItems text (is ++ (i, s.at) ∷ []) more_items more_lines
+    → more_items ≡ items ++ i ∷ [] → more_lines ≡ lines ++ s.location.line ∷ [] → KeepsItems text (is ++ (i, s.at) ∷ []) more_items more_lines
 item_kept text is items more_items lines more_lines i s kept here pushed line_pushed = record {
   items_are = pushed ∙ ap (λ (l : List Item). l ++ i ∷ []) kept.items_are ∙ sym (map_push (λ (x : Item × ℕ). x.0) is (i, s.at));
   lines_are = line_pushed ∙ (λ k. kept.lines_are k ++ (here.placed k).line ∷ []) ∙ sym (map_push (line_of text) is (i, s.at));

@@ -18,9 +18,9 @@ use Rattle.lg_dictread.specs.declared.earlier.Earlier as code_earlier
 use Rattle.lg_dictread.specs.declared.items.PlacedItems.{PlacedItems}
 use Rattle.lg_gram.specs.declared.entry.Item.{Item}
 use Rattle.lg_gram.specs.declared.entry.ItemKind.TheVariants as kinds
-use Rattle.lg_lex.specs.declared.place.Place.{Place}
+use Rattle.lg_lex.specs.declared.location.Location.{Location}
 use Rattle.lg_lex.specs.Tokens.{Lexeme, sign, quoted, plain, broken, HasUtf8, Token}
-use Rattle.lg_lex.specs.Spots.{place_left}
+use Rattle.lg_lex.specs.Spots.{location_left}
 use Rattle.lg_expr.specs.declared.fault.Fault as expr_fault
 use Rattle.lg_expr.specs.declared.fault.Fault.TheVariants.{Syntax}
 use Rattle.lg_expr.specs.Grammar.{Rules}
@@ -33,7 +33,7 @@ use Rattle.lg_dictread.specs.Items.{item, colon, other, is_file_name, plain_item
 use Rattle.lg_dictread.specs.Entries.{head, Written, AreItems, EntryStands, EntryFault, in_items, in_expression}
 use Rattle.lg_dictread.specs.Scanning.{items_end, items_stop, scan}
 use Rattle.lg_dictread.specs.Recalling.{Means, IsRefused, at_fault, large}
-use Rattle.lg_dictread.specs.Places.{line_of, entry_line, part_left}
+use Rattle.lg_dictread.specs.Lines.{line_of, entry_line, part_left}
 use Rattle.lg_dictread.specs.View.{TellsFault, TellsStop, KeepsItems, TellsItems}
 use Rattle.lg_dictread.specs.Telling.{Answers, AsksFront, UnlessMemory, ErrorTells}
 use Rattle.lg_dictread.specs.Definitions.{same_text, both, Lines, AreNew, Defined, ItemsAnswer, define, refuse_items, ItemsGive}
@@ -106,29 +106,29 @@ stands_utf8 r ts e rest h utf8 =
 -- ---- the error of a stop
 
 module _ (text : List ℕ) (Is : expr_fault.Fault → List Token → Type 0) (Told : DictError → Type 0)
-    (leads : (f : expr_fault.Fault) (left : List Token) (error : DictError) → Is f left → IsErrorOf (place_left text left) (part_left left) f error → Told error) where
+    (leads : (f : expr_fault.Fault) (left : List Token) (error : DictError) → Is f left → IsErrorOf (location_left text left) (part_left left) f error → Told error) where
   abbrev AtFault : Stop → Type 0
-  AtFault stop = (f : expr_fault.Fault) × (left : List Token) × Is f left × TellsFault f (place_left text left) (part_left left) stop
+  AtFault stop = (f : expr_fault.Fault) × (left : List Token) × Is f left × TellsFault f (location_left text left) (part_left left) stop
 
-  at_place : (stop : Stop) (e : DictError) → AtFault stop → ((f : expr_fault.Fault) (left : List Token) → TellsFault f (place_left text left) (part_left left) stop → IsErrorOf (place_left text left) (part_left left) f e) → Told e
-  at_place stop e (f, left, is, tells) error = leads f left e is (error f left tells)
+  at_location : (stop : Stop) (e : DictError) → AtFault stop → ((f : expr_fault.Fault) (left : List Token) → TellsFault f (location_left text left) (part_left left) stop → IsErrorOf (location_left text left) (part_left left) f e) → Told e
+  at_location stop e (f, left, is, tells) error = leads f left e is (error f left tells)
 
   pub stop_told : (stop : Stop) (error : DictError) → TellsStop text Is stop → TellsStopBy stop error → UnlessMemory Told error
   stop_told stops.NoMemory error h k = subst (UnlessMemory Told) (sym k) tt
-  stop_told (stops.Syntax place) error h k =
-      subst (UnlessMemory Told) (sym k) (at_place (stops.Syntax place) (errors.Syntax place.line place.column) h
-      (λ f left tells. subst (λ (x : expr_fault.Fault). IsErrorOf (place_left text left) (part_left left) x (errors.Syntax place.line place.column)) (sym tells.0) (ap (λ (p : Place). errors.Syntax p.line p.column) tells.1)))
+  stop_told (stops.Syntax location) error h k =
+      subst (UnlessMemory Told) (sym k) (at_location (stops.Syntax location) (errors.Syntax location.line location.column) h
+      (λ f left tells. subst (λ (x : expr_fault.Fault). IsErrorOf (location_left text left) (part_left left) x (errors.Syntax location.line location.column)) (sym tells.0) (ap (λ (p : Location). errors.Syntax p.line p.column) tells.1)))
   stop_told (stops.CostForm line) error h k =
-      subst (UnlessMemory Told) (sym k) (at_place (stops.CostForm line) (errors.CostForm line) h
-      (λ f left tells. subst (λ (x : expr_fault.Fault). IsErrorOf (place_left text left) (part_left left) x (errors.CostForm line)) (sym tells.0) (ap errors.CostForm tells.1)))
+      subst (UnlessMemory Told) (sym k) (at_location (stops.CostForm line) (errors.CostForm line) h
+      (λ f left tells. subst (λ (x : expr_fault.Fault). IsErrorOf (location_left text left) (part_left left) x (errors.CostForm line)) (sym tells.0) (ap errors.CostForm tells.1)))
   stop_told (stops.UnknownMacro line name) error h k =
       memory_map (λ e. e ≡ errors.UnknownMacro line name.now) Told
-      (λ e is. subst Told (sym is) (at_place (stops.UnknownMacro line name) (errors.UnknownMacro line name.now) h
-      (λ f left tells. subst (λ (x : expr_fault.Fault). IsErrorOf (place_left text left) (part_left left) x (errors.UnknownMacro line name.now)) (sym tells.0) (name.now, tells.2, ap (λ (n : ℕ). errors.UnknownMacro n name.now) tells.1))))
+      (λ e is. subst Told (sym is) (at_location (stops.UnknownMacro line name) (errors.UnknownMacro line name.now) h
+      (λ f left tells. subst (λ (x : expr_fault.Fault). IsErrorOf (location_left text left) (part_left left) x (errors.UnknownMacro line name.now)) (sym tells.0) (name.now, tells.2, ap (λ (n : ℕ). errors.UnknownMacro n name.now) tells.1))))
       error k
   stop_told (stops.TooDeep line) error h k =
-      subst (UnlessMemory Told) (sym k) (at_place (stops.TooDeep line) (errors.TooDeep line) h
-      (λ f left tells. subst (λ (x : expr_fault.Fault). IsErrorOf (place_left text left) (part_left left) x (errors.TooDeep line)) (sym tells.0) (ap errors.TooDeep tells.1)))
+      subst (UnlessMemory Told) (sym k) (at_location (stops.TooDeep line) (errors.TooDeep line) h
+      (λ f left tells. subst (λ (x : expr_fault.Fault). IsErrorOf (location_left text left) (part_left left) x (errors.TooDeep line)) (sym tells.0) (ap errors.TooDeep tells.1)))
 
 -- ---- the items before the colon
 

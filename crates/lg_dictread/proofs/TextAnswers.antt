@@ -4,9 +4,9 @@ use Rattle.std.proofs.lemmas.List.{append-nil}
 use Rattle.lg_base.specs.Contents.{Contents}
 use Rattle.lg_gram.specs.declared.entry.Item.{Item}
 use Rattle.lg_gram.specs.Filled.{filled}
-use Rattle.lg_lex.specs.declared.place.Place.{Place}
+use Rattle.lg_lex.specs.declared.location.Location.{Location}
 use Rattle.lg_lex.specs.Tokens.{Token}
-use Rattle.lg_lex.specs.Spots.{place_left}
+use Rattle.lg_lex.specs.Spots.{location_left}
 use Rattle.lg_expr.specs.declared.fault.Fault as expr_fault
 use Rattle.lg_expr.specs.declared.fault.Fault.TheVariants as faults
 use Rattle.lg_expr.specs.Grammar.{Rules}
@@ -16,7 +16,7 @@ use Rattle.lg_dictread.specs.declared.dict_error.DictError.{DictError}
 use Rattle.lg_dictread.specs.declared.dict_error.DictError.TheVariants.{Syntax, UnknownMacro, CostForm, TooDeep}
 use Rattle.lg_dictread.specs.Entries.{part, Written, AreItems, EntryStands, EntryFault, in_items, in_expression, EntryAnswer, entry, fault, EntryIs}
 use Rattle.lg_dictread.specs.Scanning as scanning
-use Rattle.lg_dictread.specs.Places.{part_left, line_of, entry_line}
+use Rattle.lg_dictread.specs.Lines.{part_left, line_of, entry_line}
 use Rattle.lg_dictread.specs.Definitions.{Defined, ItemsAnswer, define, refuse_items, ItemsGive}
 use Rattle.lg_dictread.specs.Texts as texts
 use Rattle.lg_dictread.specs.Texts.{Earlier, nothing, rules_after, Meaning, meaning_of, then_entry, IsSmall, IsLarge, IsErrorOf, EntryOutcome, means, fails, EntryGives, whole, at_fault, large, at_items, TextAnswer, stands, refuse, with_meaning, TextIs, ended}
@@ -35,13 +35,13 @@ pub named : (r : Rules) (ts : List Token) (f : expr_fault.Fault) (left : List To
 named r ts f left (in_items is are stops) e = absurd cc
 named r ts f left (in_expression is mark body any are c h) e = named_part r body left (subst (λ (x : expr_fault.Fault). FirstFault Token part r body x left) e h)
 
-pub error_at : (p : Place) (q : Part) (f : expr_fault.Fault) → (f ≡ faults.UnknownMacro → (m : List ℕ) × (q ≡ names m)) → (error : DictError) × IsErrorOf p q f error
+pub error_at : (p : Location) (q : Part) (f : expr_fault.Fault) → (f ≡ faults.UnknownMacro → (m : List ℕ) × (q ≡ names m)) → (error : DictError) × IsErrorOf p q f error
 error_at p q faults.Syntax has_name = (Syntax p.line p.column, refl)
 error_at p q faults.CostForm has_name = (CostForm p.line, refl)
 error_at p q faults.UnknownMacro has_name = let m = has_name refl in (UnknownMacro p.line m.0, (m.0, m.1, refl))
 error_at p q faults.TooDeep has_name = (TooDeep p.line, refl)
 
-pub same_error : (p : Place) (q : Part) (f : expr_fault.Fault) (d e : DictError) → IsErrorOf p q f d → IsErrorOf p q f e → d ≡ e
+pub same_error : (p : Location) (q : Part) (f : expr_fault.Fault) (d e : DictError) → IsErrorOf p q f d → IsErrorOf p q f e → d ≡ e
 same_error p q faults.Syntax d e h k = h ∙ sym k
 same_error p q faults.CostForm d e h k = h ∙ sym k
 same_error p q faults.UnknownMacro d e (m, is, h) (n, also, k) = let same : m ≡ n = cc in h ∙ ap (UnknownMacro p.line) same ∙ sym k
@@ -85,7 +85,7 @@ module _ (laws : Laws) (entry_laws : EntryLaws) (bytes : List ℕ) where
 
     abbrev ByAnswer : (ts : List Token) (a : EntryAnswer) → EntryIs (rules_after earlier) ts a → List Asked → EntryOutcome → Type 0
     ByAnswer ts (entry e rest) h asked o = Sized e rest asked o
-    ByAnswer ts (fault f left) h asked o = (asked ≡ []) × (o ≡ fails (error_at (place_left bytes left) (part_left left) f (named (rules_after earlier) ts f left h)).0)
+    ByAnswer ts (fault f left) h asked o = (asked ≡ []) × (o ≡ fails (error_at (location_left bytes left) (part_left left) f (named (rules_after earlier) ts f left h)).0)
 
     abbrev IsOutcome : List Token → List Asked → EntryOutcome → Type 0
     IsOutcome ts asked o = ByAnswer ts (scanning.answer_of (rules_after earlier) ts) (entry_laws.some (rules_after earlier) ts) asked o
@@ -107,16 +107,16 @@ module _ (laws : Laws) (entry_laws : EntryLaws) (bytes : List ℕ) where
         subst (λ (w : Written). Sized w us asked o) written (subst (λ (l : List Token). Sized e l asked o) left is)
     stood ts (fault f left) h e rest asked o same is = absurd cc
 
-    faulted : (ts : List Token) (a : EntryAnswer) (h : EntryIs (rules_after earlier) ts a) (f : expr_fault.Fault) (left : List Token) (error : DictError) → a ≡ fault f left → IsErrorOf (place_left bytes left) (part_left left) f error
+    faulted : (ts : List Token) (a : EntryAnswer) (h : EntryIs (rules_after earlier) ts a) (f : expr_fault.Fault) (left : List Token) (error : DictError) → a ≡ fault f left → IsErrorOf (location_left bytes left) (part_left left) f error
         → ByAnswer ts a h [] (fails error)
     faulted ts (entry d us) h f left error same is = absurd cc
     faulted ts (fault g us) h f left error same is =
         let fault_same : f ≡ g = cc in
         let left_same : left ≡ us = cc in
-        let d = error_at (place_left bytes us) (part_left us) g (named (rules_after earlier) ts g us h) in (
+        let d = error_at (location_left bytes us) (part_left us) g (named (rules_after earlier) ts g us h) in (
           refl,
-          ap fails (sym (same_error (place_left bytes us) (part_left us) g d.0 error d.1
-              (subst (λ (x : List Token). IsErrorOf (place_left bytes x) (part_left x) g error) left_same (subst (λ (x : expr_fault.Fault). IsErrorOf (place_left bytes left) (part_left left) x error) fault_same is)))),
+          ap fails (sym (same_error (location_left bytes us) (part_left us) g d.0 error d.1
+              (subst (λ (x : List Token). IsErrorOf (location_left bytes x) (part_left x) g error) left_same (subst (λ (x : expr_fault.Fault). IsErrorOf (location_left bytes left) (part_left left) x error) fault_same is)))),
         )
 
     entry_is : (ts : List Token) (e : Written) (rest : List Token) (asked : List Asked) (o : EntryOutcome) → EntryStands (rules_after earlier) ts e rest → Sized e rest asked o → IsOutcome ts asked o
@@ -169,7 +169,7 @@ module _ (laws : Laws) (entry_laws : EntryLaws) (bytes : List ℕ) where
       answer_some : (ts : List Token) (a : EntryAnswer) → EntryIs (rules_after earlier) ts a → SomeOutcome ts
       answer_some ts (entry e rest) h = sized_some ts e rest (small_or_large (filled earlier.formulas e.expr) (entry_line bytes e.items)) h
       answer_some ts (fault f left) h =
-          let d = error_at (place_left bytes left) (part_left left) f (named (rules_after earlier) ts f left h) in
+          let d = error_at (location_left bytes left) (part_left left) f (named (rules_after earlier) ts f left h) in
           ([], fails d.0, tt, at_fault f left d.0 h d.1)
 
       pub some_outcome : (ts : List Token) → SomeOutcome ts

@@ -4,10 +4,10 @@ use Rattle.std.specs.Str.{IsValidUpTo}
 use Rattle.lg_gram.specs.declared.entry.RawEntry.{RawEntry}
 use Rattle.lg_gram.specs.EntryViews.{EntryView, entry_view}
 use Rattle.lg_lex.specs.declared.marks.Marks.TheVariants.{Dictionary}
-use Rattle.lg_lex.specs.declared.place.Place.{Place}
+use Rattle.lg_lex.specs.declared.location.Location.{Location}
 use Rattle.lg_lex.specs.Marked.{without_mark}
 use Rattle.lg_lex.specs.Tokens.{Token, IsText}
-use Rattle.lg_lex.specs.Spots.{place_left}
+use Rattle.lg_lex.specs.Spots.{location_left}
 use Rattle.lg_expr.specs.declared.fault.Fault as expr_fault
 use Rattle.lg_expr.specs.declared.fault.Fault.TheVariants as faults
 use Rattle.lg_expr.specs.declared.macros.Known.TheVariants.{Free}
@@ -16,7 +16,7 @@ use Rattle.lg_dictread.specs.declared.entry_text.EntryError.{EntryError}
 use Rattle.lg_dictread.specs.declared.entry_text.EntryError.TheVariants.{NoMemory, NotUtf8, Syntax, CostForm, TooDeep}
 use Rattle.lg_gram.specs.Limits.{LEVEL}
 use Rattle.lg_dictread.specs.Entries.{Written, EntryStands, EntryFault}
-use Rattle.lg_dictread.specs.Places.{entry_line}
+use Rattle.lg_dictread.specs.Lines.{entry_line}
 
 -- each macro may be named, at any depth
 abbrev pub free_rules : Rules
@@ -31,8 +31,8 @@ written_view text e = record {
   line = entry_line text e.items;
 }
 
--- the error that tells a fault at this place; no macro is unknown
-abbrev pub IsErrorAt : Place → expr_fault.Fault → EntryError → Type 0
+-- the error that tells a fault at this location; no macro is unknown
+abbrev pub IsErrorAt : Location → expr_fault.Fault → EntryError → Type 0
 IsErrorAt p faults.Syntax error = error ≡ Syntax p.line p.column
 IsErrorAt p faults.CostForm error = error ≡ CostForm p.line
 IsErrorAt p faults.UnknownMacro error = ⊥
@@ -43,9 +43,9 @@ pub data EntryTextIs (bytes : List ℕ) : Result EntryView EntryError → Type 0
   not_utf8 : (n : ℕ) → IsValidUpTo bytes n → EntryTextIs bytes (Err (NotUtf8 n))
   one : (ts : List Token) (e : Written) → IsText Dictionary bytes ts → EntryStands free_rules ts e [] → EntryTextIs bytes (Ok (written_view (without_mark bytes) e))
   goes_on : (ts : List Token) (e : Written) (t : Token) (rest : List Token) (error : EntryError) → IsText Dictionary bytes ts → EntryStands free_rules ts e (t ∷ rest)
-      → IsErrorAt (place_left (without_mark bytes) (t ∷ rest)) faults.Syntax error → EntryTextIs bytes (Err error)
+      → IsErrorAt (location_left (without_mark bytes) (t ∷ rest)) faults.Syntax error → EntryTextIs bytes (Err error)
   faulty : (ts : List Token) (f : expr_fault.Fault) (left : List Token) (error : EntryError) → IsText Dictionary bytes ts → EntryFault free_rules ts f left
-      → IsErrorAt (place_left (without_mark bytes) left) f error → EntryTextIs bytes (Err error)
+      → IsErrorAt (location_left (without_mark bytes) left) f error → EntryTextIs bytes (Err error)
 
 -- what the reader answers, unless memory ran out
 abbrev pub TellsEntryText : List ℕ → Result RawEntry EntryError → Type 0

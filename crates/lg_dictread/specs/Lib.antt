@@ -3,7 +3,7 @@ pub mod Findings
 pub mod Items
 pub mod Entries
 pub mod Scanning
-pub mod Places
+pub mod Lines
 pub mod EntryTexts
 pub mod View
 pub mod Definitions

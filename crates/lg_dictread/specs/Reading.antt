@@ -33,16 +33,16 @@ entry_formula e = (tree_of e.formula, e.level)
 -- what the entry of that number has, if there is one
 abbrev pub formula_at : List Entry → Option ℕ → Option (Tree × ℕ)
 formula_at entries None = None
-formula_at entries (Some place) = option_map entry_formula (slice_get entries place)
+formula_at entries (Some number) = option_map entry_formula (slice_get entries number)
 
-abbrev pub place_of_macro : code_earlier.Earlier → List ℕ → Option ℕ
-place_of_macro e name = lookup (same_text name) (text_entries e.formulas)
+abbrev pub number_of_macro : code_earlier.Earlier → List ℕ → Option ℕ
+number_of_macro e name = lookup (same_text name) (text_entries e.formulas)
 
-abbrev pub place_of_section : code_earlier.Earlier → List ℕ → Option ℕ
-place_of_section e section = lookup (same_text section) (text_entries e.sections)
+abbrev pub number_of_section : code_earlier.Earlier → List ℕ → Option ℕ
+number_of_section e section = lookup (same_text section) (text_entries e.sections)
 
 abbrev pub formulas_of : code_earlier.Earlier → Formulas
-formulas_of e name = formula_at e.entries.items (place_of_macro e name)
+formulas_of e name = formula_at e.entries.items (number_of_macro e name)
 
 -- what was read, as the definition of texts has it
 abbrev pub earlier_of : code_earlier.Earlier → Earlier
@@ -60,17 +60,17 @@ named_meaning names formula level line = record {
 
 -- the text is recalled as before, or it is the section that is recalled from now on
 abbrev pub RecallsAt : Lines → Lines → Option (Bor (List ℕ)) → ℕ → List ℕ → Type 0
-RecallsAt old new section place text =
+RecallsAt old new section number text =
     (lookup (same_text text) new ≡ lookup (same_text text) old)
-    ⊎ ((lookup (same_text text) new ≡ Some place) × IsSomeAnd section (λ s. s.now ≡ text))
+    ⊎ ((lookup (same_text text) new ≡ Some number) × IsSomeAnd section (λ s. s.now ≡ text))
 
 -- each macro's entry is there, each entry's formula keeps to its level, and each section that is recalled writes the formula
 -- of an entry that is there
 pub record IsKept (e : code_earlier.Earlier) : Type 0 where
-  pub places : (name : List ℕ) → IfSome (place_of_macro e name) (λ place. place < length e.entries.items)
+  pub numbers : (name : List ℕ) → IfSome (number_of_macro e name) (λ number. number < length e.entries.items)
   pub fits : AllByRecursion (λ x. Fits x.level (tree_of x.formula)) e.entries.items
-  pub sections : (section : List ℕ) → IfSome (place_of_section e section) (λ place. place < length e.entries.items)
-  pub written : (section : List ℕ) → IfSome (formula_at e.entries.items (place_of_section e section)) (λ m. Writes (formulas_of e) section m.0 m.1)
+  pub sections : (section : List ℕ) → IfSome (number_of_section e section) (λ number. number < length e.entries.items)
+  pub written : (section : List ℕ) → IfSome (formula_at e.entries.items (number_of_section e section)) (λ m. Writes (formulas_of e) section m.0 m.1)
 
 -- no name is defined twice, and the entries list them all
 pub record AreListed (defined : Lines) (names : List (List ℕ)) : Type 0 where
@@ -84,7 +84,7 @@ pub record ListsAll (e : code_earlier.Earlier) : Type 0 where
 -- the error that tells a stop
 abbrev pub TellsStopBy : Stop → DictError → Type 0
 TellsStopBy stops.NoMemory error = error ≡ errors.NoMemory
-TellsStopBy (stops.Syntax place) error = error ≡ errors.Syntax place.line place.column
+TellsStopBy (stops.Syntax location) error = error ≡ errors.Syntax location.line location.column
 TellsStopBy (stops.CostForm line) error = error ≡ errors.CostForm line
 TellsStopBy (stops.UnknownMacro line name) error = UnlessMemory (λ e. e ≡ errors.UnknownMacro line name.now) error
 TellsStopBy (stops.TooDeep line) error = error ≡ errors.TooDeep line

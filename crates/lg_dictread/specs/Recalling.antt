@@ -7,7 +7,7 @@ use Rattle.lg_gram.specs.Trees.{Tree, tree_of}
 use Rattle.lg_lex.specs.declared.marks.Marks.TheVariants.{Dictionary}
 use Rattle.lg_lex.specs.Lexing.{tokens_from}
 use Rattle.lg_lex.specs.Sections.{IsClosed}
-use Rattle.lg_lex.specs.Spots.{place_left, IsSpot}
+use Rattle.lg_lex.specs.Spots.{location_left, IsSpot}
 use Rattle.lg_lex.specs.Tokens.{Token}
 use Rattle.lg_expr.specs.Fits.{rules_of}
 use Rattle.lg_expr.specs.Reading.{StandFor, FirstFault}
@@ -16,7 +16,7 @@ use Rattle.lg_dictread.specs.declared.dict_error.DictError.{DictError}
 use Rattle.lg_dictread.specs.declared.dict_error.DictError.TheVariants as errors
 use Rattle.lg_dictread.specs.declared.formula.FormulaRead.{FormulaRead}
 use Rattle.lg_dictread.specs.Entries.{part}
-use Rattle.lg_dictread.specs.Places.{part_left}
+use Rattle.lg_dictread.specs.Lines.{part_left}
 use Rattle.lg_dictread.specs.Telling.{UnlessMemory}
 use Rattle.lg_dictread.specs.Texts.{IsSmall, IsLarge, IsErrorOf}
 
@@ -38,7 +38,7 @@ pub record Writes (formulas : Formulas) (section : List ℕ) (formula : Tree) (l
 -- why no formula is read: the first token at fault, or the first measure that is passed by an entry on this line
 pub data IsRefused (text : List ℕ) (formulas : Formulas) (line : ℕ) (ts : List Token) (error : DictError) : Type 0 where
   at_fault : (f : expr_fault.Fault) (left : List Token) → FirstFault Token part (rules_of formulas LEVEL) ts f left
-      → IsErrorOf (place_left text left) (part_left left) f error → IsRefused text formulas line ts error
+      → IsErrorOf (location_left text left) (part_left left) f error → IsRefused text formulas line ts error
   large : (e : RawTree) (n : ℕ) (rest : List Token) → StandFor Token part (rules_of formulas LEVEL) ts e n rest
       → IsLarge (filled formulas e) line error → IsRefused text formulas line ts error
 

@@ -10,10 +10,10 @@ use Rattle.lg_gram.specs.Measures.{node_count, choice_count}
 pub use Rattle.lg_gram.specs.Measured.{longest_side, IsSmall}
 use Rattle.lg_gram.specs.Trees.{Tree}
 use Rattle.lg_lex.specs.declared.marks.Marks.TheVariants.{Dictionary}
-use Rattle.lg_lex.specs.declared.place.Place.{Place}
+use Rattle.lg_lex.specs.declared.location.Location.{Location}
 use Rattle.lg_lex.specs.Marked.{without_mark}
 use Rattle.lg_lex.specs.Tokens.{Token, IsText}
-use Rattle.lg_lex.specs.Spots.{place_left}
+use Rattle.lg_lex.specs.Spots.{location_left}
 use Rattle.lg_expr.specs.declared.fault.Fault as expr_fault
 use Rattle.lg_expr.specs.declared.fault.Fault.TheVariants as faults
 use Rattle.lg_expr.specs.Fits.{known_as}
@@ -23,7 +23,7 @@ use Rattle.lg_dictread.specs.declared.dict_error.DictError.{DictError}
 use Rattle.lg_dictread.specs.declared.dict_error.DictError.TheVariants.{NotUtf8, Syntax, UnknownMacro, CostForm, TooDeep, TooManyNodes, TooManyChoices, SideTooLong}
 use Rattle.lg_dictread.specs.Findings.{Asked, names_of, AreIn}
 use Rattle.lg_dictread.specs.Entries.{Written, EntryStands, EntryFault}
-use Rattle.lg_dictread.specs.Places.{part_left, line_of, entry_line}
+use Rattle.lg_dictread.specs.Lines.{part_left, line_of, entry_line}
 use Rattle.lg_dictread.specs.Definitions.{same_text, Defined, none_defined, both, define, refuse_items, ItemsGive}
 
 -- what was read before: every word and macro with its line, and what each macro stands for
@@ -71,7 +71,7 @@ pub data IsLarge (t : Tree) (line : ℕ) : DictError → Type 0 where
   side : node_count t ≤ FORMULA_NODES → choice_count t ≤ FORMULA_CHOICES → SIDE < longest_side t → IsLarge t line (SideTooLong line (min (longest_side t) SIDE_COUNTED))
 
 -- the error that tells a fault at the token that stands here and is this part of an expression
-abbrev pub IsErrorOf : Place → Part → expr_fault.Fault → DictError → Type 0
+abbrev pub IsErrorOf : Location → Part → expr_fault.Fault → DictError → Type 0
 IsErrorOf p q faults.Syntax error = error ≡ Syntax p.line p.column
 IsErrorOf p q faults.CostForm error = error ≡ CostForm p.line
 IsErrorOf p q faults.UnknownMacro error = (m : List ℕ) × (q ≡ names m) × (error ≡ UnknownMacro p.line m)
@@ -89,7 +89,7 @@ pub data EntryGives (text : List ℕ) (earlier : Earlier) (ts : List Token) : Li
       → ItemsGive earlier.defined (map (λ i. (i.0, line_of text i)) e.items) asked (define new)
       → EntryGives text earlier ts asked (means (meaning_of text earlier e new) new rest)
   at_fault : (f : expr_fault.Fault) (left : List Token) (error : DictError)
-      → EntryFault (rules_after earlier) ts f left → IsErrorOf (place_left text left) (part_left left) f error
+      → EntryFault (rules_after earlier) ts f left → IsErrorOf (location_left text left) (part_left left) f error
       → EntryGives text earlier ts [] (fails error)
   large : (e : Written) (rest : List Token) (error : DictError)
       → EntryStands (rules_after earlier) ts e rest → IsLarge (filled earlier.formulas e.expr) (entry_line text e.items) error

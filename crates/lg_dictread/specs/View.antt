@@ -3,10 +3,10 @@ use Rattle.std.specs.Prelude.{◌≡◌, ℕ, List, [], ◌∷◌, map, slice_in
 use Rattle.lg_gram.specs.declared.entry.Item.{Item}
 use Rattle.lg_gram.specs.RawTrees.{raw_tree_of}
 use Rattle.lg_lex.specs.declared.marks.Marks.TheVariants.{Dictionary}
-use Rattle.lg_lex.specs.declared.place.Place.{Place}
+use Rattle.lg_lex.specs.declared.location.Location.{Location}
 use Rattle.lg_lex.specs.Lexing.{tokens_from}
 use Rattle.lg_lex.specs.Tokens.{Token}
-use Rattle.lg_lex.specs.Spots.{place_left, IsSpot}
+use Rattle.lg_lex.specs.Spots.{location_left, IsSpot}
 use Rattle.lg_expr.specs.declared.fault.Fault.{Fault}
 use Rattle.lg_expr.specs.declared.fault.Fault.TheVariants.{Syntax, CostForm, UnknownMacro, TooDeep}
 use Rattle.lg_expr.specs.Parts.{Part, names}
@@ -21,7 +21,7 @@ use Rattle.lg_dictread.specs.declared.entry.One.{One}
 use Rattle.lg_dictread.specs.Items.{Head, item, colon, other}
 use Rattle.lg_dictread.specs.Entries.{Written, EntryAnswer, entry, fault}
 use Rattle.lg_dictread.specs.Scanning.{Scanned, items_end, items_stop}
-use Rattle.lg_dictread.specs.Places.{part_left, line_of}
+use Rattle.lg_dictread.specs.Lines.{part_left, line_of}
 use Rattle.lg_gram.specs.EntryViews.{EntryView, entry_view}
 use Rattle.lg_dictread.specs.EntryTexts.{written_view, IsErrorAt}
 use Rattle.lg_dictread.specs.declared.entry_text.EntryError.{EntryError}
@@ -33,10 +33,10 @@ head_view (heads.Item kind name) = item (record { kind = kind; text = name.now }
 head_view heads.Colon = colon
 head_view heads.Other = other
 
--- a fault is told with the place of the token at fault, which has this part
-abbrev pub TellsFault : Fault → Place → Part → Stop → Type 0
+-- a fault is told with the location of the token at fault, which has this part
+abbrev pub TellsFault : Fault → Location → Part → Stop → Type 0
 TellsFault f p q stops.NoMemory = ⊥
-TellsFault f p q (stops.Syntax place) = (f ≡ Syntax) × (place ≡ p)
+TellsFault f p q (stops.Syntax location) = (f ≡ Syntax) × (location ≡ p)
 TellsFault f p q (stops.CostForm line) = (f ≡ CostForm) × (line ≡ p.line)
 TellsFault f p q (stops.UnknownMacro line name) = (f ≡ UnknownMacro) × (line ≡ p.line) × (q ≡ names name.now)
 TellsFault f p q (stops.TooDeep line) = (f ≡ TooDeep) × (line ≡ p.line)
@@ -44,7 +44,7 @@ TellsFault f p q (stops.TooDeep line) = (f ≡ TooDeep) × (line ≡ p.line)
 -- memory ran out, or a fault of which this holds is told at the tokens that are left
 abbrev pub TellsStop : List ℕ → (Fault → List Token → Type 0) → Stop → Type 0
 TellsStop text P stops.NoMemory = Unit {0}
-TellsStop text P stop = (f : Fault) × (left : List Token) × P f left × TellsFault f (place_left text left) (part_left left) stop
+TellsStop text P stop = (f : Fault) × (left : List Token) × P f left × TellsFault f (location_left text left) (part_left left) stop
 
 -- items are kept, with their lines
 pub record KeepsItems (text : List ℕ) (is : List (Item × ℕ)) (items : List Item) (lines : List ℕ) : Type 0 where
@@ -74,7 +74,7 @@ TellsEntry text a (Err stop) = TellsStop text (λ f left. a ≡ fault f left) st
 -- the stop is at no unknown macro
 abbrev pub KnowsMacros : Stop → Type 0
 KnowsMacros stops.NoMemory = Unit {0}
-KnowsMacros (stops.Syntax place) = Unit {0}
+KnowsMacros (stops.Syntax location) = Unit {0}
 KnowsMacros (stops.CostForm line) = Unit {0}
 KnowsMacros (stops.UnknownMacro line name) = ⊥
 KnowsMacros (stops.TooDeep line) = Unit {0}
@@ -82,7 +82,7 @@ KnowsMacros (stops.TooDeep line) = Unit {0}
 -- the error that a stop is told by
 abbrev pub IsErrorOf : Stop → EntryError → Type 0
 IsErrorOf stops.NoMemory error = error ≡ errors.NoMemory
-IsErrorOf (stops.Syntax place) error = error ≡ errors.Syntax place.line place.column
+IsErrorOf (stops.Syntax location) error = error ≡ errors.Syntax location.line location.column
 IsErrorOf (stops.CostForm line) error = error ≡ errors.CostForm line
 IsErrorOf (stops.UnknownMacro line name) error = ⊥
 IsErrorOf (stops.TooDeep line) error = error ≡ errors.TooDeep line
@@ -90,8 +90,8 @@ IsErrorOf (stops.TooDeep line) error = error ≡ errors.TooDeep line
 -- the result that an answer of a text's tokens leads to, where the text is to be one entry
 abbrev pub LeadsTo : List ℕ → EntryAnswer → Result EntryView EntryError → Type 0
 LeadsTo text (entry e []) x = x ≡ Ok (written_view text e)
-LeadsTo text (entry e (t ∷ rest)) x = (error : EntryError) × IsErrorAt (place_left text (t ∷ rest)) Syntax error × (x ≡ Err error)
-LeadsTo text (fault f left) x = (error : EntryError) × IsErrorAt (place_left text left) f error × (x ≡ Err error)
+LeadsTo text (entry e (t ∷ rest)) x = (error : EntryError) × IsErrorAt (location_left text (t ∷ rest)) Syntax error × (x ≡ Err error)
+LeadsTo text (fault f left) x = (error : EntryError) × IsErrorAt (location_left text left) f error × (x ≡ Err error)
 
 -- what the reader answers, unless memory ran out
 abbrev pub TellsAlone : List ℕ → EntryAnswer → Result RawEntry EntryError → Type 0

@@ -11,7 +11,7 @@ ghost use Rattle.lg_dictread.specs.Tables.{text_entries};
 ghost use Rattle.lg_dictread.specs.Texts.{nothing};
 ghost use Rattle.lg_dictread.specs.DictTexts.{entry_meaning};
 ghost use Rattle.lg_dictread.specs.Recalling.{Writes};
-ghost use Rattle.lg_dictread.specs.Reading.{entry_formula, formula_at, place_of_section, formulas_of, earlier_of, named_meaning, RecallsAt, IsKept};
+ghost use Rattle.lg_dictread.specs.Reading.{entry_formula, formula_at, number_of_section, formulas_of, earlier_of, named_meaning, RecallsAt, IsKept};
 
 use crate::define::{Names, Tables};
 use crate::formula::FormulaRead;
@@ -86,14 +86,14 @@ impl Earlier {
         ensures { option_map (λ e. entry_formula e.now) result ≡ formulas_of self.now name.now }
     {
         match self.formulas.get(name) {
-            Some(place) => self.entries.get(*place),
+            Some(number) => self.entries.get(*number),
             None => None,
         }
     }
 
     /// The entry whose expression is written so, if it is recalled.
     pub(crate) fn recalled(&self, section: &[u8]) -> Option<&Entry>
-        ensures { option_map (λ e. entry_formula e.now) result ≡ formula_at self.now.entries.items (place_of_section self.now section.now) }
+        ensures { option_map (λ e. entry_formula e.now) result ≡ formula_at self.now.entries.items (number_of_section self.now section.now) }
     {
         match self.sections.get(section) {
             Some(number) => self.entries.get(*number),
@@ -119,7 +119,7 @@ impl Earlier {
         ensures formulas { OnOk result (formulas_of self.new
             ≡ (λ name. if list_any (same_text name) names.macros.items then Some (tree_of read.entry.formula, read.entry.level) else formulas_of self.old name)) }
     {
-        let place = self.entries.len();
+        let number = self.entries.len();
         let macros = Texts::of(names.macros);
         let formula = shared(alloc, read.formula, read.section)?;
         remember(
@@ -127,9 +127,9 @@ impl Earlier {
             &mut self.sections,
             macros.items(),
             read.section,
-            place,
+            number,
         )?;
-        name_entry(alloc, &mut self.formulas, macros.items(), place)?;
+        name_entry(alloc, &mut self.formulas, macros.items(), number)?;
         self.entries.push(Entry {
             words: Texts::of(names.words),
             macros,
@@ -151,24 +151,24 @@ fn shared(alloc: Global, formula: Formula, section: Option<&[u8]>) -> Result<For
     }
 }
 
-/// Recalls the entry of this place by its section. What macros stand for decides what an expression means, so an entry that
+/// Recalls the entry of this number by its section. What macros stand for decides what an expression means, so an entry that
 /// defines macros ends all that is recalled.
 fn remember(
     alloc: Global,
     sections: &mut Table<usize>,
     macros: &[Text],
     section: Option<&[u8]>,
-    place: usize,
+    number: usize,
 ) -> Result<(), NoMemory>
     ensures forgets { OnOk result (0 < length macros.now → text_entries sections.new ≡ []) }
-    ensures recalls { OnOk result (length macros.now ≡ 0 → (text : List ℕ) → RecallsAt (text_entries sections.old) (text_entries sections.new) section.entry place text) }
+    ensures recalls { OnOk result (length macros.now ≡ 0 → (text : List ℕ) → RecallsAt (text_entries sections.old) (text_entries sections.new) section.entry number text) }
 {
     if !macros.is_empty() {
         *sections = IndexMap::new(alloc);
         return Ok(());
     }
     if let Some(section) = section {
-        add(alloc, sections, section, place)?;
+        add(alloc, sections, section, number)?;
     }
     Ok(())
 }
@@ -178,13 +178,13 @@ fn name_entry(
     alloc: Global,
     formulas: &mut Table<usize>,
     macros: &[Text],
-    place: usize,
+    number: usize,
 ) -> Result<(), NoMemory>
     ensures { OnOk result ((name : List ℕ) → lookup (same_text name) (text_entries formulas.new)
-        ≡ (if list_any (same_text name) macros.now then Some place else lookup (same_text name) (text_entries formulas.old))) }
+        ≡ (if list_any (same_text name) macros.now then Some number else lookup (same_text name) (text_entries formulas.old))) }
 {
     for name in macros {
-        add(alloc, formulas, name.bytes(), place)?;
+        add(alloc, formulas, name.bytes(), number)?;
     }
     Ok(())
 }

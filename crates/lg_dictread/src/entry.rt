@@ -17,7 +17,7 @@ use crate::stop::Stop;
 use lg_base::Numbers;
 use lg_expr::{Fault, Macros, Part, Progress, Refusal, State, exactly_one, part_of, step};
 use lg_gram::{Items, RawEntry, RawExpr};
-use lg_lex::{Marks, Place, Spot, next_spotted};
+use lg_lex::{Location, Marks, Spot, next_spotted};
 use std::alloc::Global;
 
 /// An expression, the greatest number of brackets open in it at once, and the spot after the `;` that ends it.
@@ -36,19 +36,19 @@ pub(crate) struct One {
     pub(crate) end: Spot,
 }
 
-/// A fault of an expression, told with the place of the token at fault.
-fn stop_at<'a>(fault: Fault, place: Place, part: &Part<'a>) -> Stop<'a>
+/// A fault of an expression, told with the location of the token at fault.
+fn stop_at<'a>(fault: Fault, location: Location, part: &Part<'a>) -> Stop<'a>
     requires { fault ≡ Fault.UnknownMacro → (m : List ℕ) × (part_of part.now ≡ names m) }
-    ensures { TellsFault fault place (part_of part.now) result }
+    ensures { TellsFault fault location (part_of part.now) result }
 {
     match fault {
-        Fault::Syntax => Stop::Syntax(place),
-        Fault::CostForm => Stop::CostForm(place.line),
+        Fault::Syntax => Stop::Syntax(location),
+        Fault::CostForm => Stop::CostForm(location.line),
         Fault::UnknownMacro => match part {
-            Part::Macro(name) => Stop::UnknownMacro(place.line, name),
+            Part::Macro(name) => Stop::UnknownMacro(location.line, name),
             _ => unreachable!(),
         },
-        Fault::TooDeep => Stop::TooDeep(place.line),
+        Fault::TooDeep => Stop::TooDeep(location.line),
     }
 }
 
@@ -78,11 +78,11 @@ pub(crate) fn read_expression<'a, M: Macros>(
                 });
             }
             Err(Refusal::NoMemory) => return Err(Stop::NoMemory),
-            Err(Refusal::Fault(fault)) => return Err(stop_at(fault, found.start.place, &part)),
+            Err(Refusal::Fault(fault)) => return Err(stop_at(fault, found.start.location, &part)),
         }
         spot = found.end;
     }
-    Err(Stop::Syntax(spot.on_to(text, text.len()).place))
+    Err(Stop::Syntax(spot.on_to(text, text.len()).location))
 }
 
 /// The entry at the front of a text, from a spot on.

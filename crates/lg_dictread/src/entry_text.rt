@@ -13,7 +13,7 @@ use crate::stop::Stop;
 use lg_expr::{Known, Macros};
 use lg_gram::RawEntry;
 use lg_gram::macros::LEVEL;
-use lg_lex::{Marks, Place, Spot, next_spotted, tokens_are_one_list, utf8_fault, without_mark};
+use lg_lex::{Location, Marks, Spot, next_spotted, tokens_are_one_list, utf8_fault, without_mark};
 use std::alloc::Global;
 use thiserror::Error;
 
@@ -76,16 +76,16 @@ fn read_alone(alloc: Global, text: &[u8]) -> Result<RawEntry, EntryError>
     match read_one(alloc, &FreeMacros, LEVEL, text, Spot::START) {
         Ok(one) => match next_spotted(Marks::Dictionary, text, one.end) {
             None => Ok(one.entry),
-            Some(found) => Err(syntax_at(found.start.place)),
+            Some(found) => Err(syntax_at(found.start.location)),
         },
         Err(stop) => Err(entry_error(stop)),
     }
 }
 
-fn syntax_at(place: Place) -> EntryError
-    ensures { result ≡ EntryError.Syntax place.line place.column }
+fn syntax_at(location: Location) -> EntryError
+    ensures { result ≡ EntryError.Syntax location.line location.column }
 {
-    EntryError::Syntax(place.line, place.column)
+    EntryError::Syntax(location.line, location.column)
 }
 
 /// The error that tells a fault of an entry, whose macros are all known.
@@ -95,7 +95,7 @@ fn entry_error(stop: Stop<'_>) -> EntryError
 {
     match stop {
         Stop::NoMemory => EntryError::NoMemory,
-        Stop::Syntax(place) => syntax_at(place),
+        Stop::Syntax(location) => syntax_at(location),
         Stop::CostForm(line) => EntryError::CostForm(line),
         Stop::UnknownMacro(_, _) => unreachable!(),
         Stop::TooDeep(line) => EntryError::TooDeep(line),

@@ -41,7 +41,7 @@ pub(crate) fn fault_error(alloc: Global, stop: Stop<'_>) -> DictError
 {
     match stop {
         Stop::NoMemory => DictError::NoMemory,
-        Stop::Syntax(place) => DictError::Syntax(place.line, place.column),
+        Stop::Syntax(location) => DictError::Syntax(location.line, location.column),
         Stop::CostForm(line) => DictError::CostForm(line),
         Stop::UnknownMacro(line, name) => match Text::of(alloc, name) {
             Ok(name) => DictError::UnknownMacro(line, name),
@@ -139,7 +139,7 @@ fn read_anew<'a>(
     })
 }
 
-// The section from a place, where it ends at another.
+// The section from a spot, where it ends at another.
 fn section_up_to(section: Option<&[u8]>, from: usize, end: usize) -> Option<&[u8]>
     ensures { IfSome result (λ s. (section.entry ≡ Some s) × (from + length s.now ≡ end)) }
 {

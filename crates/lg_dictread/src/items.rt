@@ -76,7 +76,7 @@ pub(crate) fn read_items<'a>(
             Head::Item(kind, name) => {
                 let text = Text::of(alloc, name)?;
                 items.push(Item { kind, text })?;
-                lines.push(found.start.place.line)?;
+                lines.push(found.start.location.line)?;
             }
             Head::Colon if !lines.is_empty() => {
                 return Ok(PlacedItems {
@@ -85,9 +85,9 @@ pub(crate) fn read_items<'a>(
                     end: found.end,
                 });
             }
-            Head::Colon | Head::Other => return Err(Stop::Syntax(found.start.place)),
+            Head::Colon | Head::Other => return Err(Stop::Syntax(found.start.location)),
         }
         spot = found.end;
     }
-    Err(Stop::Syntax(spot.on_to(text, text.len()).place))
+    Err(Stop::Syntax(spot.on_to(text, text.len()).location))
 }

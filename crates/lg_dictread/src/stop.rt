@@ -1,14 +1,14 @@
 use lg_base::NoMemory;
-use lg_lex::Place;
+use lg_lex::Location;
 use std::alloc::{AllocError, AllocFailed};
 
-/// Why no entry stands at a spot of a text: memory ran out, or the first fault. A fault has the place of the token at
+/// Why no entry stands at a spot of a text: memory ran out, or the first fault. A fault has the location of the token at
 /// fault or, where the text ends inside the entry, of its end.
 #[derive(Clone, Copy, Debug, PartialEq, Eq)]
 pub(crate) enum Stop<'a> {
     NoMemory,
     /// The grammar does not allow the token there.
-    Syntax(Place),
+    Syntax(Location),
     /// The line of a token that begins as a number, in a cost's place, and is no cost number.
     CostForm(u32),
     /// The line of a macro that is not known, and its name with its angle brackets.

@@ -6,7 +6,7 @@ ghost use Rattle.lg_dictread.specs.Definitions.{same_text};
 ghost use Rattle.lg_dictread.specs.Tables.{text_entries};
 
 use indexmap::IndexMap;
-use lg_base::NoMemory;
+use lg_base::{NoMemory, copied};
 use std::alloc::Global;
 
 /// A table of names, in the order in which they were added.
@@ -26,11 +26,4 @@ pub(crate) fn add<V: Copy>(
 {
     let key = copied(alloc, name)?;
     Ok(table.insert(key, value)?)
-}
-
-fn copied(alloc: Global, bytes: &[u8]) -> Result<Vec<u8>, NoMemory>
-    ensures { IfOk result (λ copy. copy.items ≡ bytes.now) }
-{
-    let copy = bytes.to_vec(alloc)?;
-    Ok(copy)
 }

@@ -10,38 +10,38 @@ use Rattle.lg_expr.specs.Grammar.{tree, level, Rules}
 use Rattle.lg_expr.specs.Automaton.{with_factor, Phase, reached, State, Move, goes, done, refused, start, step_in, step, read, stopped}
 use Rattle.lg_expr.specs.Reading.{Begins, MayFollow, MayFollowAtAll, StopsAt, StopsAtEnd}
 use Rattle.lg_expr.proofs.Complete.{at, follow_parts, run_parts, complete}
-use Rattle.lg_expr.proofs.Sound.{Place, at_primary, state, text, Fits, StepSound, step_sound, place_begins}
+use Rattle.lg_expr.proofs.Sound.{Stage, at_primary, state, text, Fits, StepSound, step_sound, stage_begins}
 use Rattle.lg_expr.proofs.Laxer.{Laxer, laxer_self, laxer_laxer, all_free, laxer_all_free, laxer_limit, keeps_lax, fits_lax, lax_step}
 use Rattle.lg_expr.proofs.Refusals.{Refuses, refuses_in, opens_in, named_in, freely_in, number_in, no_number_refused, unknown_refused}
 
 -- ---- what a front has taken
 
--- The state that a front leads to, as a place in derivations. Whatever laxer rules read from there, they read after the front.
+-- The state that a front leads to, as a stage in derivations. Whatever laxer rules read from there, they read after the front.
 pub record Taken (r : Rules) (front : List Part) (s : State) : Type 0 where
-  pub place : Place
-  pub state_is : state place ≡ s
-  pub text_is : text place ≡ front
-  pub fits : Fits r place
+  pub stage : Stage
+  pub state_is : state stage ≡ s
+  pub text_is : text stage ≡ front
+  pub fits : Fits r stage
   pub runs : (any : Rules) → Laxer r any → (ps : List Part) → run_parts any start (front ++ ps) ≡ run_parts any s ps
 
 pub taken_start : (r : Rules) → Taken r [] start
-taken_start r = record { place = at_primary (record { before = None; now = None }) []; state_is = refl; text_is = refl; fits = ((tt, tt), tt); runs = λ any lax ps. refl }
+taken_start r = record { stage = at_primary (record { before = None; now = None }) []; state_is = refl; text_is = refl; fits = ((tt, tt), tt); runs = λ any lax ps. refl }
 
 taken_lax : (r any : Rules) (front : List Part) (s : State) → Laxer r any → Taken r front s → Taken any front s
 taken_lax r any front s lax taken = record {
-  place = taken.place;
+  stage = taken.stage;
   state_is = taken.state_is;
   text_is = taken.text_is;
-  fits = fits_lax r any taken.place lax taken.fits;
+  fits = fits_lax r any taken.stage lax taken.fits;
   runs = λ more h ps. taken.runs more (laxer_laxer r any more lax h) ps;
 }
 
 pub taken_step : (r : Rules) (front : List Part) (s t : State) (p : Part) → Taken r front s → step r s p ≡ goes t → Taken r (front ++ p ∷ []) t
 taken_step r front s t p taken e =
-    let sound = step_sound r taken.place p taken.fits in
-    let moved : StepSound r (goes t) (text taken.place) p = subst (λ (m : Move). StepSound r m (text taken.place) p) (ap (λ (x : State). step r x p) taken.state_is ∙ e) sound in
+    let sound = step_sound r taken.stage p taken.fits in
+    let moved : StepSound r (goes t) (text taken.stage) p = subst (λ (m : Move). StepSound r m (text taken.stage) p) (ap (λ (x : State). step r x p) taken.state_is ∙ e) sound in
     record {
-      place = moved.0;
+      stage = moved.0;
       state_is = moved.1;
       text_is = moved.2 ∙ ap (λ (x : List Part). x ++ p ∷ []) taken.text_is;
       fits = moved.3;
@@ -54,7 +54,7 @@ begins_follow : (r : Rules) (front : List Part) (p : Part) → Begins r (front +
 begins_follow r front p b = (b.0, b.1 ++ ends ∷ [], b.2, sym (simp append_assoc) ∙ ap (λ (x : List Part). x ++ ends ∷ []) b.3)
 
 pub begins : (r : Rules) (front : List Part) (s : State) → Taken r front s → Begins r front
-begins r front s taken = subst (Begins r) taken.text_is (place_begins r taken.place taken.fits)
+begins r front s taken = subst (Begins r) taken.text_is (stage_begins r taken.stage taken.fits)
 
 -- where a step goes on, the part may follow
 goes_follow : (r : Rules) (front : List Part) (s t : State) (p : Part) → Taken r front s → step r s p ≡ goes t → MayFollow r front p
@@ -99,7 +99,7 @@ pub done_is : (r : Rules) (front : List Part) (s : State) (p : Part) (t : RawTre
 done_is r front s p t n taken e =
     subst (λ (m : Move). StepSound r m front p) e
     (subst (λ (x : State). StepSound r (step r x p) front p) taken.state_is
-    (subst (λ (x : List Part). StepSound r (step r (state taken.place) p) x p) taken.text_is (step_sound r taken.place p taken.fits)))
+    (subst (λ (x : List Part). StepSound r (step r (state taken.stage) p) x p) taken.text_is (step_sound r taken.stage p taken.fits)))
 
 -- ---- each front that begins an expression is taken
 

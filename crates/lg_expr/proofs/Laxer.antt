@@ -9,7 +9,7 @@ use Rattle.lg_expr.specs.declared.fault.Fault.TheVariants.{TooDeep}
 use Rattle.lg_expr.specs.Parts.{Part, connects, names, operates, opens, closes, number, no_number, ends, wrong}
 use Rattle.lg_expr.specs.Grammar.{Alternatives, alternative, or_else, Factors, factor, and_then, Primary, connector, macro, brackets, bracketed, braced, costly, costing, Rules, Admits, Keeps, FactorsKeep, PrimaryKeeps}
 use Rattle.lg_expr.specs.Automaton.{Frame, Outer, Phase, opened, wanting, reached, closed, State, goes, refused, after, inside, opening, naming, step_in, step}
-use Rattle.lg_expr.proofs.Sound.{Half, Held, Place, at_opening, at_primary, at_reached, at_cost, Fits, BeforeKeeps, NowKeeps, HalfKeeps, OuterKeeps}
+use Rattle.lg_expr.proofs.Sound.{Half, Held, Stage, at_opening, at_primary, at_reached, at_cost, Fits, BeforeKeeps, NowKeeps, HalfKeeps, OuterKeeps}
 
 -- what admits wherever the other does
 abbrev pub IsLaxer : Known → Known → Type 0
@@ -110,7 +110,7 @@ outer_lax : (r any : Rules) (hs : List Held) → Laxer r any → OuterKeeps r hs
 outer_lax r any [] lax k = tt
 outer_lax r any (h ∷ hs) lax k = (half_lax r any (length hs) h.half lax k.0, laxer_lt r any lax (length hs) k.1, outer_lax r any hs lax k.2)
 
-pub fits_lax : (r any : Rules) (q : Place) → Laxer r any → Fits r q → Fits any q
+pub fits_lax : (r any : Rules) (q : Stage) → Laxer r any → Fits r q → Fits any q
 fits_lax r any (at_opening h hs) lax k = (half_lax r any (length hs) h lax k.0, laxer_lt r any lax (length hs) k.1, outer_lax r any hs lax k.2)
 fits_lax r any (at_primary h hs) lax k = (half_lax r any (length hs) h lax k.0, outer_lax r any hs lax k.1)
 fits_lax r any (at_reached b f hs) lax k = (before_lax r any (length hs) b lax k.0, factors_lax f r any (length hs) lax k.1, outer_lax r any hs lax k.2)

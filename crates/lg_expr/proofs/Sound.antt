@@ -79,19 +79,19 @@ abbrev pub rounded : Half → Held
 rounded h = record { bracket = Round; half = h }
 
 -- just after an opening round bracket, before a primary, after one, after a square bracket closed round an expression
-pub data Place : Type 0 where
-  at_opening : Half → List Held → Place
-  at_primary : Half → List Held → Place
-  at_reached : Option Alternatives → Factors → List Held → Place
-  at_cost : Half → Alternatives → List Held → Place
+pub data Stage : Type 0 where
+  at_opening : Half → List Held → Stage
+  at_primary : Half → List Held → Stage
+  at_reached : Option Alternatives → Factors → List Held → Stage
+  at_cost : Half → Alternatives → List Held → Stage
 
-abbrev pub state : Place → State
+abbrev pub state : Stage → State
 state (at_opening h hs) = at opened fresh (outers (rounded h ∷ hs)) (outer_reach (rounded h ∷ hs))
 state (at_primary h hs) = at wanting (frame (length hs) h) (outers hs) (max (outer_reach hs) (half_reach (length hs) h))
 state (at_reached b f hs) = at reached (record { alternatives = members_of (length hs) b; factors = factors (length hs) f }) (outers hs) (max (outer_reach hs) (max (before_reach (length hs) b) (factors_reach (length hs) f)))
 state (at_cost h a hs) = at (closed (joined Or (members (suc (length hs)) a))) (frame (length hs) h) (outers hs) (max (max (outer_reach hs) (half_reach (length hs) h)) (primary_reach (length hs) (costly a)))
 
-abbrev pub text : Place → List Part
+abbrev pub text : Stage → List Part
 text (at_opening h hs) = outer_text (rounded h ∷ hs)
 text (at_primary h hs) = outer_text hs ++ half_text h
 text (at_reached b f hs) = outer_text hs ++ (before_text b ++ factors_spelled f)
@@ -147,7 +147,7 @@ abbrev pub OuterKeeps : Rules → List Held → Type 0
 OuterKeeps r [] = Unit {0}
 OuterKeeps r (h ∷ hs) = HalfKeeps r (length hs) h.half × (length hs < r.limit) × OuterKeeps r hs
 
-abbrev pub Fits : Rules → Place → Type 0
+abbrev pub Fits : Rules → Stage → Type 0
 Fits r (at_opening h hs) = OuterKeeps r (rounded h ∷ hs)
 Fits r (at_primary h hs) = HalfKeeps r (length hs) h × OuterKeeps r hs
 Fits r (at_reached b f hs) = BeforeKeeps r (length hs) b × FactorsKeep r (length hs) f × OuterKeeps r hs
@@ -169,7 +169,7 @@ length_outers (h ∷ hs) = ap suc (length_outers hs)
 
 -- what a move says of the text before it and the part that it takes
 abbrev pub StepSound : Rules → Move → List Part → Part → Type 0
-StepSound r (goes s) front p = (q : Place) × (state q ≡ s) × (text q ≡ front ++ p ∷ []) × Fits r q
+StepSound r (goes s) front p = (q : Stage) × (state q ≡ s) × (text q ≡ front ++ p ∷ []) × Fits r q
 StepSound r (done t n) front p = (a : Alternatives) × (tree a ≡ t) × (spelled a ≡ front) × (p ≡ ends) × Keeps r 0 a × (level a ≡ n)
 StepSound r (refused e) front p = Unit {0}
 
@@ -316,7 +316,7 @@ plain_sound r h a hs p plain fits =
 empty_reach : (h : Half) (hs : List Held) → outer_reach (rounded h ∷ hs) ≡ max (max (outer_reach hs) (half_reach (length hs) h)) (primary_reach (length hs) brackets)
 empty_reach h hs = refl
 
-pub step_sound : (r : Rules) (q : Place) (p : Part) → Fits r q → StepSound r (step r (state q) p) (text q) p
+pub step_sound : (r : Rules) (q : Stage) (p : Part) → Fits r q → StepSound r (step r (state q) p) (text q) p
 step_sound r (at_opening h hs) (closes Round) fits = primary_follows r h hs (outer_reach (rounded h ∷ hs)) brackets (text (at_opening h hs)) (closes Round) raw_empty refl (empty_reach h hs) (simp append_assoc) fits.0 fits.1 fits.2
 step_sound r (at_opening h hs) (closes Curly) fits = tt
 step_sound r (at_opening h hs) (closes Square) fits = tt
@@ -340,7 +340,7 @@ step_sound r (at_cost h a hs) (closes k) fits = plain_sound r h a hs (closes k) 
 step_sound r (at_cost h a hs) ends fits = plain_sound r h a hs ends tt fits
 step_sound r (at_cost h a hs) wrong fits = plain_sound r h a hs wrong tt fits
 
--- ---- each place is in some expression
+-- ---- each stage is in some expression
 
 -- the brackets closed round an expression
 around : Bracket → Alternatives → Primary
@@ -392,14 +392,14 @@ half_begins r h hs p front more e half keeps outer =
       sym (append_assoc front more (closers hs)) ∙ ap (λ (x : List Part). x ++ closers hs) e ∙ t ∙ sym (closed_text hs a),
     )
 
--- a primary that every place allows
+-- a primary that every stage allows
 abbrev some_primary : Primary
 some_primary = connector (record { caps = []; subs = []; multi = false; right = false })
 
--- a place goes on to an expression's end
-pub place_begins : (r : Rules) (q : Place) → Fits r q → Begins r (text q)
-place_begins r (at_opening h hs) fits = half_begins r h hs brackets (text (at_opening h hs)) (closes Round ∷ []) (simp append_assoc) fits.0 fits.1 fits.2
-place_begins r (at_primary h hs) fits = half_begins r h hs some_primary (text (at_primary h hs)) (primary_spelled some_primary) refl fits.0 tt fits.1
-place_begins r (at_reached b f hs) fits =
+-- a stage goes on to an expression's end
+pub stage_begins : (r : Rules) (q : Stage) → Fits r q → Begins r (text q)
+stage_begins r (at_opening h hs) fits = half_begins r h hs brackets (text (at_opening h hs)) (closes Round ∷ []) (simp append_assoc) fits.0 fits.1 fits.2
+stage_begins r (at_primary h hs) fits = half_begins r h hs some_primary (text (at_primary h hs)) (primary_spelled some_primary) refl fits.0 tt fits.1
+stage_begins r (at_reached b f hs) fits =
     (closed_all hs (ended b f), closers hs, closed_keeps r hs (ended b f) fits.2 (ended_keeps r (length hs) b f fits.0 fits.1), sym (closed_text hs (ended b f) ∙ simp (append_assoc, ended_text)))
-place_begins r (at_cost h a hs) fits = half_begins r h hs (costly a) (text (at_cost h a hs)) [] (append-nil _ ∙ sym (append_assoc (outer_text hs) (half_text h) (primary_spelled (costly a)))) fits.0 fits.1 fits.2
+stage_begins r (at_cost h a hs) fits = half_begins r h hs (costly a) (text (at_cost h a hs)) [] (append-nil _ ∙ sym (append_assoc (outer_text hs) (half_text h) (primary_spelled (costly a)))) fits.0 fits.1 fits.2

@@ -29,7 +29,7 @@ use Rattle.lg_expr.specs.Reading.{AnswerIs}
 use Rattle.lg_dictread.specs.Definitions.{Lines, line_in, same_text, Defined, ItemsGive, defines, no_item, none_defined, define}
 use Rattle.lg_dictread.specs.Entries.{part, Written, EntryStands}
 use Rattle.lg_dictread.specs.Items.{item, is_file_name, plain_item}
-use Rattle.lg_dictread.specs.Places.{line_of}
+use Rattle.lg_dictread.specs.Lines.{line_of}
 use Rattle.lg_dictread.specs.Texts.{Earlier, rules_after, nothing, Meaning, meaning_of, then_entry, EntryGives, means, whole, stands, TextIs, DictionaryGives}
 use Rattle.lg_dictread.specs.Texts.TextIs.{ended, entry as entry_then}
 use Rattle.lg_dictread.specs.Texts.DictionaryGives.{text as of_text}

@@ -2,9 +2,9 @@
 use Rattle.std.specs.Prelude.{◌≡◌, ℕ, List, [], ◌∷◌, ◌++◌, map, true, Result, Ok, Err}
 use Rattle.std.specs.Str.{IsValidUpTo}
 use Rattle.lg_lex.specs.declared.marks.Marks.TheVariants as marks
-use Rattle.lg_lex.specs.declared.place.Place.{Place}
+use Rattle.lg_lex.specs.declared.location.Location.{Location}
 use Rattle.lg_lex.specs.Marked.{without_mark}
-use Rattle.lg_lex.specs.Spots.{place_left}
+use Rattle.lg_lex.specs.Spots.{location_left}
 use Rattle.lg_lex.specs.Tokens.{Lexeme, Token, plain, IsText}
 use Rattle.lg_knowread.specs.declared.fault.Fault.{Fault}
 use Rattle.lg_knowread.specs.declared.fault.Fault.TheVariants as faults
@@ -79,8 +79,8 @@ pub record FirstFault (ts : List Token) (fault : Fault) (rest : List Token) : Ty
 
 -- ---- texts
 
--- the error that tells a fault at this place
-abbrev pub error_at : Fault → Place → KnowError
+-- the error that tells a fault at this location
+abbrev pub error_at : Fault → Location → KnowError
 error_at faults.Syntax p = Syntax p.line p.column
 error_at faults.UnknownSection p = UnknownSection p.line
 error_at faults.BadPattern p = BadPattern p.line
@@ -91,7 +91,7 @@ pub data KnowledgeIs (bytes : List ℕ) : Result Knowledge KnowError → Type 0 
   not_utf8 : (n : ℕ) → IsValidUpTo bytes n → KnowledgeIs bytes (Err (NotUtf8 n))
   stands : (ts : List Token) (ss : List Statement) → IsText marks.Knowledge bytes ts → AreWritten ts ss → KnowledgeIs bytes (Ok (knowledge_of ss))
   refused : (ts : List Token) (fault : Fault) (left : List Token) → IsText marks.Knowledge bytes ts → FirstFault ts fault left
-      → KnowledgeIs bytes (Err (error_at fault (place_left (without_mark bytes) left)))
+      → KnowledgeIs bytes (Err (error_at fault (location_left (without_mark bytes) left)))
 
 -- what the reader answers, unless memory ran out
 abbrev pub TellsKnowledge : List ℕ → Result Knowledge KnowError → Type 0

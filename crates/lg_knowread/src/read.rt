@@ -11,7 +11,7 @@ use crate::fault::{Fault, KnowError, Refusal};
 use crate::knowledge::Knowledge;
 use crate::reading::{Reading, State};
 use lg_gram::law::names_are_written;
-use lg_lex::{Marks, Place, Spot, next_spotted, tokens_are_one_list, utf8_fault, without_mark};
+use lg_lex::{Location, Marks, Spot, next_spotted, tokens_are_one_list, utf8_fault, without_mark};
 use std::alloc::Global;
 
 /// The knowledge of a text: its statements one after another, each a section's name, a colon, what it says and a
@@ -45,34 +45,34 @@ fn read_text(alloc: Global, text: &[u8]) -> Result<Knowledge, KnowError>
     while let Some(found) = next_spotted(Marks::Knowledge, text, spot) {
         match reading.advance(alloc, &found.token) {
             Ok(next) => reading = next,
-            Err(refusal) => return Err(error_of(refusal, found.start.place)),
+            Err(refusal) => return Err(error_of(refusal, found.start.location)),
         }
         spot = found.end;
     }
     match reading.state {
         State::Name => Ok(reading.knowledge),
-        _ => Err(error_at(Fault::Syntax, spot.on_to(text, text.len()).place)),
+        _ => Err(error_at(Fault::Syntax, spot.on_to(text, text.len()).location)),
     }
 }
 
-/// The error of a token that was not taken, which starts at this place.
-fn error_of(refusal: Refusal, place: Place) -> KnowError
-    ensures { TellsRefusal refusal place result }
+/// The error of a token that was not taken, which starts at this location.
+fn error_of(refusal: Refusal, location: Location) -> KnowError
+    ensures { TellsRefusal refusal location result }
 {
     match refusal {
         Refusal::NoMemory => KnowError::NoMemory,
-        Refusal::Fault(fault) => error_at(fault, place),
+        Refusal::Fault(fault) => error_at(fault, location),
     }
 }
 
-/// The error of a fault at this place.
-fn error_at(fault: Fault, place: Place) -> KnowError
-    ensures { result ≡ error_at fault place }
+/// The error of a fault at this location.
+fn error_at(fault: Fault, location: Location) -> KnowError
+    ensures { result ≡ error_at fault location }
 {
     match fault {
-        Fault::UnknownSection => KnowError::UnknownSection(place.line),
-        Fault::BadPattern => KnowError::BadPattern(place.line),
-        Fault::BadType => KnowError::BadType(place.line),
-        Fault::Syntax => KnowError::Syntax(place.line, place.column),
+        Fault::UnknownSection => KnowError::UnknownSection(location.line),
+        Fault::BadPattern => KnowError::BadPattern(location.line),
+        Fault::BadType => KnowError::BadType(location.line),
+        Fault::Syntax => KnowError::Syntax(location.line, location.column),
     }
 }

@@ -1,13 +1,13 @@
--- The place after two runs of bytes is the place after the second, where it begins at the place after the first.
+-- The location after two runs of bytes is the location after the second, where it begins at the location after the first.
 use Rattle.std.proofs.Common.{◌≡◌, ℕ, suc, ◌+◌, ◌-◌, ◌≤◌, Bool, true, false, cond, not, ◌||◌, List, [], ◌∷◌, ◌++◌, length, take, drop, refl, sym, ap, ◌∙◌, append_assoc, arith, length-append, length-drop}
 use Rattle.std.specs.Prelude.{slice_range, count_by}
 use Rattle.std.specs.List.{list_any, suffix_len, prefix_len}
 use Rattle.std.proofs.lemmas.List.{append-nil, reverse-append, take-append-drop, take-take, drop-take}
 use Rattle.std.proofs.lemmas.List.Folds.{list_any-append}
 use Rattle.std.proofs.lemmas.List.Sums.{suffix_len-le-length, sum_by-append}
-use Rattle.lg_lex.specs.declared.place.Place.{Place}
+use Rattle.lg_lex.specs.declared.location.Location.{Location}
 use Rattle.lg_lex.specs.Classes.{line_feed}
-use Rattle.lg_lex.specs.Places.{capped, is_line_feed, column_offset, first_place, place_of, place_after}
+use Rattle.lg_lex.specs.Locations.{capped, is_line_feed, column_offset, first_location, location_of, location_after}
 
 abbrev in_line : ℕ → Bool
 in_line b = not (is_line_feed b)
@@ -45,11 +45,11 @@ columns true false z column n m both before after offset any all e = rw any (ome
 columns false true z column n m both before after offset any all e = rw any (omega arith)
 columns false false z column n m both before after offset any all e = rw any (omega arith)
 
-pub place_after-append : (p : Place) (xs ys : List ℕ) → place_after (place_after p xs) ys ≡ place_after p (xs ++ ys)
-place_after-append p xs ys =
+pub location_after-append : (p : Location) (xs ys : List ℕ) → location_after (location_after p xs) ys ≡ location_after p (xs ++ ys)
+location_after-append p xs ys =
     let lines : capped (capped (p.line + count_by is_line_feed xs) + count_by is_line_feed ys) ≡ capped (p.line + count_by is_line_feed (xs ++ ys))
     = omega (arith, sum_by-append (λ (b : ℕ). cond (is_line_feed b) 1 0) xs ys) in
-    let within : (place_after (place_after p xs) ys).column ≡ (place_after p (xs ++ ys)).column
+    let within : (location_after (location_after p xs) ys).column ≡ (location_after p (xs ++ ys)).column
     = columns (list_any is_line_feed xs) (list_any is_line_feed ys) _ p.column (length xs) (length ys) _ (column_offset xs) (column_offset ys) _
     (list_any-append is_line_feed xs ys) (length-append xs ys) (column_offset-append xs ys) in
     λ i. record { line = lines i; column = within i }
@@ -59,8 +59,8 @@ first_line : (any : Bool) (n offset : ℕ) → offset ≡ cond any offset (0 + n
 first_line true n offset e = refl
 first_line false n offset e = omega arith
 
-pub place_after-start : (text : List ℕ) (i : ℕ) → place_after first_place (take i text) ≡ place_of text i
-place_after-start text i = λ k. record {
+pub location_after-start : (text : List ℕ) (i : ℕ) → location_after first_location (take i text) ≡ location_of text i
+location_after-start text i = λ k. record {
   line = capped (1 + count_by is_line_feed (take i text));
   column = first_line (list_any is_line_feed (take i text)) (length (take i text)) (column_offset (take i text)) (column_offset-append [] (take i text)) k;
 }
@@ -72,21 +72,21 @@ take-slice_range text i j le =
     let back : slice_range text i j ≡ drop i (take j text) = sym (drop-take i (j - i) text) ∙ ap (λ (n : ℕ). drop i (take n text)) j_is in
     (λ k. front k ++ back k) ∙ take-append-drop i (take j text)
 
--- from one place of a text to a later one
-pub place_after-slice_range : (text : List ℕ) (i j : ℕ) → i ≤ j → place_after (place_of text i) (slice_range text i j) ≡ place_of text j
-place_after-slice_range text i j le =
-    ap (λ (p : Place). place_after p (slice_range text i j)) (sym (place_after-start text i))
-    ∙ place_after-append first_place (take i text) (slice_range text i j)
-    ∙ ap (place_after first_place) (take-slice_range text i j le)
-    ∙ place_after-start text j
+-- from one location of a text to a later one
+pub location_after-slice_range : (text : List ℕ) (i j : ℕ) → i ≤ j → location_after (location_of text i) (slice_range text i j) ≡ location_of text j
+location_after-slice_range text i j le =
+    ap (λ (p : Location). location_after p (slice_range text i j)) (sym (location_after-start text i))
+    ∙ location_after-append first_location (take i text) (slice_range text i j)
+    ∙ ap (location_after first_location) (take-slice_range text i j le)
+    ∙ location_after-start text j
 
 or_true : (b : Bool) → (b || true) ≡ true
 or_true true = refl
 or_true false = refl
 
 -- a column counts from the last line feed
-pub place_after-line : (p : Place) (bytes line : List ℕ) → list_any is_line_feed line ≡ false → (place_after p (bytes ++ line_feed ∷ line)).column ≡ capped (1 + length line)
-place_after-line p bytes line none =
+pub location_after-line : (p : Location) (bytes line : List ℕ) → list_any is_line_feed line ≡ false → (location_after p (bytes ++ line_feed ∷ line)).column ≡ capped (1 + length line)
+location_after-line p bytes line none =
     let feeds : list_any is_line_feed (bytes ++ line_feed ∷ line) ≡ true = list_any-append is_line_feed bytes (line_feed ∷ line) ∙ or_true (list_any is_line_feed bytes) in
     let offset : column_offset (bytes ++ line_feed ∷ line) ≡ length line
     = column_offset-append bytes (line_feed ∷ line)

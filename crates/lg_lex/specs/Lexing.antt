@@ -65,6 +65,6 @@ abbrev pub lex : Marks → Mode → ℕ → List ℕ → List Token
 lex marks m at [] = ended m
 lex marks m at (b ∷ bs) = lex_step m (class_of marks b) b at (λ n. lex marks n (at + 1) bs)
 
--- the tokens of a text from a place between two tokens on
+-- the tokens of a text from a spot between two tokens on
 abbrev pub tokens_from : Marks → List ℕ → ℕ → List Token
 tokens_from marks text at = lex marks between at (drop at text)

@@ -3,7 +3,7 @@ pub mod Tokens
 pub mod Lexing
 pub mod Sections
 pub mod Found
-pub mod Places
+pub mod Locations
 pub mod Spots
 pub mod Marked
 pub mod Runs

@@ -53,6 +53,6 @@ runs_of s r at (b ∷ bs) =
     if is_separator s b then run_so_far r ++ runs_of s outside (at + 1) bs
     else runs_of s (longer r b at) (at + 1) bs
 
--- the runs of a text from a place outside of a run on
+-- the runs of a text from a spot outside of a run on
 abbrev pub runs_from : Separators → List ℕ → ℕ → List (List ℕ × ℕ)
 runs_from s text at = runs_of s outside at (drop at text)

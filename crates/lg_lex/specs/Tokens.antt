@@ -105,7 +105,7 @@ AreTokens marks (t ∷ ts) before bytes = (gap : List Skip) × (text : List ℕ)
     × (bytes ≡ gap_text gap ++ (text ++ rest)) × (t.1 ≡ before + length (gap_text gap))
     × AfterToken t.0 (ts ≡ []) (AreTokens marks ts (t.1 + length text) rest)
 
--- a text of bytes is UTF-8, and has these tokens after a byte order mark, from which places count
+-- a text of bytes is UTF-8, and has these tokens after a byte order mark, from which locations count
 pub record IsText (marks : Marks) (bytes : List ℕ) (ts : List Token) : Type 0 where
   pub utf8 : IsUtf8 bytes
   pub tokens : AreTokens marks ts 0 (without_mark bytes)

@@ -5,7 +5,7 @@ ghost use Rattle.std.specs.Prelude.{◌≡◌, ℕ, ◌+◌, ◌<◌, ◌≤◌,
 ghost use Rattle.std.specs.List.{list_any, AllByRecursion};
 ghost use Rattle.std.specs.Str.{IsUtf8, IsValidUpTo};
 ghost use Rattle.lg_lex.specs.declared.marks.Marks.{Marks};
-ghost use Rattle.lg_lex.specs.declared.place.Place.{Place};
+ghost use Rattle.lg_lex.specs.declared.location.Location.{Location};
 ghost use Rattle.lg_lex.specs.declared.run.Separators.{Separators};
 ghost use Rattle.lg_lex.specs.Classes.{line_feed};
 ghost use Rattle.lg_lex.specs.Tokens.{Lexeme, AreTokens, IsText, HasUtf8};
@@ -14,7 +14,7 @@ ghost use Rattle.lg_lex.specs.Spots.{IsSpot};
 ghost use Rattle.lg_lex.specs.Lexing.{between, lex, tokens_from};
 ghost use Rattle.lg_lex.specs.Sections.{IsClosed, moved};
 ghost use Rattle.lg_lex.specs.Runs.{AreRuns, outside, runs_of};
-ghost use Rattle.lg_lex.specs.Places.{first_place, capped, is_line_feed, place_of, place_after};
+ghost use Rattle.lg_lex.specs.Locations.{first_location, capped, is_line_feed, location_of, location_after};
 
 use crate::spot::Spot;
 
@@ -82,16 +82,16 @@ pub fn texts_start_at_the_first_spot()
     ensures { (text : List ℕ) → IsSpot text Spot.START }
 {}
 
-/// The places of a text add up, from its first byte or from one place to a later one, and a column counts from the
+/// The locations of a text add up, from its first byte or from one location to a later one, and a column counts from the
 /// last line feed.
-pub fn places_add_up()
-    ensures from_first { (text : List ℕ) (i : ℕ) → place_after first_place (take i text) ≡ place_of text i }
+pub fn locations_add_up()
+    ensures from_first { (text : List ℕ) (i : ℕ) → location_after first_location (take i text) ≡ location_of text i }
     ensures from_earlier { (text : List ℕ) (i j : ℕ)
         → i ≤ j
-        → place_after (place_of text i) (slice_range text i j) ≡ place_of text j }
-    ensures twice { (p : Place) (bytes more : List ℕ)
-        → place_after (place_after p bytes) more ≡ place_after p (bytes ++ more) }
-    ensures on_a_line { (p : Place) (bytes line : List ℕ)
+        → location_after (location_of text i) (slice_range text i j) ≡ location_of text j }
+    ensures twice { (p : Location) (bytes more : List ℕ)
+        → location_after (location_after p bytes) more ≡ location_after p (bytes ++ more) }
+    ensures on_a_line { (p : Location) (bytes line : List ℕ)
         → list_any is_line_feed line ≡ false
-        → (place_after p (bytes ++ line_feed ∷ line)).column ≡ capped (1 + length line) }
+        → (location_after p (bytes ++ line_feed ∷ line)).column ≡ capped (1 + length line) }
 {}

@@ -5,8 +5,8 @@
 #![tactic(auto)]
 
 mod laws;
+mod location;
 mod marks;
-mod place;
 mod run;
 mod section;
 mod spot;
@@ -14,12 +14,12 @@ mod token;
 mod utf8;
 
 pub use laws::{
-    bytes_are_utf8_or_at_fault, parts_are_utf8, places_add_up, runs_are_one_list,
+    bytes_are_utf8_or_at_fault, locations_add_up, parts_are_utf8, runs_are_one_list,
     sections_keep_their_tokens, texts_start_at_the_first_spot, tokens_are_no_more_than_bytes,
     tokens_are_one_list, tokens_are_utf8,
 };
+pub use location::{Location, location_at};
 pub use marks::{Class, Marks, class_of};
-pub use place::{Place, place_at};
 pub use run::{Run, Separators, next_run};
 pub use section::section_to;
 pub use spot::{Spot, Spotted, next_spotted};

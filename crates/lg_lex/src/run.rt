@@ -61,10 +61,10 @@ fn run_end(separators: Separators, text: &[u8], start: usize) -> usize
     at
 }
 
-/// The first run that starts at or after a place, or `None` where only separators follow.
+/// The first run that starts at or after a spot, or `None` where only separators follow.
 ///
-/// `from` is the number of bytes before that place: 0, or the `end` of the run before. A run that goes over the
-/// place is cut there. The time is linear in the bytes from `from` to the run's end.
+/// `from` is the number of bytes before that spot: 0, or the `end` of the run before. A run that goes over the
+/// spot is cut there. The time is linear in the bytes from `from` to the run's end.
 pub fn next_run(separators: Separators, text: &[u8], from: usize) -> Option<Run<'_>>
     requires { from ≤ length text.now }
     ensures in_range { IfSome result (λ r. (from ≤ r.start) × (r.start < r.end) × (r.end ≤ length text.now)) }

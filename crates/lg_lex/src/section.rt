@@ -5,12 +5,12 @@ ghost use Rattle.lg_lex.specs.declared.marks.Class.TheVariants.{Sign};
 
 use crate::marks::{Class, Marks, class_of};
 
-/// The bytes from a place to the next such sign and with it, where neither a comment nor a quote begins before it.
+/// The bytes from a spot to the next such sign and with it, where neither a comment nor a quote begins before it.
 ///
-/// The place is between two tokens. The section has the same tokens wherever it stands. The time is linear in the bytes that are
+/// The spot is between two tokens. The section has the same tokens wherever it stands. The time is linear in the bytes that are
 /// looked at.
 pub fn section_to(marks: Marks, sign: u8, text: &[u8], from: usize) -> Option<&[u8]>
-    requires place { from ≤ length text.now }
+    requires within { from ≤ length text.now }
     requires sign { class_of marks sign ≡ Sign }
     ensures closed { IfSome result (λ section. IsClosed marks section.now) }
     ensures ends { IfSome result (λ section. EndsIn sign section.now) }

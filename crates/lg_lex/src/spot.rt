@@ -3,15 +3,15 @@ ghost use Rattle.lg_lex.specs.Found.{lexeme_of, following, width};
 ghost use Rattle.lg_lex.specs.Lexing.{tokens_from};
 ghost use Rattle.lg_lex.specs.Spots.{IsSpot};
 
+use crate::location::Location;
 use crate::marks::Marks;
-use crate::place::Place;
 use crate::token::{Token, next_token};
 
 /// A spot in a text: the number of bytes before it, with its line and column.
 #[derive(Clone, Copy, Debug, PartialEq, Eq)]
 pub struct Spot {
     pub at: usize,
-    pub place: Place,
+    pub location: Location,
 }
 
 /// A token, with the spots where it starts and ends.
@@ -26,7 +26,7 @@ impl Spot {
     /// Before the first byte.
     pub const START: Spot = Spot {
         at: 0,
-        place: Place::START,
+        location: Location::START,
     };
 
     /// A later spot of the same text. The time is linear in the bytes between.
@@ -39,7 +39,7 @@ impl Spot {
     {
         Spot {
             at,
-            place: self.place.past(&text[self.at..at]),
+            location: self.location.past(&text[self.at..at]),
         }
     }
 }

@@ -90,9 +90,9 @@ fn closing_quote(marks: Marks, text: &[u8], start: usize) -> Option<usize>
     None
 }
 
-/// The first token at or after a place, or `None` where only white space and comments follow.
+/// The first token at or after a spot, or `None` where only white space and comments follow.
 ///
-/// `from` is the number of bytes before that place: 0, or the `end` of the token before. A broken token ends the
+/// `from` is the number of bytes before that spot: 0, or the `end` of the token before. A broken token ends the
 /// list of tokens, so nothing is said of what follows it. The time is linear in the bytes from `from` to the token's
 /// end, or to the end of its line where it is broken.
 pub fn next_token(marks: Marks, text: &[u8], from: usize) -> Option<Found<'_>>

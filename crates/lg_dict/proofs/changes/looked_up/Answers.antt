@@ -10,8 +10,8 @@ use Rattle.lg_dict.proofs.changes.looked_up.Goals as goal
 pub index-requires : goal.index-requires
 index-requires c =
     let formulas = c.args.changes.now.formulas.items in
-    let is : at_text c.args.changes.now.words c.args.word.now ≡ Some (Given c.in-Some-Given.place) = sym c.get.ensures.value ∙ ap option_copied c.in-Some-Given.is ∙ ap Some c.in-Some-Given.field-0-is in
-    let within : c.in-Some-Given.place < length formulas = subst (λ o. IsGiven formulas (unwrap_or o Same)) is (c.requires.words c.args.word.now) in
+    let is : at_text c.args.changes.now.words c.args.word.now ≡ Some (Given c.in-Some-Given.number) = sym c.get.ensures.value ∙ ap option_copied c.in-Some-Given.is ∙ ap Some c.in-Some-Given.field-0-is in
+    let within : c.in-Some-Given.number < length formulas = subst (λ o. IsGiven formulas (unwrap_or o Same)) is (c.requires.words c.args.word.now) in
     omega (arith, within, c.args.changes.now.formulas.ok.0)
 
 pub returns-in-None : goal.returns-in-None
@@ -35,7 +35,7 @@ returns-in-Some-Own c =
 pub returns-in-Some-Given : goal.returns-in-Some-Given
 returns-in-Some-Given c =
     let formulas = c.args.changes.now.formulas.items in
-    let place = c.in-Some-Given.place in
-    let is : at_text c.args.changes.now.words c.args.word.now ≡ Some (Given place) = sym c.get.ensures.value ∙ ap option_copied c.in-Some-Given.is ∙ ap Some c.in-Some-Given.field-0-is in
-    let within : place < length formulas = subst (λ o. IsGiven formulas (unwrap_or o Same)) is (c.requires.words c.args.word.now) in
-    ap Some (sym (tree_at-get_or formulas place c.index.result.now within c.index.ensures)) ∙ sym (get-found c.args.base.now c.args.changes.now c.args.word.now (Given place) is)
+    let number = c.in-Some-Given.number in
+    let is : at_text c.args.changes.now.words c.args.word.now ≡ Some (Given number) = sym c.get.ensures.value ∙ ap option_copied c.in-Some-Given.is ∙ ap Some c.in-Some-Given.field-0-is in
+    let within : number < length formulas = subst (λ o. IsGiven formulas (unwrap_or o Same)) is (c.requires.words c.args.word.now) in
+    ap Some (sym (tree_at-get_or formulas number c.index.result.now within c.index.ensures)) ∙ sym (get-found c.args.base.now c.args.changes.now c.args.word.now (Given number) is)

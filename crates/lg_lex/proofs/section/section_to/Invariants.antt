@@ -3,7 +3,7 @@ use Rattle.std.specs.List.{AllByRecursion}
 use Rattle.lg_lex.proofs.Sections.{IsBefore}
 use Rattle.lg_lex.proofs.section.section_to.Given as goal
 
--- the sign does not stand before the place, nor does a comment or a quote begin there
+-- the sign does not stand before the spot, nor does a comment or a quote begin there
 abbrev pub invariant-loop-last : goal.invariant-loop-last
 invariant-loop-last l = record {
   from : l.fn.from ≤ l.last;

@@ -28,7 +28,7 @@ returns-clause-laid c =
     let words = c.args.words.now in
     let grown : new.formulas.items ≡ mid.formulas.items ++ c.args.formula ∷ [] = ap (λ fs. fs.items) c.set_all.ensures.formulas ∙ c.in_ok-push.ensures.items in
     let set : (text : List ℕ) → change_at new text ≡ (if list_any (same_text text) words then Given (length mid.formulas.items) else change_at mid text) =
-    subst (λ n. (text : List ℕ) → change_at new text ≡ (if list_any (same_text text) words then Given n else change_at mid text)) (c.len-place.ensures ∙ mid.formulas.ok.0) c.set_all.ensures.words in
+    subst (λ n. (text : List ℕ) → change_at new text ≡ (if list_any (same_text text) words then Given n else change_at mid text)) (c.len-number.ensures ∙ mid.formulas.ok.0) c.set_all.ensures.words in
     laid_given mid new c.args.formula c.admit_all.ensures.laid grown words set c.set_all.ensures.macros c.set_all.ensures.stems c.set_all.ensures.names
 
 pub returns-clause-put : goal.returns-clause-put
@@ -38,6 +38,6 @@ returns-clause-put c = λ dict.
     let words = c.args.words.now in
     let grown : new.formulas.items ≡ mid.formulas.items ++ c.args.formula ∷ [] = ap (λ fs. fs.items) c.set_all.ensures.formulas ∙ c.in_ok-push.ensures.items in
     let set : (text : List ℕ) → change_at new text ≡ (if list_any (same_text text) words then Given (length mid.formulas.items) else change_at mid text) =
-    subst (λ n. (text : List ℕ) → change_at new text ≡ (if list_any (same_text text) words then Given n else change_at mid text)) (c.len-place.ensures ∙ mid.formulas.ok.0) c.set_all.ensures.words in
+    subst (λ n. (text : List ℕ) → change_at new text ≡ (if list_any (same_text text) words then Given n else change_at mid text)) (c.len-number.ensures ∙ mid.formulas.ok.0) c.set_all.ensures.words in
     words_given mid new c.args.formula c.admit_all.ensures.laid grown words set dict c.set_all.ensures.macros
     ∙ ap (λ (d : Dictionary). record d { words = insert_all words (tree_of c.args.formula) d.words }) (same_dictionary dict c.args.self.now mid c.admit_all.ensures.same)

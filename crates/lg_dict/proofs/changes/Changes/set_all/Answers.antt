@@ -19,11 +19,11 @@ loop-word-preserved c =
     c.loop-word.invariant.names given ∙ subst (λ t. IsSome (at_text c.args.self.now.words t)) (sym is) (c.requires.named i word within) in
     record {
       words = λ text.
-          changed_more text words i word given (change_at old text) (change_at (record old { words = c.set_change.new.words }) text) (change_at c.args.self.now text) (Given c.args.place) within is
-          (changed_one (at_text old.words text) (at_text c.set_change.new.words text) (Given c.args.place) (same_text text given) (c.set_change.ensures text))
+          changed_more text words i word given (change_at old text) (change_at (record old { words = c.set_change.new.words }) text) (change_at c.args.self.now text) (Given c.args.number) within is
+          (changed_one (at_text old.words text) (at_text c.set_change.new.words text) (Given c.args.number) (same_text text given) (c.set_change.ensures text))
           (c.loop-word.invariant.words text);
       names = λ text.
-          named_set text given (at_text old.words text) (at_text c.set_change.new.words text) (Given c.args.place) (same_text text given) refl (c.set_change.ensures text) (λ same. subst (λ t. IsSome (at_text old.words t)) (sym same) named)
+          named_set text given (at_text old.words text) (at_text c.set_change.new.words text) (Given c.args.number) (same_text text given) refl (c.set_change.ensures text) (λ same. subst (λ t. IsSome (at_text old.words t)) (sym same) named)
           ∙ c.loop-word.invariant.names text;
       stems = c.loop-word.invariant.stems;
       formulas = c.loop-word.invariant.formulas;

@@ -12,19 +12,19 @@ use Rattle.lg_dict.proofs.dict.Dict.get.Goals as goal
 pub returns-then-word-self : goal.returns-then-word-self
 returns-then-word-self c = is_missing c.args.self.now c.self.inside.longest (longest_seen c.self.inside c.args.self.now c.self.view_is c.self.invariant).bounds c.args.word.now c.if-word-self.true
 
-pub returns-in_err-place : goal.returns-in_err-place
-returns-in_err-place c =
+pub returns-in_err-number : goal.returns-in_err-number
+returns-in_err-number c =
     ap (option_map (λ formula. tree_of formula.now)) c.from_residual.ensures
-    ∙ ap (option_map (tree_at c.self.inside.formulas.items)) c.in_err-place.ensures.value
+    ∙ ap (option_map (tree_at c.self.inside.formulas.items)) c.in_err-number.ensures.value
     ∙ sym (get-shown (tree_at c.self.inside.formulas.items) c.self.inside.words c.args.word.now)
     ∙ ap (λ (d : Dictionary). get d.words c.args.word.now) c.self.view_is
 
 pub returns : goal.returns
 returns c =
     let formulas = c.self.inside.formulas.items in
-    let place = c.in_ok-place.field-0.now in
-    let within : place < length formulas = among_all (λ n. n < length formulas) (values c.self.inside.words) place c.self.invariant.words c.in_ok-place.ensures.member in
-    ap Some (sym (tree_at-get_or formulas place c.index.result.now within c.index.ensures))
-    ∙ ap (option_map (tree_at formulas)) c.in_ok-place.ensures.value
+    let number = c.in_ok-number.field-0.now in
+    let within : number < length formulas = among_all (λ n. n < length formulas) (values c.self.inside.words) number c.self.invariant.words c.in_ok-number.ensures.member in
+    ap Some (sym (tree_at-get_or formulas number c.index.result.now within c.index.ensures))
+    ∙ ap (option_map (tree_at formulas)) c.in_ok-number.ensures.value
     ∙ sym (get-shown (tree_at formulas) c.self.inside.words c.args.word.now)
     ∙ ap (λ (d : Dictionary). get d.words c.args.word.now) c.self.view_is

@@ -14,7 +14,7 @@ invariant_of-result c =
     ap length c.deref.ensures.value ∙ sym (length-map c.args.entries.items (λ (e : Entry). e.formula)) ∙ ap length (sym formulas) in
     let same : map (λ (e : Entry). e.formula) c.deref-2.result.now ≡ c.in_ok-formulas.formulas.items = ap (map (λ (e : Entry). e.formula)) c.deref-2.ensures.value ∙ sym formulas in
     record {
-      words = subst (λ n. All (λ place. place < n) (values c.in_ok-words.words)) count c.in_ok-words.ensures.within;
+      words = subst (λ n. All (λ number. number < n) (values c.in_ok-words.words)) count c.in_ok-words.ensures.within;
       macros = subst (λ fs. All (IsMacro fs) (values c.in_ok-macros.macros)) same c.in_ok-macros.ensures.fit;
       stems = c.in_ok-stems.ensures;
       longest = c.longest_word-longest.ensures;

@@ -2,16 +2,16 @@ use Rattle.std.proofs.Common.{List, ap, sym, subst, ◌∙◌}
 use Rattle.std.specs.Slice.{IsItemAt}
 use Rattle.lg_gram.specs.declared.entry.Entry.{Entry}
 use Rattle.lg_dictread.specs.Reading.{formula_at}
-use Rattle.lg_dictread.proofs.Formulas.{entry_got, place_found, place_missing}
+use Rattle.lg_dictread.proofs.Formulas.{entry_got, number_found, number_missing}
 use Rattle.lg_dictread.proofs.earlier.Earlier.recalled.Goals as goal
 
 pub returns-in-Some : goal.returns-in-Some
 returns-in-Some c =
     let e = c.args.self.now in
     entry_got e.entries.items c.in-Some.number.now c.get-in-Some.result (subst (λ (l : List Entry). IsItemAt l c.in-Some.number.now c.get-in-Some.result) c.deref.ensures.value c.get-in-Some.ensures.lookup)
-    ∙ sym (ap (formula_at e.entries.items) (place_found e.sections c.args.section.now c.in-Some.number c.in-Some.ensures.value))
+    ∙ sym (ap (formula_at e.entries.items) (number_found e.sections c.args.section.now c.in-Some.number c.in-Some.ensures.value))
 
 pub returns-in-None : goal.returns-in-None
 returns-in-None c =
     let e = c.args.self.now in
-    sym (ap (formula_at e.entries.items) (place_missing e.sections c.args.section.now c.in-None.ensures.value))
+    sym (ap (formula_at e.entries.items) (number_missing e.sections c.args.section.now c.in-None.ensures.value))

@@ -1,7 +1,7 @@
--- Where items of a text stand.
+-- The lines of items, and what the tokens that are left begin with.
 use Rattle.std.specs.Prelude.{ℕ, List, [], ◌∷◌, map, slice_index}
 use Rattle.lg_gram.specs.declared.entry.Item.{Item}
-use Rattle.lg_lex.specs.Places.{place_of}
+use Rattle.lg_lex.specs.Locations.{location_of}
 use Rattle.lg_lex.specs.Tokens.{Token}
 use Rattle.lg_expr.specs.Parts.{Part, wrong}
 use Rattle.lg_dictread.specs.Entries.{part}
@@ -13,7 +13,7 @@ part_left (t ∷ ts) = part t
 
 -- the line of an item
 abbrev pub line_of : List ℕ → Item × ℕ → ℕ
-line_of text i = (place_of text i.1).line
+line_of text i = (location_of text i.1).line
 
 -- the line of an entry is that of its first item
 abbrev pub entry_line : List ℕ → List (Item × ℕ) → ℕ
