@@ -86,7 +86,7 @@ impl Earlier {
         ensures { option_map (λ e. entry_formula e.now) result ≡ formulas_of self.now name.now }
     {
         match self.formulas.get(name) {
-            Some(number) => self.entries.get(*number),
+            Some(at) => self.entries.get(*at),
             None => None,
         }
     }

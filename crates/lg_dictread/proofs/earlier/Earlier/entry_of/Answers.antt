@@ -8,8 +8,8 @@ use Rattle.lg_dictread.proofs.earlier.Earlier.entry_of.Goals as goal
 pub returns-in-Some : goal.returns-in-Some
 returns-in-Some c =
     let e = c.args.self.now in
-    entry_got e.entries.items c.in-Some.number.now c.get-in-Some.result (subst (λ (l : List Entry). IsItemAt l c.in-Some.number.now c.get-in-Some.result) c.deref.ensures.value c.get-in-Some.ensures.lookup)
-    ∙ sym (ap (formula_at e.entries.items) (number_found e.formulas c.args.name.now c.in-Some.number c.in-Some.ensures.value))
+    entry_got e.entries.items c.in-Some.at.now c.get-in-Some.result (subst (λ (l : List Entry). IsItemAt l c.in-Some.at.now c.get-in-Some.result) c.deref.ensures.value c.get-in-Some.ensures.lookup)
+    ∙ sym (ap (formula_at e.entries.items) (number_found e.formulas c.args.name.now c.in-Some.at c.in-Some.ensures.value))
 
 pub returns-in-None : goal.returns-in-None
 returns-in-None c =
