@@ -7,6 +7,7 @@ ghost use Rattle.lg_base.specs.MemFiles.{read_fails, FailsWhere};
 
 use crate::files::{FileError, Files};
 use crate::memory::NoMemory;
+use crate::text::copied;
 use std::alloc::Global;
 use std::collections::VecDeque;
 use std::marker::Model;

@@ -10,7 +10,7 @@ use Rattle.lg_gram.specs.Trees.{Tree, Trees, empty, leaf, all_of, one_of, priced
 use Rattle.lg_gram.specs.Measures.{Choice, single, joined, dearer, choices_of, picks_of, choices_of_any}
 use Rattle.lg_eprune.specs.Live.{HasConnector}
 use Rattle.lg_eprune.specs.Cuts.{any_of, both, in_front, cut, cut_all, cut_any}
-use Rattle.lg_eprune.proofs.Elements.{contains_cases, contains_none, contains_here, contains_later}
+use Rattle.lg_base.proofs.Elements.{contains_cases, contains_none, contains_here, contains_later}
 
 -- each connector of the choice passes
 abbrev pub passes : (Connector → Bool) → Choice → Bool

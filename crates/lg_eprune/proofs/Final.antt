@@ -11,7 +11,7 @@ use Rattle.lg_gram.specs.Connectors.{Connector, Match}
 use Rattle.lg_gram.specs.Measures.{Choice, choices_of}
 use Rattle.lg_eprune.specs.Live.{WordTree, HasConnector, IsChoiceAt, SupportsItself, IsLive, IsLiveChoice, AreNarrowed}
 use Rattle.lg_eprune.specs.Cuts.{cut_words, do_lose, do_join, stays, swept, sweep_loses, word_leaves}
-use Rattle.lg_eprune.proofs.Elements.{contains_none}
+use Rattle.lg_base.proofs.Elements.{contains_none}
 use Rattle.lg_eprune.proofs.Choices.{passes_if}
 use Rattle.lg_eprune.proofs.Kept.{Kept, kept_itself, kept_cut, kept_finds, kept_from, narrowed}
 use Rattle.lg_eprune.proofs.Leaves.{has_leaf, some_choice, leaf_stands}

@@ -7,7 +7,7 @@ use Rattle.lg_gram.specs.Trees.{Tree}
 use Rattle.lg_gram.specs.Measures.{Choice, choices_of}
 use Rattle.lg_eprune.specs.Live.{WordTree, IsLiveChoice, Narrows, nothing, kept, dropped}
 use Rattle.lg_eprune.specs.Cuts.{cut, cut_words, with_word}
-use Rattle.lg_eprune.proofs.Elements.{contains_cases, contains_none, contains_here, contains_later, filter_in, filter_out}
+use Rattle.lg_base.proofs.Elements.{contains_cases, contains_none, contains_here, contains_later, filter_in, filter_out}
 use Rattle.lg_eprune.proofs.Choices.{passes, left_choices, cut_choices}
 
 abbrev Chosen : Tree → Choice → Type 0

@@ -8,7 +8,7 @@ use Rattle.lg_gram.specs.Trees.{Tree, Trees, empty, leaf, all_of, one_of, priced
 use Rattle.lg_gram.specs.Measures.{Choice, no_connectors, single, joined, dearer, choices_of, picks_of, choices_of_any}
 use Rattle.lg_eprune.specs.Live.{HasConnector}
 use Rattle.lg_eprune.specs.Cuts.{is_whole, are_whole, leaves, leaves_in}
-use Rattle.lg_eprune.proofs.Elements.{contains_cases, contains_none, contains_here, map_in, map_out, flat_in, flat_out}
+use Rattle.lg_base.proofs.Elements.{contains_cases, contains_none, contains_here, map_in, map_out, flat_in, flat_out}
 
 pub beq_same : (a b : Bool) → beq a b ≡ true → a ≡ b
 beq_same true true h = refl

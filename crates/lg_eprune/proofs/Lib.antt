@@ -1,4 +1,3 @@
-pub mod Elements
 pub mod Choices
 pub mod Leaves
 pub mod Numbered

@@ -8,7 +8,7 @@ use Rattle.lg_gram.specs.Linkages.{Linkage}
 use Rattle.lg_gram.specs.Rules.{Good, chosen_at, left_list, right_list, lefts_of, rights_of}
 use Rattle.lg_gram.specs.declared.disjunct.Disjunct.{Disjunct}
 use Rattle.lg_eprune.specs.Live.{WordTree, HasConnector, IsChoiceAt, SupportsItself, IsLiveChoice, AreOf}
-use Rattle.lg_eprune.proofs.Elements.{contains_none}
+use Rattle.lg_base.proofs.Elements.{contains_none}
 use Rattle.lg_eprune.proofs.Leaves.{right_of_choice, left_of_choice}
 use Rattle.lg_eprune.proofs.Numbered.{numbered, number_in, numbered_out}
 

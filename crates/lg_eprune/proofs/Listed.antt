@@ -13,7 +13,7 @@ use Rattle.std.proofs.lemmas.List.Folds.{Any-from_list_any, list_any_at}
 use Rattle.indexmap.specs.IndexMap.{IndexMap, Updates, get_by, get as get_in}
 use Rattle.lg_gram.specs.Connectors.{Connector}
 use Rattle.lg_eprune.specs.Cuts.{do_join, stays, listed_at, is_met, Lists}
-use Rattle.lg_eprune.proofs.Elements.{contains_cases, contains_none}
+use Rattle.lg_base.proofs.Elements.{contains_cases, contains_none}
 use Rattle.lg_eprune.proofs.Matches.{join_caps}
 
 bool_same : (a b : Bool) → (a ≡ true → b ≡ true) → (b ≡ true → a ≡ true) → a ≡ b

@@ -2,7 +2,7 @@
 use Rattle.std.proofs.Common.{◌≡◌, ℕ, zero, suc, ◌+◌, inl, inr, ap, subst, List, [], ◌∷◌, ◌++◌, map, get_or, Contains, arith}
 use Rattle.std.proofs.lemmas.List.Elements.{Contains-append_left, Contains-append_right, Contains-append_cases}
 use Rattle.lg_gram.specs.Connectors.{Connector}
-use Rattle.lg_eprune.proofs.Elements.{contains_none, map_in, map_out}
+use Rattle.lg_base.proofs.Elements.{contains_none, map_in, map_out}
 
 -- the connectors of each element, from the number n on
 abbrev pub numbered : {X : Type 0} → (X → List Connector) → ℕ → List X → List (ℕ × Connector)

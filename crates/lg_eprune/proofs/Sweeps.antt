@@ -12,7 +12,7 @@ use Rattle.lg_gram.specs.Trees.{Tree}
 use Rattle.lg_gram.specs.Measures.{node_count}
 use Rattle.lg_eprune.specs.Live.{WordTree}
 use Rattle.lg_eprune.specs.Cuts.{cut, cut_words, with_word, do_lose, do_join, is_whole, leaves, stays, swept, sweep_loses, word_leaves}
-use Rattle.lg_eprune.proofs.Elements.{contains_cases, contains_none, flat_in, flat_out}
+use Rattle.lg_base.proofs.Elements.{contains_cases, contains_none, flat_in, flat_out}
 use Rattle.lg_eprune.proofs.Bounds.{IsLess, positive, cut_no_more, cut_less, cut_keeps, cut_whole}
 use Rattle.lg_eprune.proofs.Leaves.{beq_same, leaf_passes, leaf_side}
 

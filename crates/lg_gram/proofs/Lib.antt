@@ -14,3 +14,4 @@ pub mod GoodPairs
 pub mod Ground
 pub mod Sorted
 pub mod Filled
+pub mod LinkSets

@@ -4,3 +4,4 @@ pub mod Written
 pub mod Using
 pub mod Same
 pub mod Celling
+pub mod Linked

@@ -9,6 +9,7 @@ use Rattle.lg_gram.specs.Rules.{chosen_at, left_list, right_list, rights_of, lef
 use Rattle.lg_gram.specs.declared.disjunct.Disjunct.{Disjunct}
 use Rattle.lg_gram.specs.declared.linkage.Link.{Link}
 use Rattle.lg_pprune.specs.Alive.{ArePartners, SupportsItself, IsAlive, PruningKeepsLinkages}
+use Rattle.lg_member.proofs.Linked.{linked_at}
 use Rattle.lg_pprune.proofs.Elements.{get_in}
 
 -- the linked positions from i on, with their disjuncts
@@ -35,14 +36,6 @@ chosen_out i (Some d ∷ os) x c =
       ]
       | inr h ↦ (let r = chosen_out (suc i) os x h in let e = r.1 in (suc r.0, omega arith, r.2))
     ]
-
--- a position with a connector is linked, and inside
-linked_at : (side : Option Disjunct → List Connector) → side None ≡ [] → (os : List (Option Disjunct)) (j q : ℕ) (c : Connector) → slice_get (side (get_or os j None)) q ≡ Some c
-    → (d : Disjunct) × (get_or os j None ≡ Some d) × (j < length os)
-linked_at side z [] j q c e = let f : ◌≡◌ {A = Option Connector} None (Some c) = sym (ap (λ v. slice_get v q) z) ∙ e in absurd cc
-linked_at side z (None ∷ os) zero q c e = let f : ◌≡◌ {A = Option Connector} None (Some c) = sym (ap (λ v. slice_get v q) z) ∙ e in absurd cc
-linked_at side z (Some d ∷ os) zero q c e = (d, refl, omega arith)
-linked_at side z (o ∷ os) (suc j) q c e = let r = linked_at side z os j q c e in let l = r.2 in (r.0, r.1, omega arith)
 
 abbrev Kept : Linkage → Type 0
 Kept g = Rules (rights_of g) (lefts_of g) (HasLink g)

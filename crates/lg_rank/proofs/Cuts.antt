@@ -14,8 +14,8 @@ use Rattle.lg_region.specs.Parts.{Region, part_of, choice_within, is_within}
 use Rattle.lg_region.specs.Whole.{First, IsFirst, SpellsFirst, first}
 use Rattle.lg_region.specs.Cuts.{split}
 use Rattle.lg_rank.specs.Joins.{IsTidy, IsEitherOf, IsJoin, CutsKeepOrder}
-use Rattle.lg_rank.proofs.Lists.{filter_in, filter_out}
-use Rattle.lg_rank.proofs.Sets.{same_set}
+use Rattle.lg_base.proofs.Elements.{filter_in, filter_out}
+use Rattle.lg_gram.proofs.LinkSets.{same_set}
 use Rattle.lg_rank.proofs.Joins.{joins_grow}
 
 -- the choices that are not strictly between L and R

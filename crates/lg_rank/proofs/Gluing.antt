@@ -18,9 +18,9 @@ use Rattle.lg_region.specs.Parts.{Region, part_of, choice_within, is_within}
 use Rattle.lg_region.specs.Whole.{First, IsFirst, SpellsFirst}
 use Rattle.lg_rank.specs.Meanings.{joint_link, unlinked_of}
 use Rattle.lg_rank.specs.Values.{comes_before, with_link}
-use Rattle.lg_rank.proofs.Lists.{contains_here, contains_later, contains_cases, contains_none, filter_out}
+use Rattle.lg_base.proofs.Elements.{contains_here, contains_later, contains_cases, contains_none, filter_out}
 use Rattle.lg_rank.proofs.Orders.{links_total}
-use Rattle.lg_rank.proofs.Sets.{IsSet, after_head, before_all, same_set}
+use Rattle.lg_gram.proofs.LinkSets.{IsSet, after_head, before_all, same_set}
 use Rattle.lg_rank.proofs.Ties.{Earlier, SamePair, earlier_trans, cmp_less, pair_cases}
 use Rattle.lg_rank.proofs.Cuts.{choice_in, within_length, not_linked, beyond}
 use Rattle.lg_rank.proofs.Packing.{IsGlued}

@@ -16,7 +16,7 @@ use Rattle.lg_gram.specs.Rules.{HasLink}
 use Rattle.lg_gram.specs.declared.disjunct.Disjunct.{Disjunct}
 use Rattle.lg_rank.specs.Joins.{IsTidy, IsEitherOf, IsJoin, JoinsGrow}
 use Rattle.lg_rank.proofs.Orders.{choices_total}
-use Rattle.lg_rank.proofs.Sets.{insert_all, same_set, union_set, union_left, union_right, union_out}
+use Rattle.lg_gram.proofs.LinkSets.{insert_all, same_set, union_set, union_left, union_right, union_out}
 use Rattle.lg_rank.proofs.Sums.{union_sum}
 use Rattle.lg_rank.proofs.Ties.{SetLess, less_set, set_less}
 

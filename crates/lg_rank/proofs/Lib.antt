@@ -1,6 +1,4 @@
-pub mod Lists
 pub mod Orders
-pub mod Sets
 pub mod Sums
 pub mod Ties
 pub mod Joins

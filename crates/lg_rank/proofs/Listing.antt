@@ -21,7 +21,7 @@ use Rattle.lg_rank.specs.Values.{Value, value_cmp}
 use Rattle.lg_rank.specs.declared.node.Node.{Node}
 use Rattle.lg_rank.specs.declared.part.Way.{Way}
 use Rattle.lg_rank.proofs.Forests.{parts_front}
-use Rattle.lg_rank.proofs.Lists.{contains_here, contains_later, contains_cases, contains_none}
+use Rattle.lg_base.proofs.Elements.{contains_here, contains_later, contains_cases, contains_none}
 use Rattle.lg_rank.proofs.Meaning.{Packs, empty_is, has_nothing, unlinked_part, unlinked_empty}
 use Rattle.lg_rank.proofs.Ordered.{good_end}
 use Rattle.lg_rank.proofs.Packing.{packed_order, packed_same}

@@ -22,7 +22,7 @@ use Rattle.lg_rank.specs.Values.{Value, combine}
 use Rattle.lg_rank.specs.declared.part.Way.{Way}
 use Rattle.lg_rank.proofs.Cuts.{not_linked}
 use Rattle.lg_rank.proofs.Gluing.{spelled_glue, first_glue, none_at}
-use Rattle.lg_rank.proofs.Lists.{contains_here, contains_none}
+use Rattle.lg_base.proofs.Elements.{contains_here, contains_none}
 use Rattle.lg_rank.proofs.Packing.{glued_packed}
 
 -- the laws that are needed

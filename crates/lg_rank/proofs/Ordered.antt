@@ -25,7 +25,7 @@ use Rattle.lg_rank.specs.Nodes.Has.{nothing, made}
 use Rattle.lg_rank.specs.Values.{Value, value_cmp, combine, IsSmall, IsSmallWay}
 use Rattle.lg_rank.specs.declared.part.Way.{Way}
 use Rattle.lg_rank.proofs.Choosing.{same_value}
-use Rattle.lg_rank.proofs.Lists.{contains_none}
+use Rattle.lg_base.proofs.Elements.{contains_none}
 use Rattle.lg_rank.proofs.Meaning.{Laws, Packs, split_packed, first_packed, part_sound, has_nothing, in_forest, sound, complete, unlinked_part}
 use Rattle.lg_rank.proofs.Orders.{ties_total}
 use Rattle.lg_rank.proofs.Packing.{packed_order, packed_apart, packed_same}

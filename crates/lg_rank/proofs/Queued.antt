@@ -21,7 +21,7 @@ use Rattle.lg_rank.specs.Values.{Value, value_of, value_cmp}
 use Rattle.lg_rank.specs.declared.queue.Waiting.{Waiting}
 use Rattle.lg_rank.proofs.Choosing.{not_less}
 use Rattle.lg_rank.proofs.Elements.{push_old, push_here, push_from}
-use Rattle.lg_rank.proofs.Lists.{contains_here, contains_later, contains_cases, contains_none}
+use Rattle.lg_base.proofs.Elements.{contains_here, contains_later, contains_cases, contains_none}
 
 -- ---- places that differ
 same_back : (a b : ℕ) → (a == b) ≡ (b == a)

@@ -16,8 +16,8 @@ use Rattle.lg_region.specs.Parts.{Region, Under, null_at, nulls_from}
 use Rattle.lg_rank.specs.Meanings.{IsPacked}
 use Rattle.lg_rank.specs.Values.{Value, IsSmall}
 use Rattle.lg_rank.proofs.Cuts.{not_linked}
-use Rattle.lg_rank.proofs.Lists.{contains_here, contains_later}
-use Rattle.lg_rank.proofs.Sets.{IsSet, after_head, not_itself}
+use Rattle.lg_base.proofs.Elements.{contains_here, contains_later}
+use Rattle.lg_gram.proofs.LinkSets.{IsSet, after_head, not_itself}
 use Rattle.lg_rank.proofs.Ties.{cmp_less}
 
 -- ---- unlinked positions

@@ -5,8 +5,8 @@ use Rattle.std.proofs.lemmas.List.Sums.{sum_by-cons}
 use Rattle.std.proofs.lemmas.Map.Keys.{sorted_head, sorted_tail}
 use Rattle.lg_gram.specs.declared.linkage.Link.{Link}
 use Rattle.lg_gram.specs.Linkages.{link_cmp}
-use Rattle.lg_rank.proofs.Lists.{contains_here, contains_later}
-use Rattle.lg_rank.proofs.Sets.{IsSet, insert_step, insert, insert_all, equal_links, union_out, after_head, not_itself}
+use Rattle.lg_base.proofs.Elements.{contains_here, contains_later}
+use Rattle.lg_gram.proofs.LinkSets.{IsSet, insert_step, insert, insert_all, equal_links, union_out, after_head, not_itself}
 
 step_sum : (f : Link → ℕ) (o : Ordering) (x y : Link) (ys longer : List Link) → link_cmp x y ≡ o → (x ≡ y → ⊥) → sum_by f longer ≡ f x + sum_by f ys → sum_by f (insert_step o x y ys longer) ≡ f x + sum_by f (y ∷ ys)
 step_sum f Less x y ys longer e new h = sum_by-cons f x (y ∷ ys)

@@ -8,8 +8,8 @@ use Rattle.std.proofs.lemmas.Bool.{cases_lt}
 use Rattle.std.proofs.lemmas.Bool.Decides.{nat_tests}
 use Rattle.lg_gram.specs.declared.linkage.Link.{Link}
 use Rattle.lg_gram.specs.Linkages.{link_cmp, tie_cmp}
-use Rattle.lg_rank.proofs.Lists.{contains_here, contains_later, contains_cases, contains_none}
-use Rattle.lg_rank.proofs.Sets.{IsSet, after_head, not_itself, equal_links}
+use Rattle.lg_base.proofs.Elements.{contains_here, contains_later, contains_cases, contains_none}
+use Rattle.lg_gram.proofs.LinkSets.{IsSet, after_head, not_itself, equal_links}
 use Rattle.lg_rank.proofs.Orders.{ties_total}
 
 -- the pair of k stands before that of l

@@ -10,10 +10,10 @@ use Rattle.lg_gram.specs.declared.linkage.Link.{Link}
 use Rattle.lg_region.specs.Parts.{Region, IsPart, Under, part_of}
 use Rattle.lg_region.specs.Cuts.{IsJoint, Split, IsCut, Spells}
 use Rattle.lg_region.specs.declared.key.Joint.{Joint}
-use Rattle.lg_region.proofs.Elements.{contains_here, contains_none, contains_cases}
+use Rattle.lg_base.proofs.Elements.{contains_here, contains_none, contains_cases}
 use Rattle.lg_region.proofs.Parts.{in_part, from_part, part_chosen, part_none, part_belongs}
 use Rattle.lg_region.proofs.Region.{under_fits, joint_ends, region_of, key_is}
-use Rattle.lg_region.proofs.Same.{same_set, insert_all, union_set, union_left, union_right, union_out}
+use Rattle.lg_gram.proofs.LinkSets.{same_set, insert_all, union_set, union_left, union_right, union_out}
 use Rattle.lg_region.proofs.Empty.{none_of}
 
 same_list : (xs ys : List (Option Disjunct)) → length xs ≡ length ys → ((i : ℕ) → get_or xs i None ≡ get_or ys i None) → xs ≡ ys

@@ -18,7 +18,8 @@ use Rattle.lg_region.specs.declared.numbering.Tail.{Tail}
 use Rattle.lg_region.specs.declared.numbering.Sides.{Sides}
 use Rattle.lg_region.proofs.Elements.{zip_at, zip_length}
 use Rattle.lg_region.proofs.Valid.{take_short}
-use Rattle.lg_region.proofs.Numbers.{map_out, flat_out, range_out}
+use Rattle.lg_base.proofs.Elements.{map_out, flat_out}
+use Rattle.lg_region.proofs.Numbers.{range_out}
 
 -- an element that was read, of a list that is seen through a function
 pub map_at : {X Y : Type 0} (g : X → Y) (xs : List X) (n : ℕ) (x : X) (d : Y) → n < length xs → x ≡ get_or xs n x → get_or (map g xs) n d ≡ g x

@@ -10,7 +10,7 @@ use Rattle.lg_region.specs.Ways.{AreExactly, AddsExactly, HasWay, IsEndOf, IsWay
 use Rattle.lg_region.specs.declared.key.Joint.{Joint}
 use Rattle.lg_region.specs.declared.ways.Way.{Way}
 use Rattle.lg_region.specs.declared.ways.End.{End}
-use Rattle.lg_region.proofs.Elements.{contains_here, contains_later, contains_cases, contains_none}
+use Rattle.lg_base.proofs.Elements.{contains_here, contains_later, contains_cases, contains_none}
 use Rattle.lg_region.proofs.Valid.{take_short}
 use Rattle.lg_region.proofs.Numbers.{apart}
 use Rattle.lg_region.proofs.Once.{once_one, once_cons, exactly_as, exactly_one, exactly_append, exactly_product}

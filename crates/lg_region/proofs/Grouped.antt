@@ -12,7 +12,7 @@ use Rattle.lg_region.specs.declared.alternative.Alt.TheVariants.{AllNull, Split 
 use Rattle.lg_region.specs.declared.group.Gap.{Gap}
 use Rattle.lg_region.specs.declared.group.Group.{Group}
 use Rattle.lg_region.specs.declared.opening.Groups.{Groups}
-use Rattle.lg_region.proofs.Elements.{contains_here, contains_none, contains_cases}
+use Rattle.lg_base.proofs.Elements.{contains_here, contains_none, contains_cases}
 use Rattle.lg_region.proofs.Numbers.{get_contains}
 use Rattle.lg_region.proofs.Once.{append_cases}
 use Rattle.lg_region.proofs.Expanding.{adds_skip, before_all, before_split, gap_start, in_split, region_lies, region_names}

@@ -8,7 +8,6 @@ pub mod Sides
 pub mod Region
 pub mod Unique
 pub mod Empty
-pub mod Same
 pub mod Counts
 pub mod Whole
 pub mod Assemble

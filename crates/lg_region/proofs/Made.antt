@@ -9,7 +9,7 @@ use Rattle.lg_region.specs.Parts.{Region, IsPart, Under, UnderWhole, part_of}
 use Rattle.lg_region.specs.Cuts.{IsEmpty, IsValid, Spells, Alternative, IsAlternative, SpelledBy, all_null, split}
 use Rattle.lg_region.specs.Whole.{WholeAlternative, nothing, first, IsWholeAlternative, WholeSpelledBy}
 use Rattle.lg_region.specs.Laws.{HasLinkage, KeysHave, WholeKeyHas}
-use Rattle.lg_region.proofs.Elements.{contains_none}
+use Rattle.lg_base.proofs.Elements.{contains_none}
 use Rattle.lg_region.proofs.Empty.{region_complete, region_sound, none_of}
 use Rattle.lg_region.proofs.Whole.{whole_complete, whole_sound_all}
 use Rattle.lg_region.proofs.Begin.{begun, begun_spells}

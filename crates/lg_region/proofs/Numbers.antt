@@ -18,40 +18,8 @@ use Rattle.lg_region.specs.declared.key.Key.{Key}
 use Rattle.lg_region.specs.declared.key.Key.TheVariants.{Whole, Region as Between}
 use Rattle.lg_region.specs.declared.alternative.Alt.{Alt}
 use Rattle.lg_region.specs.declared.alternative.Alt.TheVariants.{AllNull, Split as At}
-use Rattle.lg_region.proofs.Elements.{contains_here, contains_later, contains_cases, contains_none}
+use Rattle.lg_base.proofs.Elements.{contains_here, contains_later, contains_cases, contains_none, map_in, map_out, flat_in, flat_out}
 use Rattle.lg_region.proofs.Valid.{known_right, cut_valid, first_valid}
-
-pub map_in : {X Y : Type 0} (f : X → Y) (xs : List X) (x : X) → Contains xs x → Contains (map f xs) (f x)
-map_in f [] x c = absurd (contains_none x c)
-map_in {X} {Y} f (z ∷ xs) x c =
-    elim (contains_cases z xs x c) [
-      | inl e ↦ subst (λ v. Contains (map f (z ∷ xs)) (f v)) e (contains_here (f z) (map f xs))
-      | inr d ↦ contains_later (f z) (map f xs) (f x) (map_in f xs x d)
-    ]
-
-pub map_out : {X Y : Type 0} (f : X → Y) (xs : List X) (y : Y) → Contains (map f xs) y → (x : X) × Contains xs x × (f x ≡ y)
-map_out f [] y c = absurd (contains_none y c)
-map_out f (z ∷ xs) y c =
-    elim (contains_cases (f z) (map f xs) y c) [
-      | inl e ↦ (z, contains_here z xs, e)
-      | inr d ↦ (let r = map_out f xs y d in (r.0, contains_later z xs r.0 r.1, r.2))
-    ]
-
-pub flat_in : {X Y : Type 0} (f : X → List Y) (xs : List X) (x : X) (y : Y) → Contains xs x → Contains (f x) y → Contains (flat_map f xs) y
-flat_in f [] x y c d = absurd (contains_none x c)
-flat_in f (z ∷ xs) x y c d =
-    elim (contains_cases z xs x c) [
-      | inl e ↦ Contains-append_left (f z) (flat_map f xs) y (subst (λ v. Contains (f v) y) (sym e) d)
-      | inr h ↦ Contains-append_right (f z) (flat_map f xs) y (flat_in f xs x y h d)
-    ]
-
-pub flat_out : {X Y : Type 0} (f : X → List Y) (xs : List X) (y : Y) → Contains (flat_map f xs) y → (x : X) × Contains xs x × Contains (f x) y
-flat_out f [] y c = absurd (contains_none y c)
-flat_out f (z ∷ xs) y c =
-    elim (Contains-append_cases (f z) (flat_map f xs) y c) [
-      | inl d ↦ (z, contains_here z xs, d)
-      | inr h ↦ (let r = flat_out f xs y h in (r.0, contains_later z xs r.0 r.1, r.2))
-    ]
 
 pub range_in : (a n x : ℕ) → a ≤ x → x < a + n → Contains (range_with_len a n) x
 range_in a zero x l h = absurd (omega arith)

@@ -5,8 +5,8 @@ use Rattle.std.proofs.lemmas.List.Elements.{Contains-append_left, Contains-appen
 use Rattle.std.proofs.lemmas.Option.{slice_get_within}
 use Rattle.lg_region.specs.Fronts.{AreOnce}
 use Rattle.lg_region.specs.Ways.{AreExactly, AddsExactly}
-use Rattle.lg_region.proofs.Elements.{contains_here, contains_none, contains_cases}
-use Rattle.lg_region.proofs.Numbers.{contains_get, get_contains, flat_in, flat_out, map_in, map_out, range_in, range_out}
+use Rattle.lg_base.proofs.Elements.{contains_here, contains_none, contains_cases, flat_in, flat_out, map_in, map_out}
+use Rattle.lg_region.proofs.Numbers.{contains_get, get_contains, range_in, range_out}
 
 pub append_cases : {X : Type 0} (xs ys : List X) (i : ℕ) (x : X) → slice_get (xs ++ ys) i ≡ Some x → (slice_get xs i ≡ Some x) ⊎ ((j : ℕ) × (i ≡ length xs + j) × (slice_get ys j ≡ Some x))
 append_cases [] ys i x e = inr (i, omega arith, e)

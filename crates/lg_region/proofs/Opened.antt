@@ -12,8 +12,8 @@ use Rattle.lg_region.specs.declared.group.Gap.{Gap}
 use Rattle.lg_region.specs.declared.group.Group.{Group}
 use Rattle.lg_region.specs.declared.group.Right.{Right}
 use Rattle.lg_region.specs.declared.opening.Beginning.{Beginning}
-use Rattle.lg_region.proofs.Elements.{contains_none}
-use Rattle.lg_region.proofs.Numbers.{flat_in, flat_out, map_in, map_out, range_in, range_out}
+use Rattle.lg_base.proofs.Elements.{contains_none, flat_in, flat_out, map_in, map_out}
+use Rattle.lg_region.proofs.Numbers.{range_in, range_out}
 use Rattle.lg_region.proofs.Once.{once_flat, once_map, once_none, once_range}
 use Rattle.lg_region.proofs.Splitting.{HasRoom, alt_made, made_is, split_parts, way_same}
 

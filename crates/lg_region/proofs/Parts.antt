@@ -8,7 +8,7 @@ use Rattle.lg_gram.specs.Rules.{chosen_at, HasLink, IsLinked, Belongs}
 use Rattle.lg_gram.specs.declared.disjunct.Disjunct.{Disjunct}
 use Rattle.lg_gram.specs.declared.linkage.Link.{Link}
 use Rattle.lg_region.specs.Parts.{null_at, nulls_from, IsPart, choice_within, is_within, part_of}
-use Rattle.lg_region.proofs.Elements.{filter_in, filter_out}
+use Rattle.lg_base.proofs.Elements.{filter_in, filter_out}
 
 -- a link lies between L and R, and does not join these two
 pub record LiesIn (L R : ℕ) (l : Link) : Type 0 where

@@ -24,8 +24,8 @@ use Rattle.lg_region.specs.declared.ways.Way.{Way}
 use Rattle.lg_region.specs.declared.group.Gap.{Gap}
 use Rattle.lg_region.specs.declared.group.Group.{Group}
 use Rattle.lg_region.specs.declared.group.Right.{Right}
-use Rattle.lg_region.proofs.Elements.{contains_none}
-use Rattle.lg_region.proofs.Numbers.{apart, map_in, map_out, get_contains, flat_in, flat_out}
+use Rattle.lg_base.proofs.Elements.{contains_none, map_in, map_out, flat_in, flat_out}
+use Rattle.lg_region.proofs.Numbers.{apart, get_contains}
 use Rattle.lg_region.proofs.Once.{once_map, once_flat, exactly_as, exactly_none, exactly_append, exactly_product, exactly_range, adds_none}
 
 -- a joint of lists that are the same

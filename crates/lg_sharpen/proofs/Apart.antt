@@ -9,15 +9,8 @@ use Rattle.lg_gram.specs.Rules.{chosen_at, left_list, right_list, rights_of, lef
 use Rattle.lg_gram.specs.Walks.{Walk, stay, forth, back, LinkFrom}
 use Rattle.lg_gram.specs.declared.disjunct.Disjunct.{Disjunct}
 use Rattle.lg_gram.specs.declared.linkage.Link.{Link}
+use Rattle.lg_member.proofs.Linked.{linked_at}
 use Rattle.lg_sharpen.specs.Bounds.{Fits}
-
--- a position with a connector is linked, and inside
-pub linked_at : (side : Option Disjunct → List Connector) → side None ≡ [] → (os : List (Option Disjunct)) (j q : ℕ) (c : Connector) → slice_get (side (get_or os j None)) q ≡ Some c
-    → (d : Disjunct) × (get_or os j None ≡ Some d) × (j < length os)
-linked_at side z [] j q c e = let f : ◌≡◌ {A = Option Connector} None (Some c) = sym (ap (λ v. slice_get v q) z) ∙ e in absurd cc
-linked_at side z (None ∷ os) zero q c e = let f : ◌≡◌ {A = Option Connector} None (Some c) = sym (ap (λ v. slice_get v q) z) ∙ e in absurd cc
-linked_at side z (Some d ∷ os) zero q c e = (d, refl, omega arith)
-linked_at side z (o ∷ os) (suc j) q c e = let r = linked_at side z os j q c e in let l = r.2 in (r.0, r.1, omega arith)
 
 some_is : (o : Option Disjunct) (d : Disjunct) → o ≡ Some d → IsSome o
 some_is o d e = subst (λ z. IsSome z) (sym e) refl

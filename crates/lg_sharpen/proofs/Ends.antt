@@ -11,7 +11,8 @@ use Rattle.lg_sharpen.specs.Sites.{own, place_on, across, MatchOn}
 use Rattle.lg_member.specs.Members.{list_on}
 use Rattle.lg_sharpen.specs.Bounds.{list_at, Fits, Allows, Covers}
 use Rattle.lg_sharpen.specs.declared.site.Site.{Site}
-use Rattle.lg_sharpen.proofs.Apart.{linked_at, is_short}
+use Rattle.lg_member.proofs.Linked.{linked_at}
+use Rattle.lg_sharpen.proofs.Apart.{is_short}
 
 pub served : (most : ℕ) (g : Linkage) → Fits most g → (right : Bool) (i p : ℕ) (c : Connector) → slice_get (list_at right g i) p ≡ Some c → (l : Link) × HasLink g l × (own right l ≡ i) × (place_on right l ≡ p)
 served most g f true i p c e = (f.rules.satisfied.on_right i p c e).some

@@ -4,7 +4,7 @@ use Rattle.std.specs.List.{flat_map, range_with_len}
 use Rattle.std.proofs.lemmas.Bool.Decides.{nat_tests}
 use Rattle.std.proofs.lemmas.Grind.{common_steps}
 use Rattle.lg_region.specs.Openings.{AreBeginnings, begins_at}
-use Rattle.lg_region.proofs.Elements.{contains_none}
+use Rattle.lg_base.proofs.Elements.{contains_none}
 use Rattle.lg_region.proofs.Expanding.{range_step}
 use Rattle.lg_region.proofs.Opened.{begin_of, begins_are, none_begin}
 use Rattle.lg_region.proofs.Splitting.{range_done}

@@ -8,8 +8,8 @@ use Rattle.std.proofs.lemmas.Bool.Decides.{nat_tests}
 use Rattle.std.proofs.lemmas.List.Elements.{All-from_recursion, recursion_from_All, All-contains, Contains-get_or}
 use Rattle.lg_gram.specs.declared.linkage.Link.{Link}
 use Rattle.lg_gram.specs.Linkages.{link_cmp}
-use Rattle.lg_rank.proofs.Lists.{contains_here, contains_later, contains_cases, contains_none}
-use Rattle.lg_rank.proofs.Orders.{links_total}
+use Rattle.lg_base.proofs.Elements.{contains_here, contains_later, contains_cases, contains_none}
+use Rattle.lg_gram.proofs.Orders.{links_total}
 
 pub not_itself : (x : Link) → link_cmp x x ≡ Less → ⊥
 not_itself x h = let e = tied_itself links_total x in cc
