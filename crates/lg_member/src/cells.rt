@@ -1,5 +1,5 @@
 //! Tables of sites, by position and by the capital letters of their connectors.
-ghost use Rattle.std.specs.Prelude.{◌≡◌, ◌<◌, ◌↔◌, [], length, IfOk, OnOk, IsTrue};
+ghost use Rattle.std.specs.Prelude.{◌≡◌, ◌<◌, ◌↔◌, [], length, IfOk, OnErr, OnOk, IsTrue};
 ghost use Rattle.std.specs.List.{All, Any, Contains};
 ghost use Rattle.lg_member.specs.Cells.{Adds, AddsTo, IsEmpty, Stands, cell_at, cell_count as cells_for, class_of as class_in};
 
@@ -58,9 +58,10 @@ impl<S: Wide> Cells<S> {
     }
 
     /// Adds a site to the cell of a position and some capital letters, where none that is there is as wide. The only error is
-    /// running out of memory.
+    /// running out of memory, and then the table is as it was.
     pub fn push(&mut self, position: usize, caps: &[u8], site: &S) -> Result<(), NoMemory>
-        ensures { OnOk result (Adds S.wider position (class_in caps.now) site.now self.old self.new) }
+        ensures unchanged { OnErr result (self.new ≡ self.old) }
+        ensures added { OnOk result (Adds S.wider position (class_in caps.now) site.now self.old self.new) }
     {
         let number = cell_of(self.words, position, class_of(caps));
         push_site(site, &mut self.cells[number])?;
@@ -80,7 +81,8 @@ fn empty<S: Wide>(alloc: Global, words: u32) -> Result<Vec<Vec<S>>, NoMemory>
 }
 
 fn push_site<S: Wide>(site: &S, cell: &mut Vec<S>) -> Result<(), NoMemory>
-    ensures { OnOk result (AddsTo S.wider site.now cell.old.items cell.new.items) }
+    ensures unchanged { OnErr result (cell.new.items ≡ cell.old.items) }
+    ensures added { OnOk result (AddsTo S.wider site.now cell.old.items cell.new.items) }
 {
     if has_wider(site, cell) {
         return Ok(());

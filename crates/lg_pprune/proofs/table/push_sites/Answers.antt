@@ -8,4 +8,4 @@ pub loop-place-preserved : goal.loop-place-preserved
 loop-place-preserved c =
     let s = c.site_of-site.result in
     sites_more c.args.right c.args.words c.args.side.now.position c.args.side.now.list.now c.loop-place.place c.args.table.now c.loop-place.table c.push.new.self s
-    (subst (λ z. Adds IsWider s.position (class_of z) s c.loop-place.table c.push.new.self) c.caps.ensures.value c.in_ok-push.ensures) c.site_of-site.ensures c.loop-place.invariant
+    (subst (λ z. Adds IsWider s.position (class_of z) s c.loop-place.table c.push.new.self) c.caps.ensures.value c.in_ok-push.ensures.added) c.site_of-site.ensures c.loop-place.invariant

@@ -10,4 +10,4 @@ loop-site-preserved c =
     let s = c.site-item.result in
     sites_more c.args.position c.args.sites.now c.loop-site.site-index c.args.table.now c.loop-site.table c.push.new.self s
     (slice_get_read c.args.sites.now (length c.args.sites.now) c.loop-site.site-index s refl c.loop-site-test.true c.site-item.is)
-    (subst (λ z. Adds IsWider c.args.position (class_of z) s c.loop-site.table c.push.new.self) c.caps.ensures.value c.in_ok-push.ensures) c.loop-site.invariant
+    (subst (λ z. Adds IsWider c.args.position (class_of z) s c.loop-site.table c.push.new.self) c.caps.ensures.value c.in_ok-push.ensures.added) c.loop-site.invariant
