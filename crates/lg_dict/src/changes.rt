@@ -14,7 +14,7 @@ ghost use Rattle.lg_dict.specs.declared.changes.Change.TheVariants.{Given};
 use crate::dict::Dict;
 use crate::tables::{Table, list_text};
 use indexmap::IndexMap;
-use lg_base::{NoMemory, Text};
+use lg_base::{NoMemory, Text, copied};
 use lg_gram::Formula;
 use std::alloc::Global;
 
