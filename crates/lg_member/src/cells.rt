@@ -42,7 +42,8 @@ impl<S> Model for Cells<S> {
 impl<S: Wide> Cells<S> {
     /// A table for so many words, without sites. The only error is running out of memory.
     pub fn new(alloc: Global, words: u32) -> Result<Cells<S>, NoMemory>
-        ensures { IfOk result IsEmpty }
+        ensures words { IfOk result (λ table. table.words ≡ words) }
+        ensures empty { IfOk result IsEmpty }
     {
         let cells = empty(alloc, words)?;
         Ok(Cells { words, cells })
