@@ -5,11 +5,10 @@ use Rattle.std.proofs.lemmas.Option.{same_Some, slice_get_within, slice_get-get_
 use Rattle.std.specs.declared.result.Result.{Result}
 use Rattle.std.specs.declared.result.Result.TheVariants.{Ok, Err}
 use Rattle.std.proofs.lemmas.List.Elements.{Contains-append_left, Contains-append_right, Contains-append_cases}
-use Rattle.std.specs.Map.{keys_of}
 use Rattle.lg_region.specs.Fronts.{AreOnce, Numbering}
 use Rattle.lg_region.specs.Keys.{IsAltOf, IsAltOfRegion}
 use Rattle.lg_region.specs.Groups.{StandsIn, region_of_gap}
-use Rattle.lg_region.specs.Openings.{AreApart, AreBeginnings, AreGroups, BeginsSo, IsIn, IsKeyOfGap, left_of}
+use Rattle.lg_region.specs.Openings.{AreBeginnings, AreGroups, BeginsSo, IsIn, IsKeyOfGap, left_of}
 use Rattle.lg_region.specs.Keys.{IsValidKey}
 use Rattle.lg_region.specs.declared.opening.Groups.{Groups}
 use Rattle.lg_region.specs.Ways.{AddsExactly, AreExactly}
@@ -19,11 +18,10 @@ use Rattle.lg_region.specs.declared.alternative.Alt.TheVariants.{AllNull, Split 
 use Rattle.lg_region.specs.declared.group.Gap.{Gap}
 use Rattle.lg_region.specs.declared.group.Group.{Group}
 use Rattle.lg_region.specs.declared.opening.Beginning.{Beginning}
-use Rattle.lg_forest.specs.Demands.{AsksNext, HasLinkageUnder, left_key, right_key}
+use Rattle.lg_forest.specs.Demands.{AsksNext, HasLinkageUnder, left_key}
 use Rattle.lg_forest.specs.Forests.{IsLive, AreLive}
 use Rattle.lg_forest.specs.Halves.{AddsLive, AsksAmong, IsEnding}
-use Rattle.lg_forest.specs.Search.{Asked, AsksOf, IsLast, IsTable, KeysAreDecided, HasValidKeys, key_width, alt_bound}
-use Rattle.lg_forest.specs.declared.search.Last.{Last}
+use Rattle.lg_forest.specs.Search.{Asked, AsksOf, IsTable, KeysAreDecided, key_width}
 use Rattle.lg_forest.specs.Search.AsksOf.{left as asks_left, right as asks_right}
 use Rattle.lg_forest.specs.Demands.AsksNext.{left as next_left, right as next_right}
 use Rattle.lg_forest.proofs.Asked.{asked_as, asked_then, next_narrow}

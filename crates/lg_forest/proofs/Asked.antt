@@ -1,5 +1,5 @@
 -- The table grows by what is asked for.
-use Rattle.std.proofs.Common.{◌≡◌, ◌≢◌, ◌↔◌, ℕ, suc, ◌<◌, ◌≤◌, ◌⊎◌, inl, inr, refl, sym, ap, ◌∙◌, subst, List, [], ◌∷◌, ◌++◌, map, Option, Some, None, IfSome, IfOk, OnOk, Contains, slice_get, take, length, Bool, true, false, not, true≢false, IsTrue, arith}
+use Rattle.std.proofs.Common.{◌≡◌, ◌↔◌, ℕ, suc, ◌<◌, ◌≤◌, ◌⊎◌, inl, inr, refl, sym, ap, ◌∙◌, subst, List, [], ◌∷◌, ◌++◌, Option, Some, None, IfSome, IfOk, OnOk, Contains, slice_get, take, length, Bool, true, false, not, true≢false, IsTrue, arith}
 use Rattle.std.proofs.lemmas.List.{map-append, take_all}
 use Rattle.std.proofs.lemmas.Option.{slice_get_within, get_or_from_slice_get}
 use Rattle.std.proofs.Math.Seq.{take-suc}
@@ -15,8 +15,8 @@ use Rattle.lg_forest.specs.Demands.{HasLinkageUnder, AsksNext, Reaches, left_key
 use Rattle.lg_forest.specs.Demands.AsksNext.{left, right}
 use Rattle.lg_forest.specs.Demands.Reaches.{itself, onward}
 use Rattle.lg_forest.specs.declared.search.Last.{Last}
-use Rattle.lg_forest.specs.Forests.{IsLive, AreLive}
-use Rattle.lg_forest.specs.Search.{KeysAreDecided, IsTable, IsLast, HasValidKeys, Asked, AsksOf, key_width, part_bound, alt_bound}
+use Rattle.lg_forest.specs.Forests.{AreLive}
+use Rattle.lg_forest.specs.Search.{KeysAreDecided, IsTable, IsLast, Asked, AsksOf, key_width, part_bound}
 use Rattle.lg_forest.specs.Search.AsksOf.{left as asks_left, right as asks_right}
 use Rattle.lg_forest.proofs.Once.{contains_here, contains_none, contains_map, contains_at}
 

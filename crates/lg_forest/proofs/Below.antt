@@ -1,13 +1,11 @@
 -- The keys of an alternative may be asked for where its own key may, and they are narrower.
-use Rattle.std.proofs.Common.{◌≡◌, ℕ, suc, ◌-◌, ◌<◌, ◌≤◌, max, List, length, Option, Some, None, sym, ap, ◌∙◌, subst, IfSome, arith}
+use Rattle.std.proofs.Common.{ℕ, suc, ◌-◌, ◌<◌, ◌≤◌, List, length, Some, None, ap, subst, arith}
 use Rattle.lg_gram.specs.Connectors.{Connector}
 use Rattle.lg_gram.specs.declared.disjunct.Disjunct.{Disjunct}
 use Rattle.lg_region.specs.Parts.{Region}
-use Rattle.lg_region.specs.Cuts.{Split, IsValid}
-use Rattle.lg_region.specs.Whole.{First, IsFirst}
+use Rattle.lg_region.specs.Cuts.{IsValid}
 use Rattle.lg_region.specs.Laws.{CutsAreValid}
-use Rattle.lg_region.specs.Fronts.{Numbering}
-use Rattle.lg_region.specs.Keys.{IsValidKey, IsAltOf, IsAltOfWhole, IsAltOfRegion, IsKeyOf, IsFirstOf, IsSplitOf, region_of_numbers}
+use Rattle.lg_region.specs.Keys.{IsValidKey, IsAltOf, IsAltOfWhole, IsAltOfRegion, IsKeyOf, region_of_numbers}
 use Rattle.lg_region.specs.declared.key.Key.{Key}
 use Rattle.lg_region.specs.declared.key.Key.TheVariants.{Whole, Region as Between}
 use Rattle.lg_region.specs.declared.alternative.Alt.{Alt}

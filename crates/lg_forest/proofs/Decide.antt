@@ -1,14 +1,13 @@
 -- A key has a linkage exactly where an alternative of it is live.
-use Rattle.std.proofs.Common.{◌≡◌, ◌↔◌, ℕ, List, [], length, Option, Some, None, refl, sym, subst, IfSome, Contains, slice_get, slice_index_or, arith}
+use Rattle.std.proofs.Common.{◌≡◌, ◌↔◌, ℕ, List, [], Some, None, refl, sym, subst, Contains, slice_get, slice_index_or}
 use Rattle.std.proofs.lemmas.Option.{slice_get-get_or}
 use Rattle.lg_gram.specs.Connectors.{Connector}
-use Rattle.lg_gram.specs.Linkages.{Linkage}
 use Rattle.lg_gram.specs.declared.disjunct.Disjunct.{Disjunct}
-use Rattle.lg_region.specs.Parts.{Region, UnderWhole}
-use Rattle.lg_region.specs.Cuts.{Split, Alternative, all_null, split, IsAlternative, IsValid}
-use Rattle.lg_region.specs.Whole.{First, IsFirst, WholeAlternative, nothing, first, IsWholeAlternative}
+use Rattle.lg_region.specs.Parts.{Region}
+use Rattle.lg_region.specs.Cuts.{Alternative, all_null, split, IsAlternative, IsValid}
+use Rattle.lg_region.specs.Whole.{WholeAlternative, nothing, first, IsWholeAlternative}
 use Rattle.lg_region.specs.Laws.{CutsAreValid, AlternativesDecide, WholeAlternativesDecide, NumbersTellListsApart, HasLinkage, KeysHave, WholeKeyHas}
-use Rattle.lg_region.specs.Keys.{IsValidKey, IsAltOf, IsAltOfWhole, IsAltOfRegion, IsKeyOf, IsFirstOf, IsSplitOf, IsDisjunctAt, region_of_numbers}
+use Rattle.lg_region.specs.Keys.{IsValidKey, IsAltOf, IsAltOfWhole, IsAltOfRegion, IsKeyOf, IsDisjunctAt, region_of_numbers}
 use Rattle.lg_region.specs.declared.key.Key.{Key}
 use Rattle.lg_region.specs.declared.key.Key.TheVariants.{Whole, Region as Between}
 use Rattle.lg_region.specs.declared.alternative.Alt.{Alt}

@@ -1,5 +1,5 @@
 -- The keys of a forest, and those of its alternatives.
-use Rattle.std.proofs.Common.{◌≡◌, ◌↔◌, ℕ, suc, ◌<◌, ◌≤◌, ◌⊎◌, inl, inr, refl, sym, ap, ◌∙◌, subst, List, [], ◌∷◌, ◌++◌, take, length, Option, Some, None, IfSome, is_none, Contains, slice_get, arith}
+use Rattle.std.proofs.Common.{◌≡◌, ℕ, suc, ◌≤◌, ◌⊎◌, inl, inr, refl, sym, ap, ◌∙◌, subst, List, [], ◌∷◌, ◌++◌, take, length, Option, Some, None, IfSome, is_none, Contains, slice_get, arith}
 use Rattle.std.specs.Map.{keys_of}
 use Rattle.std.proofs.lemmas.List.{take_all}
 use Rattle.std.proofs.lemmas.List.Sums.{count_by-le-length}
@@ -7,13 +7,13 @@ use Rattle.std.proofs.lemmas.List.Elements.{Contains-append_left, Contains-push,
 use Rattle.std.proofs.lemmas.Option.{slice_get_within, get_or_from_slice_get}
 use Rattle.std.proofs.Math.Seq.{take-suc}
 use Rattle.lg_gram.specs.Connectors.{Connector}
-use Rattle.lg_gram.specs.Linkages.{Linkage, unlinked}
+use Rattle.lg_gram.specs.Linkages.{Linkage}
 use Rattle.lg_gram.specs.declared.disjunct.Disjunct.{Disjunct}
 use Rattle.lg_region.specs.Fronts.{Numbering}
 use Rattle.lg_region.specs.Parts.{UnderWhole}
 use Rattle.lg_region.specs.Keys.{IsValidKey, IsAltOf, IsAltOfWhole}
 use Rattle.lg_region.specs.declared.key.Key.{Key}
-use Rattle.lg_region.specs.declared.key.Key.TheVariants.{Whole, Region as Between}
+use Rattle.lg_region.specs.declared.key.Key.TheVariants.{Whole}
 use Rattle.lg_region.specs.declared.alternative.Alt.{Alt}
 use Rattle.lg_region.specs.declared.alternative.Alt.TheVariants.{AllNull, Split as At}
 use Rattle.lg_forest.specs.Demands.{HasLinkageUnder, AsksNext, Reaches, left_key, right_key}
@@ -22,7 +22,7 @@ use Rattle.lg_forest.specs.Demands.Reaches.{itself, onward}
 use Rattle.lg_forest.specs.Forests.{Forest, IsForest, IsLive}
 use Rattle.lg_forest.specs.Search.{KeysAreDecided}
 use Rattle.lg_forest.specs.Drafts.{Draft, UnderKey, AreDraftsOf, IsSpelled, LinkagesAreSpelled, HasAlt}
-use Rattle.lg_forest.proofs.Once.{contains_map, contains_at, contains_none}
+use Rattle.lg_forest.proofs.Once.{contains_map, contains_none}
 use Rattle.lg_forest.proofs.Asked.{next_narrow}
 use Rattle.lg_forest.proofs.Drafted.{drafts_then, drafts_as}
 

@@ -1,21 +1,18 @@
 -- A good linkage of a problem is within the limits of linkages.
-use Rattle.std.proofs.Common.{◌≡◌, ℕ, suc, ◌<◌, ◌≤◌, ◌+◌, ◌*◌, ◌^◌, ◌⊎◌, inl, inr, refl, sym, ap, ◌∙◌, subst, List, [], ◌∷◌, length, get_or, Option, Some, None, IfSome, Contains, slice_get, slice_index_or, Ordering, Less, Equal, Greater, arith}
-use Rattle.std.specs.List.{All}
+use Rattle.std.proofs.Common.{◌≡◌, ℕ, suc, ◌<◌, ◌≤◌, ◌+◌, ◌*◌, ◌⊎◌, inl, inr, refl, sym, ◌∙◌, subst, List, [], ◌∷◌, length, get_or, Option, Some, None, Contains, slice_get, Ordering, Less, Equal, Greater, arith}
 use Rattle.std.specs.Cmp.{IsTotalOrder}
 use Rattle.std.specs.Ordering.{nat_cmp, ordering_then, MatchOrdering}
 use Rattle.std.specs.List.Sorted.{IsStrictlySortedBy}
 use Rattle.std.proofs.lemmas.Bool.{cases_lt}
-use Rattle.std.proofs.lemmas.Bool.Decides.{nat_tests}
 use Rattle.std.proofs.lemmas.Cmp.{tied_itself, ranked}
 use Rattle.std.proofs.lemmas.List.{get_or_past}
 use Rattle.std.proofs.lemmas.List.Elements.{All-contains, All-from_recursion, Contains-get_or}
 use Rattle.std.proofs.lemmas.Map.Keys.{sorted_head, sorted_tail}
 use Rattle.std.proofs.lemmas.Option.{get_or_from_slice_get, slice_get-get_or}
 use Rattle.lg_gram.specs.Connectors.{Connector}
-use Rattle.lg_gram.specs.Limits.{LINKAGE_POSITIONS}
-use Rattle.lg_gram.specs.Linkages.{Linkage, IsLinkage, IsForward, HasSmallCost, link_cmp}
-use Rattle.lg_gram.specs.Problems.{IsProblem, FitsProblem, IsPosition}
-use Rattle.lg_gram.specs.Rules.{Good, Belongs, HasLink, chosen_at, left_list, right_list, IsExclusive}
+use Rattle.lg_gram.specs.Linkages.{Linkage, IsLinkage, HasSmallCost, link_cmp}
+use Rattle.lg_gram.specs.Problems.{IsProblem, FitsProblem}
+use Rattle.lg_gram.specs.Rules.{Good, Belongs, chosen_at, left_list, right_list, IsExclusive}
 use Rattle.lg_gram.specs.declared.disjunct.Disjunct.{Disjunct}
 use Rattle.lg_gram.specs.declared.linkage.Link.{Link}
 use Rattle.lg_forest.proofs.Once.{contains_here, contains_later, contains_none}

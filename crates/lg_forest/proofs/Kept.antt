@@ -1,11 +1,9 @@
 -- What workers keep is right, and so is what is known of them.
-use Rattle.std.proofs.Common.{◌≡◌, ℕ, ◌⊎◌, inl, inr, sym, ap, ◌∙◌, subst, List, [], ◌∷◌, ◌++◌, get_or, All, Contains, IfOk, IfErr}
+use Rattle.std.proofs.Common.{◌≡◌, ◌⊎◌, inl, inr, sym, subst, List, [], ◌∷◌, ◌++◌, All, Contains, IfOk, IfErr}
 use Rattle.std.specs.declared.result.Result.{Result}
 use Rattle.std.specs.declared.result.Result.TheVariants.{Ok, Err}
 use Rattle.std.proofs.lemmas.List.Elements.{All-push, All-same}
 use Rattle.lg_memo.specs.Entries.{AreRight}
-use Rattle.lg_gram.specs.Connectors.{Connector}
-use Rattle.lg_gram.specs.declared.disjunct.Disjunct.{Disjunct}
 use Rattle.lg_region.specs.Fronts.{Numbering, AreListsOf, all_fronts}
 use Rattle.lg_region.specs.Keys.{IsValidKey}
 use Rattle.lg_region.specs.declared.key.Key.{Key}

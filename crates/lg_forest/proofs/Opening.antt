@@ -1,26 +1,22 @@
 -- Openings: how they begin, grow and are kept, and what they tell of a region.
-use Rattle.std.proofs.Common.{◌≡◌, ◌↔◌, ℕ, ◌+◌, ◌<◌, ◌≤◌, ◌⊎◌, inl, inr, refl, sym, ap, ◌∙◌, subst, List, [], ◌∷◌, ◌++◌, length, Option, Some, None, IfSome, Contains, slice_get, arith}
+use Rattle.std.proofs.Common.{◌≡◌, ◌↔◌, ℕ, ◌+◌, ◌<◌, ◌≤◌, ◌⊎◌, inl, inr, refl, sym, ap, ◌∙◌, subst, List, [], ◌∷◌, ◌++◌, Some, None, IfSome, Contains, slice_get, arith}
 use Rattle.std.proofs.lemmas.Bool.{cases_lt}
 use Rattle.std.proofs.lemmas.List.Elements.{Contains-append_left, Contains-append_right, Contains-append_cases}
 use Rattle.std.specs.Map.{keys_of}
 use Rattle.lg_region.specs.Alike.{BeginsWith, HaveSameLeft, RegionsBeginAlike}
-use Rattle.lg_region.specs.Fronts.{AreListsOf, AreOnce, Numbering}
+use Rattle.lg_region.specs.Fronts.{AreListsOf, Numbering}
 use Rattle.lg_region.specs.Groups.{region_of_gap, IsGroup, StandsBefore, StandsIn}
 use Rattle.lg_region.specs.Keys.{IsAltOf, IsAltOfRegion}
-use Rattle.lg_region.specs.Openings.{AreApart, AreBeginnings, BeginsSo, GroupsOfWord, IsGapOf, IsIn, IsKeyOfGap, left_of}
-use Rattle.lg_region.specs.Ways.{AddsExactly}
+use Rattle.lg_region.specs.Openings.{AreBeginnings, BeginsSo, IsKeyOfGap, left_of}
 use Rattle.lg_region.specs.declared.key.Key.{Key}
 use Rattle.lg_region.specs.declared.alternative.Alt.{Alt}
 use Rattle.lg_region.specs.declared.alternative.Alt.TheVariants.{AllNull, Split as At}
 use Rattle.lg_region.specs.declared.group.Gap.{Gap}
 use Rattle.lg_region.specs.declared.group.Group.{Group}
 use Rattle.lg_region.specs.declared.opening.Beginning.{Beginning}
-use Rattle.lg_forest.specs.Demands.{AsksNext, HasLinkageUnder, left_key}
-use Rattle.lg_forest.specs.Demands.AsksNext.{left as next_left, right as next_right}
-use Rattle.lg_forest.specs.Forests.{IsLive, AreLive}
-use Rattle.lg_forest.specs.Halves.{AddsLive, AsksAmong, IsEnding}
+use Rattle.lg_forest.specs.Demands.{HasLinkageUnder, left_key}
 use Rattle.lg_forest.specs.Known.{AreKnown}
-use Rattle.lg_forest.specs.Opened.{AddsStarts, AsksLeft, IsAny, IsLiveLeft, IsLiveStart, IsMemory, IsOpening, IsStart, OpensWord, StandsAt, StartsSo}
+use Rattle.lg_forest.specs.Opened.{AsksLeft, IsAny, IsLiveLeft, IsMemory, IsOpening, IsStart, OpensWord, StandsAt, StartsSo}
 use Rattle.lg_forest.specs.Search.{Asked, IsTable}
 use Rattle.lg_forest.specs.declared.memory.Memory.{Memory}
 use Rattle.lg_forest.specs.declared.openings.Opening.{Opening}
@@ -33,6 +29,13 @@ use Rattle.lg_forest.proofs.Once.{contains_at, contains_none}
 
 abbrev Entries : Type 0
 Entries = List (Key × List Alt)
+
+-- what is read where nothing is
+abbrev pub no_beginning : Beginning
+no_beginning = record { nulls = 0; way = record { joint = None; near = 0; far = 0 } }
+
+pub same_begins : (n : Numbering) (gap : Gap) (group : Group) (xs ys : List Beginning) → xs ≡ ys → AreBeginnings n gap group ys → AreBeginnings n gap group xs
+same_begins n gap group xs ys e h = subst (AreBeginnings n gap group) (sym e) h
 
 -- ---- a table that only grew
 

@@ -1,6 +1,5 @@
 -- A linkage is known by what each position uses and by its set of links.
-use Rattle.std.proofs.Common.{◌≡◌, ◌↔◌, ℕ, zero, suc, ◌+◌, ◌<◌, ◌≤◌, ◌⊎◌, inl, inr, refl, sym, ap, ◌∙◌, subst, List, [], ◌∷◌, ◌++◌, take, length, get_or, Option, Some, None, IsSome, MatchOption, IfOk, Contains, slice_get, slice_index_or, Bool, true, is_eq, Ordering, Less, Equal, Greater, arith}
-use Rattle.std.specs.List.{AllByRecursion}
+use Rattle.std.proofs.Common.{◌≡◌, ◌↔◌, ℕ, suc, ◌+◌, ◌<◌, ◌≤◌, inl, inr, refl, sym, ap, ◌∙◌, subst, List, [], ◌∷◌, ◌++◌, take, length, get_or, Option, Some, None, IsSome, MatchOption, Contains, slice_get, slice_index_or, Bool, true, is_eq, Ordering, Less, Equal, Greater, arith}
 use Rattle.std.specs.Bool.{Decides, one_answer}
 use Rattle.std.specs.Cmp.{IsTotalOrder}
 use Rattle.std.specs.Ordering.{eq_by_cmp}
@@ -8,13 +7,13 @@ use Rattle.std.proofs.lemmas.Option.{get_or_from_slice_get, slice_get-get_or}
 use Rattle.std.specs.List.Sorted.{IsStrictlySortedBy}
 use Rattle.std.proofs.lemmas.Cmp.{tied_itself}
 use Rattle.std.proofs.lemmas.List.Elements.{All-contains, All-from_recursion, Contains-append_left, Contains-push, Contains-push_cases}
-use Rattle.std.proofs.lemmas.List.{get_or_past, take_all}
+use Rattle.std.proofs.lemmas.List.{take_all}
 use Rattle.std.proofs.lemmas.Map.Keys.{sorted_head, sorted_tail}
 use Rattle.std.proofs.Math.Seq.{take-suc}
 use Rattle.lg_gram.specs.Levels.{IsLevel, AreOfOneProblem}
 use Rattle.lg_gram.specs.Linkages.{Linkage, link_cmp, linkage_cmp}
 use Rattle.lg_gram.specs.Problems.{IsProblem}
-use Rattle.lg_gram.specs.Rules.{Belongs, HasLink, chosen_at}
+use Rattle.lg_gram.specs.Rules.{chosen_at}
 use Rattle.lg_gram.specs.declared.disjunct.Disjunct.{Disjunct}
 use Rattle.lg_gram.specs.declared.linkage.Link.{Link}
 use Rattle.lg_region.specs.Keys.{IsDisjunctAt}

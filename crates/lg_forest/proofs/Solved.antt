@@ -1,11 +1,11 @@
 -- What is in the table when the whole sentence was asked for.
-use Rattle.std.proofs.Common.{◌≡◌, ◌≢◌, ◌↔◌, ℕ, suc, ◌+◌, ◌<◌, ◌≤◌, ◌⊎◌, inl, inr, refl, sym, ap, ◌∙◌, subst, List, [], ◌∷◌, length, map, Contains, arith}
+use Rattle.std.proofs.Common.{◌≡◌, ◌≢◌, ◌↔◌, ℕ, suc, ◌+◌, ◌<◌, ◌≤◌, inl, inr, refl, sym, ap, ◌∙◌, subst, List, [], ◌∷◌, length, Contains, arith}
 use Rattle.std.proofs.lemmas.Bool.{cases_lt}
 use Rattle.std.proofs.lemmas.List.{length-map}
 use Rattle.std.specs.Map.{keys_of}
 use Rattle.lg_gram.specs.Connectors.{Connector}
 use Rattle.lg_gram.specs.Levels.{IsFewest}
-use Rattle.lg_gram.specs.Linkages.{Linkage, unlinked}
+use Rattle.lg_gram.specs.Linkages.{unlinked}
 use Rattle.lg_gram.specs.declared.disjunct.Disjunct.{Disjunct}
 use Rattle.lg_region.specs.Fronts.{Numbering, AreListsOf, AreOnce, all_fronts}
 use Rattle.lg_region.specs.Keys.{IsValidKey}

@@ -1,18 +1,18 @@
 -- The linkages under a key, spelled by its alternatives, and their drafts.
-use Rattle.std.proofs.Common.{◌≡◌, ◌↔◌, ℕ, ◌<◌, ◌⊎◌, inl, inr, refl, sym, ap, ◌∙◌, subst, List, [], ◌∷◌, length, map, Option, Some, None, IsSome, Contains, slice_get, slice_index_or, arith}
+use Rattle.std.proofs.Common.{◌≡◌, ◌↔◌, ℕ, ◌<◌, ◌⊎◌, inl, inr, refl, sym, ap, ◌∙◌, subst, List, [], ◌∷◌, length, map, Option, Some, None, IsSome, Contains}
 use Rattle.std.specs.List.{flat_map}
 use Rattle.std.proofs.lemmas.Bool.{cases_lt}
 use Rattle.std.proofs.lemmas.List.{get_or_past}
 use Rattle.lg_gram.specs.Connectors.{Connector}
 use Rattle.lg_gram.specs.Linkages.{Linkage}
-use Rattle.lg_gram.specs.Rules.{Belongs, HasLink, IsLinked, chosen_at}
+use Rattle.lg_gram.specs.Rules.{IsLinked, chosen_at}
 use Rattle.lg_gram.specs.declared.disjunct.Disjunct.{Disjunct}
 use Rattle.lg_gram.specs.declared.linkage.Link.{Link}
 use Rattle.lg_region.specs.Parts.{Region, Under, UnderWhole, part_of}
-use Rattle.lg_region.specs.Cuts.{Split, Alternative, all_null, split, IsAlternative, IsCut, Spells, SpelledBy, IsJoint, IsValid}
-use Rattle.lg_region.specs.Whole.{First, IsFirst, WholeAlternative, nothing, first, IsWholeAlternative, SpellsFirst, WholeSpelledBy}
+use Rattle.lg_region.specs.Cuts.{Split, Alternative, all_null, split, IsAlternative, Spells, SpelledBy, IsJoint, IsValid}
+use Rattle.lg_region.specs.Whole.{First, WholeAlternative, nothing, first, IsWholeAlternative, SpellsFirst, WholeSpelledBy}
 use Rattle.lg_region.specs.Laws.{RegionsAreCutOnce, SentencesAreCutOnce, CutsAreValid, PartsMakeLinkages, NumbersTellListsApart}
-use Rattle.lg_region.specs.Keys.{IsValidKey, IsAltOf, IsAltOfWhole, IsAltOfRegion, IsKeyOf, IsFirstOf, IsSplitOf, IsDisjunctAt, region_of_numbers}
+use Rattle.lg_region.specs.Keys.{IsValidKey, IsAltOf, IsAltOfRegion, IsKeyOf, IsFirstOf, IsSplitOf, IsDisjunctAt, region_of_numbers}
 use Rattle.lg_region.specs.declared.key.Joint.{Joint}
 use Rattle.lg_region.specs.declared.key.Key.{Key}
 use Rattle.lg_region.specs.declared.key.Key.TheVariants.{Whole, Region as Between}
@@ -20,7 +20,7 @@ use Rattle.lg_region.specs.declared.alternative.Alt.{Alt}
 use Rattle.lg_region.specs.declared.alternative.Alt.TheVariants.{AllNull, Split as At}
 use Rattle.lg_forest.specs.Demands.{HasLinkageUnder}
 use Rattle.lg_forest.specs.Forests.{IsLive}
-use Rattle.lg_forest.specs.Drafts.{Draft, UnderKey, IsDraftOf, AreDraftsOf, AreDraftsOfPart, IsJointOf, IsSpelled, IsSpelledOfWhole, IsSpelledOfRegion, LinkagesAreSpelled, joined, empty}
+use Rattle.lg_forest.specs.Drafts.{Draft, UnderKey, IsDraftOf, AreDraftsOf, AreDraftsOfPart, IsJointOf, IsSpelled, IsSpelledOfWhole, IsSpelledOfRegion, joined, empty}
 use Rattle.lg_forest.specs.declared.draft.Use.{Use}
 use Rattle.lg_forest.proofs.Once.{contains_here, contains_none, contains_cases, contains_map}
 use Rattle.lg_forest.proofs.Decide.{numbered}

@@ -13,17 +13,17 @@ use Rattle.lg_region.specs.declared.alternative.Alt.TheVariants.{AllNull, Split 
 use Rattle.lg_region.specs.declared.group.Gap.{Gap}
 use Rattle.lg_region.specs.declared.group.Group.{Group}
 use Rattle.lg_region.specs.declared.opening.Beginning.{Beginning}
-use Rattle.lg_forest.specs.Demands.{AsksNext, HasLinkageUnder, left_key}
+use Rattle.lg_forest.specs.Demands.{AsksNext, HasLinkageUnder}
 use Rattle.lg_forest.specs.Demands.AsksNext.{left as next_left, right as next_right}
 use Rattle.lg_forest.specs.Forests.{IsLive, AreLive}
 use Rattle.lg_forest.specs.Halves.{AddsLive, AsksAmong}
-use Rattle.lg_forest.specs.Opened.{AddsStarts, AsksLeft, IsAny, IsLiveLeft, IsLiveStart, IsOpening, IsStart, OpensWord, StandsAt, StartsSo}
+use Rattle.lg_forest.specs.Opened.{AddsStarts, AsksLeft, IsAny, IsLiveLeft, IsLiveStart, OpensWord, StandsAt, StartsSo}
 use Rattle.lg_forest.specs.Search.{Asked, AsksOf}
 use Rattle.lg_forest.specs.Search.AsksOf.{left as asks_left, right as asks_right}
 use Rattle.lg_forest.specs.declared.openings.Opening.{Opening}
 use Rattle.lg_forest.specs.declared.openings.Start.{Start}
 use Rattle.lg_forest.proofs.Asked.{asked_as, asked_then}
-use Rattle.lg_forest.proofs.Among.{Among, In, adds_as, adds_none, adds_one, adds_then, among_all, among_apart, among_next, among_none, alt_in, alt_out, begins_same, ending_left, from_none}
+use Rattle.lg_forest.proofs.Among.{Among, In, adds_as, adds_one, adds_then, among_all, among_next, alt_in, alt_out, begins_same, ending_left, from_none}
 use Rattle.lg_forest.proofs.Once.{contains_at}
 
 abbrev Entries : Type 0

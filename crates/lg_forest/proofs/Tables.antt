@@ -1,5 +1,5 @@
 -- What a hash table tells of its entries, where `==` at the keys tells whether they are the same.
-use Rattle.std.proofs.Common.{◌≡◌, ◌≢◌, ◌↔◌, ℕ, refl, sym, ap, ◌∙◌, subst, Bool, true, false, true≢false, List, [], ◌∷◌, ◌++◌, Option, Some, None, IsSome, MatchOption, ◌⊎◌, inl, inr, cond, if◌then◌else◌, is_some, ◌+◌, length, Contains, Bor, arith, rules}
+use Rattle.std.proofs.Common.{◌≡◌, ◌≢◌, ◌↔◌, refl, sym, ap, ◌∙◌, subst, Bool, true, false, true≢false, List, [], ◌∷◌, ◌++◌, Option, Some, None, IsSome, MatchOption, ◌⊎◌, inl, inr, cond, if◌then◌else◌, is_some, ◌+◌, length, Contains, Bor, arith, rules}
 use Rattle.std.specs.List.{filter}
 use Rattle.std.specs.Cmp.{IsEquivalence}
 use Rattle.std.specs.Bool.{Decides}

@@ -1,5 +1,5 @@
 -- What is asked for, and which alternatives are live, among some of a key.
-use Rattle.std.specs.Prelude.{◌≡◌, ℕ, List}
+use Rattle.std.specs.Prelude.{List}
 use Rattle.lg_region.specs.Fronts.{Numbering}
 use Rattle.lg_region.specs.Keys.{IsAltOf}
 use Rattle.lg_region.specs.Groups.{StandsIn}

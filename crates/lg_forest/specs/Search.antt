@@ -2,7 +2,6 @@
 use Rattle.std.specs.Prelude.{◌≡◌, ◌↔◌, ℕ, zero, suc, ◌+◌, ◌-◌, ◌^◌, ◌<◌, ◌≤◌, max, List, length, Option, None, Some, ◌⊎◌, IfSome, IsTrue}
 use Rattle.std.specs.List.{Contains}
 use Rattle.std.specs.Map.{keys_of}
-use Rattle.lg_gram.specs.Connectors.{Connector}
 use Rattle.lg_gram.specs.declared.disjunct.Disjunct.{Disjunct}
 use Rattle.lg_region.specs.Fronts.{Numbering}
 use Rattle.lg_region.specs.Keys.{IsValidKey, IsAltOf}

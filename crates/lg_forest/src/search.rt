@@ -334,14 +334,15 @@ fn open_group<L>(
     ensures left { OnOk result (IsLeft lists.entry.now table.new memory.old memory.new) }
     ensures steps { OnOk result (IsCounted 0 (steps.old + length memory.new.known) table.old (steps.new + length memory.old.known) table.new) }
 {
-    let begins = beginnings(alloc, lists, gap, group)?;
+    let found = beginnings(alloc, lists, gap, group)?;
+    let begins = found.as_slice();
     for index in 0..begins.len() {
-        let begin = begins[index];
+        let begin = &begins[index];
         let lkey = begin.key(gap, group);
         if visit(alloc, lists, table, memory, lkey, steps)? {
             starts.push(Start {
                 group: *group,
-                begin,
+                begin: *begin,
             })?;
         }
     }
@@ -460,11 +461,12 @@ fn explore_group<L>(
     ensures left { OnOk result (IsLeft lists.entry.now table.new memory.old memory.new) }
     ensures steps { OnOk result (IsCounted 0 (steps.old + length memory.new.known) table.old (steps.new + length memory.old.known) table.new) }
 {
-    let begins = beginnings(alloc, lists, gap, group)?;
+    let found = beginnings(alloc, lists, gap, group)?;
+    let begins = found.as_slice();
     for index in 0..begins.len() {
-        let begin = begins[index];
+        let begin = &begins[index];
         explore_beginning(
-            alloc, lists, table, memory, key, gap, group, &begin, live, steps,
+            alloc, lists, table, memory, key, gap, group, begin, live, steps,
         )?;
     }
     Ok(())

@@ -1,15 +1,10 @@
 -- Regions that begin with one list are cut alike on the left, wherever they end.
-use Rattle.std.proofs.Common.{◌≡◌, ◌≢◌, ℕ, ◌+◌, ◌<◌, ◌≤◌, List, length, get_or, [], refl, sym, ◌∙◌, ap, subst, Option, None, Some, Contains, arith}
-use Rattle.lg_gram.specs.Connectors.{Connector}
-use Rattle.lg_gram.specs.declared.disjunct.Disjunct.{Disjunct}
+use Rattle.std.proofs.Common.{◌≡◌, ℕ, ◌<◌, [], refl, sym, ◌∙◌, ap, subst, None, Some, arith}
 use Rattle.lg_region.specs.Alike.{BeginsWith, HaveSameLeft, RegionsBeginAlike}
 use Rattle.lg_region.specs.Cuts.{Split, IsCut}
 use Rattle.lg_region.specs.Fronts.{AreListsOf, Numbering, list_of}
 use Rattle.lg_region.specs.Groups.{region_of_gap, StandsBefore}
-use Rattle.lg_region.specs.Keys.{IsAltOfRegion, IsSplitOf}
-use Rattle.lg_region.specs.Parts.{Region}
-use Rattle.lg_region.specs.declared.key.Joint.{Joint}
-use Rattle.lg_region.specs.declared.key.Key.{Key}
+use Rattle.lg_region.specs.Keys.{IsAltOfRegion}
 use Rattle.lg_region.specs.declared.key.Key.TheVariants.{Region as Between}
 use Rattle.lg_region.specs.declared.alternative.Alt.{Alt}
 use Rattle.lg_region.specs.declared.alternative.Alt.TheVariants.{AllNull, Split as At}

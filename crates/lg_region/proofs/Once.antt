@@ -59,6 +59,9 @@ pub once_range : (a n : ℕ) → AreOnce (range_with_len a n)
 once_range a zero = once_none
 once_range a (suc n) = once_cons a (range_with_len (a + 1) n) (once_range (a + 1) n) (λ c. let r = range_out (a + 1) n a c in let b = r.0 in omega arith)
 
+pub exactly_same : {X : Type 0} {P : X → Type 0} (xs ys : List X) → xs ≡ ys → AreExactly ys P → AreExactly xs P
+exactly_same {X} {P} xs ys e h = subst (λ z. AreExactly z P) (sym e) h
+
 pub exactly_none : {X : Type 0} (P : X → Type 0) → ((x : X) → P x → ⊥) → AreExactly [] P
 exactly_none P n = record { each = λ x. (λ c. absurd (contains_none x c), λ p. absurd (n x p)); once = once_none }
 

@@ -4,7 +4,7 @@ use Rattle.lg_region.specs.Fronts.{AreListsOf, Numbering}
 use Rattle.lg_region.specs.Groups.{region_of_gap, IsKnownGap, StandsBefore, left_lead}
 use Rattle.lg_region.specs.Keys.{IsAltOfRegion}
 use Rattle.lg_region.specs.declared.alternative.Alt.{Alt}
-use Rattle.lg_region.specs.declared.alternative.Alt.TheVariants.{AllNull, Split as At}
+use Rattle.lg_region.specs.declared.alternative.Alt.TheVariants.{Split as At}
 use Rattle.lg_region.specs.declared.group.Gap.{Gap}
 
 -- the region begins at a position with a list that is not empty, no word of it is unlinked, and its disjuncts are found by that list

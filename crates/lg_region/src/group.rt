@@ -7,7 +7,7 @@ use crate::alternative::Alt;
 use crate::chains::Side;
 use crate::key::Key;
 use crate::lists::Lists;
-use crate::ways::{Way, set_ways, ways_between};
+use crate::ways::{Way, Ways, set_ways, ways_between};
 use lg_base::NoMemory;
 use std::alloc::Global;
 
@@ -60,7 +60,8 @@ pub(crate) fn push_group(
     ensures { OnOk result (AddsIn lists.entry.now gap.now group.now.word group.now.from group.now.to out.old.items out.new.items) }
 {
     lists.are_numbered();
-    let lefts = ways_between(alloc, lists, gap.llist, group.left, gap.llist == 0)?;
+    let ways = ways_between(alloc, lists, gap.llist, group.left, gap.llist == 0)?;
+    let lefts = ways.as_slice();
     if lefts.is_empty() {
         return Ok(());
     }
@@ -68,7 +69,7 @@ pub(crate) fn push_group(
     let least = gap.nulls.saturating_sub(gap.right - group.word - 1);
     let most = gap.nulls.min(group.word - gap.left - 1);
     for nulls in least..most + 1 {
-        push_splits(gap, group.word, nulls, &lefts, &rights, out)?;
+        push_splits(gap, group.word, nulls, lefts, &rights, out)?;
     }
     Ok(())
 }
@@ -85,7 +86,7 @@ pub(crate) fn rights(
     ensures { IfOk result (λ rights. AreExactly rights.items (IsRightOf lists.entry.now gap.now group.now)) }
 {
     let mut rights = Vec::new(alloc);
-    let mut ways = Vec::new(alloc);
+    let mut ways = Ways::new(alloc);
     let mut number = group.from;
     while number < group.to {
         let sides = lists.sides(group.word, number);

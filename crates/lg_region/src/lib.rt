@@ -25,4 +25,6 @@ pub use law::{
     parts_make_linkages, regions_are_cut_once, regions_begin_alike, sentences_are_cut_once,
 };
 pub use lists::Lists;
-pub use opening::{Beginning, Groups, beginnings, gap_of, groups_at, groups_of, push_endings};
+pub use opening::{
+    Beginning, Beginnings, Groups, beginnings, gap_of, groups_at, groups_of, push_endings,
+};

@@ -12,6 +12,7 @@ use crate::key::Key;
 use crate::lists::Lists;
 use crate::ways::{Way, has_way, ways_between};
 use lg_base::NoMemory;
+use smallvec::SmallVec;
 use std::alloc::Global;
 
 /// A region, and the groups of disjuncts that can cut it.
@@ -23,11 +24,14 @@ pub struct Groups {
 
 /// How the alternatives of a group begin that have one left key: how the two left lists go on, and how many words are unlinked on
 /// the left.
-#[derive(Clone, Copy, Debug)]
+#[derive(Clone, Copy, Debug, Default)]
 pub struct Beginning {
     pub nulls: u32,
     pub way: Way,
 }
+
+/// Beginnings, of which most groups have few.
+pub type Beginnings = SmallVec<Beginning, 4>;
 
 impl Beginning {
     /// The left key.
@@ -141,30 +145,31 @@ pub fn beginnings(
     lists: &Lists<'_>,
     gap: &Gap,
     group: &Group,
-) -> Result<Vec<Beginning>, NoMemory>
+) -> Result<Beginnings, NoMemory>
     requires gap { IsKnownGap lists.now gap.now }
     requires group { IsGroup lists.now gap.now group.now }
     ensures { IfOk result (λ begins. AreBeginnings lists.entry.now gap.now group.now begins.items) }
 {
     lists.are_numbered();
-    let mut begins = Vec::new(alloc);
+    let mut begins = Beginnings::new(alloc);
     let found = has_right(lists, gap, group);
     if !found {
         return Ok(begins);
     }
-    let lefts = ways_between(alloc, lists, gap.llist, group.left, gap.llist == 0)?;
+    let ways = ways_between(alloc, lists, gap.llist, group.left, gap.llist == 0)?;
+    let lefts = ways.as_slice();
     if lefts.is_empty() {
         return Ok(begins);
     }
     let least = gap.nulls.saturating_sub(gap.right - group.word - 1);
     let most = gap.nulls.min(group.word - gap.left - 1);
     for nulls in least..most + 1 {
-        push_beginnings(nulls, &lefts, &mut begins)?;
+        push_beginnings(nulls, lefts, &mut begins)?;
     }
     Ok(begins)
 }
 
-fn push_beginnings(nulls: u32, lefts: &[Way], begins: &mut Vec<Beginning>) -> Result<(), NoMemory>
+fn push_beginnings(nulls: u32, lefts: &[Way], begins: &mut Beginnings) -> Result<(), NoMemory>
     ensures { OnOk result (begins.new.items ≡ begins.old.items ++ map (begins_at nulls) lefts.now) }
 {
     for way in lefts {

@@ -7,15 +7,19 @@ use crate::key::Joint;
 use crate::lists::Lists;
 use lg_base::NoMemory;
 use lg_gram::{Connector, matches};
+use smallvec::SmallVec;
 use std::alloc::Global;
 
 /// The joint between the last connectors of two lists, or none, and the numbers of the lists behind it.
-#[derive(Clone, Copy, Debug)]
+#[derive(Clone, Copy, Debug, Default)]
 pub struct Way {
     pub joint: Option<Joint>,
     pub near: u32,
     pub far: u32,
 }
+
+/// Ways, of which most pairs of lists have few.
+pub(crate) type Ways = SmallVec<Way, 4>;
 
 /// The end of a list but the empty one: its number, its last place with the connector there, and the number of the list
 /// without it.
@@ -66,12 +70,12 @@ pub(crate) fn ways_between(
     near: u32,
     far: u32,
     apart: bool,
-) -> Result<Vec<Way>, NoMemory>
+) -> Result<Ways, NoMemory>
     requires near { near ≤ length lists.now.lists }
     requires far { far ≤ length lists.now.lists }
     ensures { IfOk result (λ ways. AreExactly ways.items (IsWayOf lists.entry.now.lists near far apart)) }
 {
-    let mut ways = Vec::new(alloc);
+    let mut ways = Ways::new(alloc);
     set_ways(lists, near, far, apart, &mut ways)?;
     Ok(ways)
 }
@@ -101,7 +105,7 @@ pub(crate) fn set_ways(
     near: u32,
     far: u32,
     apart: bool,
-    ways: &mut Vec<Way>,
+    ways: &mut Ways,
 ) -> Result<(), NoMemory>
     requires near { near ≤ length lists.now.lists }
     requires far { far ≤ length lists.now.lists }
@@ -121,7 +125,7 @@ pub(crate) fn set_ways(
 }
 
 // The ways on with a joint.
-fn push_joints(lists: &Lists<'_>, near: u32, far: u32, ways: &mut Vec<Way>) -> Result<(), NoMemory>
+fn push_joints(lists: &Lists<'_>, near: u32, far: u32, ways: &mut Ways) -> Result<(), NoMemory>
     requires near { near ≤ length lists.now.lists }
     requires far { far ≤ length lists.now.lists }
     ensures { OnOk result (AddsExactly ways.old.items ways.new.items (IsWayOf lists.entry.now.lists near far false)) }
@@ -138,7 +142,7 @@ fn push_joints(lists: &Lists<'_>, near: u32, far: u32, ways: &mut Vec<Way>) -> R
     push_joined(ways, &first, &second)
 }
 
-fn push_joined(ways: &mut Vec<Way>, near: &End, far: &End) -> Result<(), NoMemory>
+fn push_joined(ways: &mut Ways, near: &End, far: &End) -> Result<(), NoMemory>
     ensures { OnOk result (ways.new.items ≡ ways.old.items ++ joined_ways near.now far.now) }
 {
     let joint = Joint {
@@ -152,7 +156,7 @@ fn push_joined(ways: &mut Vec<Way>, near: &End, far: &End) -> Result<(), NoMemor
     Ok(())
 }
 
-fn push_with(ways: &mut Vec<Way>, joint: Joint, near: u32, rests: &[u32]) -> Result<(), NoMemory>
+fn push_with(ways: &mut Ways, joint: Joint, near: u32, rests: &[u32]) -> Result<(), NoMemory>
     ensures { OnOk result (ways.new.items ≡ ways.old.items ++ map (way_of joint near) rests.now) }
 {
     for rest in rests {

@@ -1,4 +1,4 @@
-use Rattle.std.proofs.Common.{◌≡◌, map, take, List}
+use Rattle.std.proofs.Common.{◌≡◌, map, take}
 use Rattle.std.specs.List.{flat_map}
 use Rattle.lg_forest.specs.Drafts.{joined, Draft}
 use Rattle.lg_forest.proofs.draft.join_all.Given as goal

@@ -1,4 +1,4 @@
-use Rattle.std.proofs.Common.{◌≡◌, ℕ, suc, ◌+◌, ◌<◌, inl, inr, refl, sym, subst, ap, ◌∙◌, true, false, true≢false, arith}
+use Rattle.std.proofs.Common.{◌≡◌, suc, ◌+◌, inl, inr, refl, sym, subst, ◌∙◌, true≢false, arith}
 use Rattle.std.proofs.lemmas.Bool.{cases_lt}
 use Rattle.lg_region.specs.declared.key.Key.TheVariants.{Whole}
 use Rattle.lg_forest.specs.Demands.{HasLinkageUnder}

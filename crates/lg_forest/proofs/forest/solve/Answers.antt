@@ -1,13 +1,10 @@
-use Rattle.std.proofs.Common.{◌≡◌, ◌+◌, ◌≤◌, ap, suc, subst, sym, refl, length, arith}
+use Rattle.std.proofs.Common.{◌+◌, ◌≤◌, ap, subst, sym, length, arith}
 use Rattle.lg_region.specs.Fronts.{AreListsOf}
-use Rattle.lg_region.specs.declared.key.Key.TheVariants.{Whole}
 use Rattle.lg_forest.specs.Demands.{IsDemanded}
 use Rattle.lg_forest.specs.Forests.{CountsKeys}
-use Rattle.lg_forest.specs.Search.{IsCounted, IsWholeFrom}
-use Rattle.lg_forest.proofs.FirstMet.{first_met_same}
-use Rattle.lg_forest.proofs.Asked.{asked_as}
+use Rattle.lg_forest.specs.Search.{IsCounted}
 use Rattle.lg_forest.proofs.Opening.{memory_first}
-use Rattle.lg_forest.proofs.Solved.{is_forest, solved_counts, asked_one}
+use Rattle.lg_forest.proofs.Solved.{is_forest, solved_counts}
 use Rattle.lg_forest.proofs.forest.solve.Goals as goal
 
 pub returns-clause-forest : goal.returns-clause-forest

@@ -1,4 +1,4 @@
-use Rattle.std.proofs.Common.{◌≡◌, ℕ, Some, Contains, slice_get, get_or, refl, arith}
+use Rattle.std.proofs.Common.{◌≡◌, Some, slice_get, get_or, refl, arith}
 use Rattle.lg_gram.specs.declared.disjunct.Disjunct.{Disjunct}
 use Rattle.lg_forest.specs.declared.draft.Use.{Use}
 use Rattle.lg_forest.proofs.Once.{each_more, each_all}

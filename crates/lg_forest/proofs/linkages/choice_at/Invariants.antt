@@ -1,4 +1,4 @@
-use Rattle.std.proofs.Common.{◌≡◌, ℕ, Some, take, Contains, slice_get}
+use Rattle.std.proofs.Common.{◌≡◌, Some, take, Contains, slice_get}
 use Rattle.lg_gram.specs.declared.disjunct.Disjunct.{Disjunct}
 use Rattle.lg_forest.specs.declared.draft.Use.{Use}
 use Rattle.lg_forest.proofs.linkages.choice_at.Given as goal

@@ -1,4 +1,4 @@
-use Rattle.std.proofs.Common.{◌≡◌, ◌+◌, ◌∙◌, suc, arith}
+use Rattle.std.proofs.Common.{◌+◌, ◌∙◌, arith}
 use Rattle.lg_forest.proofs.SameLinkage.{choice_shown, chosen_more}
 use Rattle.lg_forest.proofs.linkages.chosen_of.Goals as goal
 

@@ -1,5 +1,5 @@
-use Rattle.std.proofs.Common.{◌≡◌, ◌∙◌, subst, sym}
-use Rattle.lg_gram.specs.Linkages.{Linkage, IsLinkage}
+use Rattle.std.proofs.Common.{◌∙◌, subst, sym}
+use Rattle.lg_gram.specs.Linkages.{IsLinkage}
 use Rattle.lg_forest.specs.Drafts.{IsDraftOf}
 use Rattle.lg_forest.proofs.GoodLinkage.{good_linkage}
 use Rattle.lg_forest.proofs.SameLinkage.{linkage_drafted, of_some}

@@ -1,4 +1,4 @@
-use Rattle.std.proofs.Common.{◌≡◌, ◌+◌, ◌++◌, ◌∷◌, [], sym, subst, take, arith}
+use Rattle.std.proofs.Common.{◌+◌, sym, subst, take, arith}
 use Rattle.lg_forest.specs.Drafts.{HaveDrafts}
 use Rattle.lg_forest.proofs.SameLinkage.{have_more}
 use Rattle.lg_forest.proofs.linkages.linkages_of.Goals as goal

@@ -1,4 +1,5 @@
-use Rattle.std.proofs.Common.{◌≢◌, ◌<◌, inl, inr, refl, List, [], ◌∷◌, ◌++◌, ◌≡◌, ◌↔◌, ◌+◌, ◌∙◌, true≢false, Option, subst, sym, ap, Some, IsTrue, IfOk, OnOk, IfSome, length, take, slice_get, Contains, map, arith, rules}
+use Rattle.std.proofs.Common.{◌≢◌, inl, inr, refl, [], ◌≡◌, ◌↔◌, ◌+◌, ◌∙◌, true≢false, Option, subst, sym, ap, Some, IsTrue, IfOk, OnOk, IfSome, length, take, slice_get, get_or, Contains, map, arith, rules}
+use Rattle.std.proofs.lemmas.Option.{slice_get-get_or}
 use Rattle.lg_region.specs.Keys.{kept}
 use Rattle.lg_region.specs.Small.{full}
 use Rattle.lg_forest.specs.Demands.{HasLinkageUnder, left_key}
@@ -8,20 +9,19 @@ use Rattle.lg_region.specs.declared.key.Key.{Key}
 use Rattle.lg_region.specs.declared.alternative.Alt.TheVariants.{Split as At}
 use Rattle.lg_forest.proofs.Asked.{live_decides, not_there, asked_added, asked_as, asked_more, asked_all, asked_left, asked_both, ok_as, on_ok_as, last_kept, alt_at, exact}
 use Rattle.lg_forest.proofs.Flags.{Flags, kept_live, flags_long, flags_more, all_flags}
-use Rattle.lg_forest.specs.Halves.{AddsLive, AsksAmong, IsEnding}
+use Rattle.lg_forest.specs.Halves.{AddsLive, IsEnding}
 use Rattle.lg_forest.proofs.Among as part
 use Rattle.lg_forest.proofs.Among.{Among, In}
 use Rattle.lg_region.specs.declared.alternative.Alt.{Alt}
-use Rattle.lg_region.specs.Fronts.{AreOnce}
 use Rattle.lg_region.specs.Alike.{BeginsWith}
-use Rattle.lg_region.specs.Openings.{AreGroups, left_of}
+use Rattle.lg_region.specs.Openings.{left_of}
 use Rattle.lg_region.specs.declared.opening.Beginning.{Beginning}
-use Rattle.lg_forest.specs.Opened.{AsksLeft, IsAny, IsLeft, IsMemory, IsOpening, StandsAt, StartsSo}
+use Rattle.lg_forest.specs.Opened.{AsksLeft, IsAny, IsMemory, IsOpening, StandsAt, StartsSo}
 use Rattle.lg_region.specs.Ways.{AddsExactly}
 use Rattle.lg_forest.proofs.Once.{contains_at}
 use Rattle.lg_forest.proofs.search.+search.Goals as goal
 use Rattle.lg_forest.proofs.search.+search.Goals.{explore_beginning-then-branch+in_ok-push, explore_beginning-else-branch, open_group-then-branch+in_ok-push, open_group-else-branch, open-in-Some, open-in-None}
-use Rattle.lg_forest.proofs.Opening.{memory_added, none_starts, opening_kept, opening_new, opening_some, word_opened, words_all, words_first, words_next}
+use Rattle.lg_forest.proofs.Opening.{memory_added, no_beginning, none_starts, opening_kept, opening_new, opening_some, same_begins, word_opened, words_all, words_first, words_next}
 use Rattle.lg_forest.proofs.Starting.{IsOfGroup, OfFirst, SoFar, opening_asked, opening_live, start_asked, group_asked, group_started, group_there, groups_apart, groups_started, left_asked, lefts_as, lefts_then, start_dropped, start_kept, at_word, word_started}
 
 same_key : (k m : Key) → ◌≡◌ {A = Option Key} (Some k) (Some m) → k ≡ m
@@ -172,19 +172,18 @@ explore_gap-explore_groups-requires g t c κs within =
 
 pub open_group-loop-index-init : goal.open_group-loop-index-init
 open_group-loop-index-init g t c = record {
-  starts = part.adds_none c.args.starts.now.items _ (λ s (u, m, v). part.among_none (λ (b : Beginning) (d : Beginning). b ≡ d) c.in_ok-begins.begins.items s.begin m);
-  asked = part.asked_start c.args.lists.now _ c.args.table.now c.requires.table (λ k m. part.among_none (λ (b : Beginning) (k : Key). left_of c.args.gap.now c.args.group.now b ≡ k) c.in_ok-begins.begins.items k m);
+  starts = part.adds_none c.args.starts.now.items _ (λ s (u, m, v). part.among_none (λ (b : Beginning) (d : Beginning). b ≡ d) c.as_slice-begins.result.now s.begin m);
+  asked = part.asked_start c.args.lists.now _ c.args.table.now c.requires.table (λ k m. part.among_none (λ (b : Beginning) (k : Key). left_of c.args.gap.now c.args.group.now b ≡ k) c.as_slice-begins.result.now k m);
   left = record { known = c.requires.known; fewer = omega arith };
   steps = omega arith;
 }
 
 pub open_group-visit-requires : goal.open_group-visit-requires
 open_group-visit-requires g t c κs within =
-    let end : c.len-index-end.result ≡ length c.in_ok-begins.begins.items = c.len-index-end.ensures ∙ c.in_ok-begins.begins.ok.0 in
     let test = c.loop-index-test.true in
-    let at = part.at_of c.in_ok-begins.begins.items c.loop-index.index c.index.result.now (omega arith) c.index.ensures in
-    let of = c.in_ok-begins.ensures.each c.index.result.now (contains_at c.in_ok-begins.begins.items c.loop-index.index c.index.result.now at) in
-    let valid = part.left_valid c.args.lists.now c.args.key c.args.gap.now c.args.group.now c.index.result.now c.key-lkey.result c.requires.decided c.requires.key c.requires.is_key c.key-lkey.ensures of in
+    let at = slice_get-get_or c.as_slice-begins.result.now c.loop-index.index no_beginning (omega arith) in
+    let of = (same_begins c.args.lists.now c.args.gap.now c.args.group.now _ _ c.as_slice-begins.ensures c.in_ok-found.ensures).each (get_or c.as_slice-begins.result.now c.loop-index.index no_beginning) (contains_at c.as_slice-begins.result.now c.loop-index.index (get_or c.as_slice-begins.result.now c.loop-index.index no_beginning) at) in
+    let valid = part.left_valid c.args.lists.now c.args.key c.args.gap.now c.args.group.now (get_or c.as_slice-begins.result.now c.loop-index.index no_beginning) c.key-lkey.result c.requires.decided c.requires.key c.requires.is_key c.key-lkey.ensures of in
     let narrow = valid.1 in
     let steps = c.loop-index.invariant.steps in
     let fewer = c.loop-index.invariant.left.fewer in
@@ -196,12 +195,11 @@ open_group-loop-index-preserved g t c =
     let n = c.args.lists.now in
     let gap = c.args.gap.now in
     let group = c.args.group.now in
-    let bs = c.in_ok-begins.begins.items in
+    let bs = c.as_slice-begins.result.now in
     let i = c.loop-index.index in
-    let b = c.index.result.now in
-    let end : c.len-index-end.result ≡ length bs = c.len-index-end.ensures ∙ c.in_ok-begins.begins.ok.0 in
+    let b = get_or bs i no_beginning in
     let test = c.loop-index-test.true in
-    let at = part.at_of bs i b (omega arith) c.index.ensures in
+    let at = slice_get-get_or bs i no_beginning (omega arith) in
     let before = c.loop-index.invariant.steps in
     let after = c.in_ok-visit.ensures.steps in
     let fewer = c.loop-index.invariant.left.fewer in
@@ -210,7 +208,7 @@ open_group-loop-index-preserved g t c =
     record {
       starts = elim c.if-branch.branch [
         | open_group-then-branch+in_ok-push w ↦ subst (λ z. AddsExactly c.args.starts.now.items z (OfFirst n gap group bs (i + 1))) (sym (ap (λ v. v.items) w.starts-is))
-            (start_kept n gap group bs i (i + 1) b (omega arith) at c.args.starts.now.items c.loop-index.starts.items _ (record { group = group; begin = b }) c.in_ok-begins.ensures.once refl refl
+            (start_kept n gap group bs i (i + 1) b (omega arith) at c.args.starts.now.items c.loop-index.starts.items _ (record { group = group; begin = b }) (same_begins c.args.lists.now c.args.gap.now c.args.group.now _ _ c.as_slice-begins.ensures c.in_ok-found.ensures).once refl refl
             (subst (λ z. HasLinkageUnder n.positions n.lists z) key (c.in_ok-visit.ensures.found.0 w.if-branch.true)) w.in_ok-push.ensures.items c.loop-index.invariant.starts)
         | open_group-else-branch w ↦ subst (λ z. AddsExactly c.args.starts.now.items z (OfFirst n gap group bs (i + 1))) (sym (ap (λ v. v.items) w.starts-is))
             (start_dropped n gap group bs i (i + 1) b (omega arith) at c.args.starts.now.items c.loop-index.starts.items (λ l. true≢false (sym (c.in_ok-visit.ensures.found.1 (subst (λ z. HasLinkageUnder n.positions n.lists z) (sym key) l)) ∙ w.if-branch.false)) c.loop-index.invariant.starts)
@@ -222,17 +220,15 @@ open_group-loop-index-preserved g t c =
 
 pub open_group-returns-clause-starts : goal.open_group-returns-clause-starts
 open_group-returns-clause-starts g t c =
-    let bs = c.in_ok-begins.begins.items in
-    let end : c.len-index-end.result ≡ length bs = c.len-index-end.ensures ∙ c.in_ok-begins.begins.ok.0 in
+    let bs = c.as_slice-begins.result.now in
     let test = c.loop-index-test.false in
-    group_started c.args.lists.now c.args.key c.args.gap.now c.args.group.now c.requires.is_key bs c.in_ok-begins.ensures c.loop-index.index (omega arith) c.args.starts.now.items c.loop-index.starts.items c.loop-index.invariant.starts
+    group_started c.args.lists.now c.args.key c.args.gap.now c.args.group.now c.requires.is_key bs (same_begins c.args.lists.now c.args.gap.now c.args.group.now _ _ c.as_slice-begins.ensures c.in_ok-found.ensures) c.loop-index.index (omega arith) c.args.starts.now.items c.loop-index.starts.items c.loop-index.invariant.starts
 
 pub open_group-returns-clause-asked : goal.open_group-returns-clause-asked
 open_group-returns-clause-asked g t c =
-    let bs = c.in_ok-begins.begins.items in
-    let end : c.len-index-end.result ≡ length bs = c.len-index-end.ensures ∙ c.in_ok-begins.begins.ok.0 in
+    let bs = c.as_slice-begins.result.now in
     let test = c.loop-index-test.false in
-    group_asked c.args.lists.now c.args.key c.args.gap.now c.args.group.now c.requires.is_key bs c.in_ok-begins.ensures c.loop-index.index (omega arith) c.args.table.now c.loop-index.table c.loop-index.invariant.asked
+    group_asked c.args.lists.now c.args.key c.args.gap.now c.args.group.now c.requires.is_key bs (same_begins c.args.lists.now c.args.gap.now c.args.group.now _ _ c.as_slice-begins.ensures c.in_ok-found.ensures) c.loop-index.index (omega arith) c.args.table.now c.loop-index.table c.loop-index.invariant.asked
 
 pub open_word-loop-index-init : goal.open_word-loop-index-init
 open_word-loop-index-init g t c = record {
@@ -531,61 +527,57 @@ explore_beginning-returns-clause-asked g t c =
 
 pub explore_group-loop-index-init : goal.explore_group-loop-index-init
 explore_group-loop-index-init g t c = record {
-  asked = part.asked_start c.args.lists.now _ c.args.table.now c.requires.table (λ k (a, alt, m, o). part.among_none (IsEnding c.args.gap.now c.args.group.now) c.in_ok-begins.begins.items a m);
-  live = part.adds_none c.args.live.now.items _ (λ a (alt, m, l). part.among_none (IsEnding c.args.gap.now c.args.group.now) c.in_ok-begins.begins.items a m);
+  asked = part.asked_start c.args.lists.now _ c.args.table.now c.requires.table (λ k (a, alt, m, o). part.among_none (IsEnding c.args.gap.now c.args.group.now) c.as_slice-begins.result.now a m);
+  live = part.adds_none c.args.live.now.items _ (λ a (alt, m, l). part.among_none (IsEnding c.args.gap.now c.args.group.now) c.as_slice-begins.result.now a m);
   left = record { known = c.requires.known; fewer = omega arith };
   steps = omega arith;
 }
 
 pub explore_group-explore_beginning-requires : goal.explore_group-explore_beginning-requires
 explore_group-explore_beginning-requires g t c κs within =
-    let end : c.len-index-end.result ≡ length c.in_ok-begins.begins.items = c.len-index-end.ensures ∙ c.in_ok-begins.begins.ok.0 in
     let test = c.loop-index-test.true in
-    let at = part.at_of c.in_ok-begins.begins.items c.loop-index.index c.index.result.now (omega arith) c.index.ensures in
+    let at = slice_get-get_or c.as_slice-begins.result.now c.loop-index.index no_beginning (omega arith) in
     let steps = c.loop-index.invariant.steps in
     let room = c.requires.room in
     let fewer = c.loop-index.invariant.left.fewer in
-    (search rules, (search rules, (c.requires.decided, (c.requires.key, (c.requires.is_key, (c.requires.gap, (c.requires.group, (c.in_ok-begins.ensures.each c.index.result.now (contains_at c.in_ok-begins.begins.items c.loop-index.index c.index.result.now at), (c.loop-index.invariant.asked.is_table, (c.loop-index.invariant.left.known, omega arith))))))))))
+    (search rules, (search rules, (c.requires.decided, (c.requires.key, (c.requires.is_key, (c.requires.gap, (c.requires.group, ((same_begins c.args.lists.now c.args.gap.now c.args.group.now _ _ c.as_slice-begins.ensures c.in_ok-found.ensures).each (get_or c.as_slice-begins.result.now c.loop-index.index no_beginning) (contains_at c.as_slice-begins.result.now c.loop-index.index (get_or c.as_slice-begins.result.now c.loop-index.index no_beginning) at), (c.loop-index.invariant.asked.is_table, (c.loop-index.invariant.left.known, omega arith))))))))))
 
 pub explore_group-loop-index-preserved : goal.explore_group-loop-index-preserved
 explore_group-loop-index-preserved g t c =
     let n = c.args.lists.now in
-    let end : c.len-index-end.result ≡ length c.in_ok-begins.begins.items = c.len-index-end.ensures ∙ c.in_ok-begins.begins.ok.0 in
     let test = c.loop-index-test.true in
-    let at = part.at_of c.in_ok-begins.begins.items c.loop-index.index c.index.result.now (omega arith) c.index.ensures in
-    let bs = c.in_ok-begins.begins.items in
+    let at = slice_get-get_or c.as_slice-begins.result.now c.loop-index.index no_beginning (omega arith) in
+    let bs = c.as_slice-begins.result.now in
     let i = c.loop-index.index in
     let R = IsEnding c.args.gap.now c.args.group.now in
-    let step = part.among_next R bs i (i + 1) c.index.result.now (omega arith) at in
+    let step = part.among_next R bs i (i + 1) (get_or c.as_slice-begins.result.now c.loop-index.index no_beginning) (omega arith) at in
     let before = c.loop-index.invariant.steps in
     let after = c.in_ok-explore_beginning.ensures.steps in
     let fewer = c.loop-index.invariant.left.fewer in
     let fewest = c.in_ok-explore_beginning.ensures.left.fewer in
     record {
-      asked = part.asked_parts n c.args.key (Among R bs i) (R c.index.result.now) (Among R bs (i + 1)) step c.args.table.now c.loop-index.table c.explore_beginning.new.table c.loop-index.invariant.asked c.in_ok-explore_beginning.ensures.asked;
-      live = part.live_parts n c.args.key (Among R bs i) (R c.index.result.now) (Among R bs (i + 1)) step c.args.live.now.items c.loop-index.live.items c.explore_beginning.new.live.items
-          (part.among_apart R bs (part.begins_apart c.args.gap.now c.args.group.now bs c.in_ok-begins.ensures.once) i c.index.result.now at) c.loop-index.invariant.live c.in_ok-explore_beginning.ensures.live;
+      asked = part.asked_parts n c.args.key (Among R bs i) (R (get_or c.as_slice-begins.result.now c.loop-index.index no_beginning)) (Among R bs (i + 1)) step c.args.table.now c.loop-index.table c.explore_beginning.new.table c.loop-index.invariant.asked c.in_ok-explore_beginning.ensures.asked;
+      live = part.live_parts n c.args.key (Among R bs i) (R (get_or c.as_slice-begins.result.now c.loop-index.index no_beginning)) (Among R bs (i + 1)) step c.args.live.now.items c.loop-index.live.items c.explore_beginning.new.live.items
+          (part.among_apart R bs (part.begins_apart c.args.gap.now c.args.group.now bs (same_begins c.args.lists.now c.args.gap.now c.args.group.now _ _ c.as_slice-begins.ensures c.in_ok-found.ensures).once) i (get_or c.as_slice-begins.result.now c.loop-index.index no_beginning) at) c.loop-index.invariant.live c.in_ok-explore_beginning.ensures.live;
       left = record { known = c.in_ok-explore_beginning.ensures.left.known; fewer = omega arith };
       steps = omega arith;
     }
 
 pub explore_group-returns-clause-live : goal.explore_group-returns-clause-live
 explore_group-returns-clause-live g t c =
-    let bs = c.in_ok-begins.begins.items in
-    let end : c.len-index-end.result ≡ length bs = c.len-index-end.ensures ∙ c.in_ok-begins.begins.ok.0 in
+    let bs = c.as_slice-begins.result.now in
     let test = c.loop-index-test.false in
     let R = IsEnding c.args.gap.now c.args.group.now in
     part.live_same c.args.lists.now c.args.key (Among R bs c.loop-index.index) (In c.args.group.now)
-    (part.group_begun c.args.lists.now c.args.key c.args.gap.now c.args.group.now bs c.loop-index.index c.requires.is_key c.in_ok-begins.ensures (omega arith)) c.args.live.now.items c.loop-index.live.items c.loop-index.invariant.live
+    (part.group_begun c.args.lists.now c.args.key c.args.gap.now c.args.group.now bs c.loop-index.index c.requires.is_key (same_begins c.args.lists.now c.args.gap.now c.args.group.now _ _ c.as_slice-begins.ensures c.in_ok-found.ensures) (omega arith)) c.args.live.now.items c.loop-index.live.items c.loop-index.invariant.live
 
 pub explore_group-returns-clause-asked : goal.explore_group-returns-clause-asked
 explore_group-returns-clause-asked g t c =
-    let bs = c.in_ok-begins.begins.items in
-    let end : c.len-index-end.result ≡ length bs = c.len-index-end.ensures ∙ c.in_ok-begins.begins.ok.0 in
+    let bs = c.as_slice-begins.result.now in
     let test = c.loop-index-test.false in
     let R = IsEnding c.args.gap.now c.args.group.now in
     part.asked_same c.args.lists.now c.args.key (Among R bs c.loop-index.index) (In c.args.group.now)
-    (part.group_begun c.args.lists.now c.args.key c.args.gap.now c.args.group.now bs c.loop-index.index c.requires.is_key c.in_ok-begins.ensures (omega arith)) c.args.table.now c.loop-index.table c.loop-index.invariant.asked
+    (part.group_begun c.args.lists.now c.args.key c.args.gap.now c.args.group.now bs c.loop-index.index c.requires.is_key (same_begins c.args.lists.now c.args.gap.now c.args.group.now _ _ c.as_slice-begins.ensures c.in_ok-found.ensures) (omega arith)) c.args.table.now c.loop-index.table c.loop-index.invariant.asked
 
 pub explore_groups-explore_group-requires : goal.explore_groups-explore_group-requires
 explore_groups-explore_group-requires g t c κs within =

@@ -81,8 +81,8 @@ invariant-explore_groups-loop-index g l = record {
 -- the beginnings so far
 abbrev pub invariant-explore_group-loop-index : goal.invariant-explore_group-loop-index
 invariant-explore_group-loop-index g l = record {
-  asked : Asked l.lists (AsksAmong l.lists l.key (Among (IsEnding l.gap l.group) l.begins.items l.index)) l.fn.table l.table;
-  live : AddsLive l.lists l.key (Among (IsEnding l.gap l.group) l.begins.items l.index) l.fn.live.items l.live.items;
+  asked : Asked l.lists (AsksAmong l.lists l.key (Among (IsEnding l.gap l.group) l.begins l.index)) l.fn.table l.table;
+  live : AddsLive l.lists l.key (Among (IsEnding l.gap l.group) l.begins l.index) l.fn.live.items l.live.items;
   left : IsLeft l.lists l.table l.fn.memory l.memory;
   steps : IsCounted 0 (l.fn.steps + length l.memory.known) l.fn.table (l.steps + length l.fn.memory.known) l.table;
 }
@@ -130,8 +130,8 @@ invariant-open_word-loop-index g l = record {
 -- the beginnings of the group so far
 abbrev pub invariant-open_group-loop-index : goal.invariant-open_group-loop-index
 invariant-open_group-loop-index g l = record {
-  starts : AddsExactly l.fn.starts.items l.starts.items (OfFirst l.lists l.gap l.group l.begins.items l.index);
-  asked : Asked l.lists (LeftOfFirst l.gap l.group l.begins.items l.index) l.fn.table l.table;
+  starts : AddsExactly l.fn.starts.items l.starts.items (OfFirst l.lists l.gap l.group l.begins l.index);
+  asked : Asked l.lists (LeftOfFirst l.gap l.group l.begins l.index) l.fn.table l.table;
   left : IsLeft l.lists l.table l.fn.memory l.memory;
   steps : IsCounted 0 (l.fn.steps + length l.memory.known) l.fn.table (l.steps + length l.fn.memory.known) l.table;
 }

@@ -1,4 +1,3 @@
-use Rattle.std.proofs.Common.{arith}
 use Rattle.lg_forest.proofs.search.alts_of.Goals as goal
 
 pub returns-in-Some-clause-alts : goal.returns-in-Some-clause-alts

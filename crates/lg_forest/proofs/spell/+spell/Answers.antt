@@ -1,16 +1,15 @@
-use Rattle.std.proofs.Common.{◌≡◌, ◌+◌, subst, sym, ap, refl, IfSome, IfOk, Some, None, Option, Contains, [], ◌∷◌, List, map, ◌∙◌, arith, rules}
+use Rattle.std.proofs.Common.{◌≡◌, ◌+◌, subst, sym, ap, IfSome, IfOk, Contains, [], ◌∷◌, map, ◌∙◌, arith, rules}
 use Rattle.std.specs.List.{flat_map}
 use Rattle.std.specs.Map.{keys_of}
 use Rattle.lg_region.specs.Keys.{IsAltOf}
-use Rattle.lg_region.specs.declared.key.Key.{Key}
-use Rattle.lg_region.specs.declared.alternative.Alt.TheVariants.{AllNull, Split as At}
+use Rattle.lg_region.specs.declared.alternative.Alt.TheVariants.{Split as At}
 use Rattle.lg_forest.specs.Demands.{left_key, right_key}
 use Rattle.lg_forest.specs.Search.{alt_bound}
-use Rattle.lg_forest.specs.Drafts.{AreDraftsOf, AreDraftsOfPart, UnderKey, IsSpelled, HasAlt, Draft, empty, joined}
+use Rattle.lg_forest.specs.Drafts.{AreDraftsOf, AreDraftsOfPart, IsSpelled, HasAlt, Draft, empty, joined}
 use Rattle.lg_forest.specs.declared.draft.Use.{Use}
 use Rattle.lg_forest.proofs.Asked.{ok_as}
 use Rattle.lg_forest.proofs.Once.{contains_at}
-use Rattle.lg_forest.proofs.Forested.{SpelledBy, forest_valid, alt_in, alt_of, keys_in, drafts_none, drafts_more, drafts_all}
+use Rattle.lg_forest.proofs.Forested.{SpelledBy, forest_valid, alt_in, alt_of, keys_in, drafts_more, drafts_all}
 use Rattle.lg_forest.proofs.spell.+spell.Goals as goal
 
 pub drafts_of-drafts_of_part-requires : goal.drafts_of-drafts_of_part-requires

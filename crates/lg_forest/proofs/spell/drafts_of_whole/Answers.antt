@@ -1,7 +1,7 @@
-use Rattle.std.proofs.Common.{◌≡◌, sym, ap, subst, List, [], Contains, IfOk}
+use Rattle.std.proofs.Common.{sym, ap, subst, IfOk}
 use Rattle.lg_region.specs.declared.key.Key.TheVariants.{Whole}
 use Rattle.lg_region.specs.Parts.{UnderWhole}
-use Rattle.lg_forest.specs.Drafts.{AreDraftsOf, UnderKey}
+use Rattle.lg_forest.specs.Drafts.{AreDraftsOf}
 use Rattle.lg_forest.proofs.Forested.{whole_none}
 use Rattle.lg_forest.proofs.spell.drafts_of_whole.Goals as goal
 

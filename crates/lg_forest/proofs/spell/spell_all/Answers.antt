@@ -1,4 +1,4 @@
-use Rattle.std.proofs.Common.{◌≡◌, sym, subst, Contains}
+use Rattle.std.proofs.Common.{subst, Contains}
 use Rattle.lg_gram.specs.Levels.{IsLevel}
 use Rattle.lg_forest.specs.Drafts.{HaveDrafts}
 use Rattle.lg_forest.proofs.Asked.{both_ok}

@@ -1,4 +1,4 @@
-use Rattle.std.proofs.Common.{◌≡◌, arith, rules}
+use Rattle.std.proofs.Common.{rules}
 use Rattle.lg_forest.proofs.Asked.{alt_at}
 use Rattle.lg_forest.proofs.worker.+walking.Goals as goal
 

@@ -1,4 +1,4 @@
-use Rattle.std.proofs.Common.{◌≡◌, IfOk, rules}
+use Rattle.std.proofs.Common.{IfOk}
 use Rattle.lg_memo.specs.Steps.{IsFree}
 use Rattle.lg_forest.proofs.Back.{AreBack, both_back}
 use Rattle.lg_forest.proofs.workers.+halves.Goals as goal

@@ -1,4 +1,3 @@
-use Rattle.lg_memo.specs.Entries.{AreRight}
 use Rattle.lg_region.specs.declared.key.Key.{Key}
 use Rattle.lg_region.specs.declared.alternative.Alt.{Alt}
 use Rattle.std.proofs.Common.{List}

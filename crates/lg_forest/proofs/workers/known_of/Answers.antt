@@ -1,4 +1,4 @@
-use Rattle.std.proofs.Common.{◌≡◌, ◌<◌, ap, sym, subst, ◌∙◌, rules}
+use Rattle.std.proofs.Common.{◌<◌, ap, sym, subst, ◌∙◌}
 use Rattle.lg_memo.specs.Views.{has_number}
 use Rattle.lg_forest.specs.Known.{AreKept}
 use Rattle.lg_forest.proofs.Kept.{all_under}

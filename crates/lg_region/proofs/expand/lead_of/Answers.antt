@@ -1,6 +1,4 @@
-use Rattle.std.proofs.Common.{◌≡◌, ap}
 use Rattle.lg_region.specs.declared.chains.Side.TheVariants.{Left}
-use Rattle.lg_region.specs.declared.group.Lead.{Lead}
 use Rattle.lg_region.proofs.Expanding.{led_left}
 use Rattle.lg_region.proofs.expand.lead_of.Goals as goal
 

@@ -28,7 +28,7 @@ loop-number-preserved c =
       led = led_itself numbers gap.lead group.word (number + 1) c.next-number.result next;
       rights = rights_skip numbers gap group c.push_rights.new.rights.items (number + 1) c.next-number.result listed next
           (rights_more numbers gap group number c.sides-sides.result _ c.loop-number.rights.items c.push_rights.new.rights.items c.set_ways.new.ways.items
-          before test listed led.same c.sides-sides.ensures refl c.in_ok-set_ways.ensures (c.in_ok-push_rights.ensures ∙ ap (λ z. c.loop-number.rights.items ++ map (right_of number) z) c.deref.ensures.value) c.loop-number.invariant.rights);
+          before test listed led.same c.sides-sides.ensures refl c.in_ok-set_ways.ensures (c.in_ok-push_rights.ensures ∙ ap (λ z. c.loop-number.rights.items ++ map (right_of number) z) c.deref.ensures) c.loop-number.invariant.rights);
     }
 
 pub loop-number-smaller : goal.loop-number-smaller

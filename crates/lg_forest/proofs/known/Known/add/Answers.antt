@@ -1,6 +1,4 @@
-use Rattle.std.proofs.Common.{◌≡◌, ◌⊎◌, List, Some, subst, sym, Contains}
-use Rattle.lg_region.specs.declared.key.Key.{Key}
-use Rattle.lg_region.specs.declared.alternative.Alt.{Alt}
+use Rattle.std.proofs.Common.{◌≡◌, ◌⊎◌, subst, Contains}
 use Rattle.lg_forest.proofs.Tables.{put_in}
 use Rattle.lg_forest.proofs.known.Known.add.Goals as goal
 

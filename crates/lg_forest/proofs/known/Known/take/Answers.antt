@@ -1,6 +1,4 @@
-use Rattle.std.proofs.Common.{◌≡◌, ◌+◌, List, length, subst, Contains, MatchOption}
-use Rattle.lg_region.specs.declared.key.Key.{Key}
-use Rattle.lg_region.specs.declared.alternative.Alt.{Alt}
+use Rattle.std.proofs.Common.{◌≡◌, ◌+◌, length, subst, Contains, MatchOption}
 use Rattle.lg_forest.proofs.Tables.{taken, left_in}
 use Rattle.lg_forest.proofs.known.Known.take.Goals as goal
 

@@ -1,4 +1,4 @@
-use Rattle.std.proofs.Common.{◌≡◌, sym, subst, Contains, Some, None, Option, IfSome}
+use Rattle.std.proofs.Common.{subst, Contains, IfSome}
 use Rattle.lg_forest.proofs.Origins.{origin_eq, origins_same, origins_laws, taken_some}
 use Rattle.lg_forest.proofs.Tables.{left_by}
 use Rattle.lg_forest.proofs.openings.Openings.take.Goals as goal

@@ -1,7 +1,6 @@
-use Rattle.std.proofs.Common.{◌≡◌, ◌≢◌, ◌↔◌, List, [], Contains, subst, sym, rules}
+use Rattle.std.proofs.Common.{◌≢◌, ◌↔◌, List, [], Contains, subst, rules}
 use Rattle.std.specs.Map.{keys_of}
 use Rattle.indexmap.proofs.CallerLemmas.{filter-RetainsPairs}
-use Rattle.lg_region.specs.Fronts.{AreOnce}
 use Rattle.lg_region.specs.declared.key.Key.{Key}
 use Rattle.lg_region.specs.declared.alternative.Alt.{Alt}
 use Rattle.lg_forest.proofs.Once.{once_from_distinct}
