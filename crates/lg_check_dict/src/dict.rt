@@ -1,4 +1,6 @@
 //! Outside values of subscripts, and that calls succeed: a dictionary of two entries and what it finds.
+//!
+//! To let go of a view and its dictionary takes long to prove at each exit, so the tests hand them to functions.
 ghost use Rattle.std.specs.Prelude.{◌≡◌, ◌≤◌, map, IfOk};
 ghost use Rattle.lg_gram.specs.Trees.{tree_of};
 ghost use Rattle.lg_gram.specs.Formulas.{LevelFits};
@@ -110,13 +112,22 @@ fn looks_up_words(rt: HostRuntime) -> Result<(), Fail> {
     Ok(())
 }
 
+fn longest(alloc: Global, dict: &Dict) -> usize {
+    View::of(alloc, dict).longest()
+}
+
 #[test]
 fn tells_the_longest_word(rt: HostRuntime) -> Result<(), Fail> {
+    let dict = sample_dict(rt.alloc())?;
+    assert_eq!(rt; longest(rt.alloc(), &dict), 5);
+    Ok(())
+}
+
+#[test]
+fn tells_that_no_word_is_long(rt: HostRuntime) -> Result<(), Fail> {
     let alloc = rt.alloc();
-    let dict = sample_dict(alloc)?;
-    assert_eq!(rt; View::of(alloc, &dict).longest(), 5);
-    let empty = Dict::of(alloc, Vec::new(alloc))?;
-    assert_eq!(rt; View::of(alloc, &empty).longest(), 0);
+    let dict = Dict::of(alloc, Vec::new(alloc))?;
+    assert_eq!(rt; longest(alloc, &dict), 0);
     Ok(())
 }
 
@@ -157,15 +168,16 @@ fn spaced(alloc: Global, words: &Texts) -> Result<Vec<u8>, Fail> {
     Ok(bytes)
 }
 
+fn find_words<R: Abort>(rt: &R, alloc: Global, view: &View) -> Result<(), Fail> {
+    expect_words(rt, alloc, view, b"run", b"run run.n run.v ")?;
+    expect_words(rt, alloc, view, b"run.v", b"run.v ")?;
+    expect_words(rt, alloc, view, b"sleep", b"")
+}
+
 #[test]
 fn finds_the_words_of_a_text(rt: HostRuntime) -> Result<(), Fail> {
-    let alloc = rt.alloc();
-    let dict = sample_dict(alloc)?;
-    let view = View::of(alloc, &dict);
-    expect_words(&rt, alloc, &view, b"run", b"run run.n run.v ")?;
-    expect_words(&rt, alloc, &view, b"run.v", b"run.v ")?;
-    expect_words(&rt, alloc, &view, b"sleep", b"")?;
-    Ok(())
+    let dict = sample_dict(rt.alloc())?;
+    find_words(&rt, rt.alloc(), &View::of(rt.alloc(), &dict))
 }
 
 // The formula of one connector.
@@ -185,15 +197,18 @@ fn put_two(alloc: Global, view: &mut View, caps: &[u8]) -> Result<(), Fail> {
     Ok(())
 }
 
+fn put_and_find<R: Abort>(rt: &R, alloc: Global, view: &mut View) -> Result<(), Fail> {
+    put_two(alloc, view, b"C")?;
+    expect_word(rt, view, b"walk", Some(b'C'));
+    expect_word(rt, view, b"run.long", Some(b'C'));
+    expect_word(rt, view, b"run.v", Some(b'A'));
+    expect_words(rt, alloc, view, b"run", b"run run.long run.n run.v ")
+}
+
 #[test]
 fn puts_words(rt: HostRuntime) -> Result<(), Fail> {
     let dict = sample_dict(rt.alloc())?;
-    let mut view = View::of(rt.alloc(), &dict);
-    put_two(rt.alloc(), &mut view, b"C")?;
-    expect_word(&rt, &view, b"walk", Some(b'C'));
-    expect_word(&rt, &view, b"run.long", Some(b'C'));
-    expect_word(&rt, &view, b"run.v", Some(b'A'));
-    expect_words(&rt, rt.alloc(), &view, b"run", b"run run.long run.n run.v ")
+    put_and_find(&rt, rt.alloc(), &mut View::of(rt.alloc(), &dict))
 }
 
 // Removes a word of the sample and one that is none.
@@ -203,13 +218,16 @@ fn remove_two(view: &mut View) -> Result<(), Fail> {
     Ok(())
 }
 
+fn remove_and_find<R: Abort>(rt: &R, alloc: Global, view: &mut View) -> Result<(), Fail> {
+    remove_two(view)?;
+    expect_word(rt, view, b"run.v", None);
+    expect_words(rt, alloc, view, b"run", b"run run.n ")
+}
+
 #[test]
 fn removes_words(rt: HostRuntime) -> Result<(), Fail> {
     let dict = sample_dict(rt.alloc())?;
-    let mut view = View::of(rt.alloc(), &dict);
-    remove_two(&mut view)?;
-    expect_word(&rt, &view, b"run.v", None);
-    expect_words(&rt, rt.alloc(), &view, b"run", b"run run.n ")
+    remove_and_find(&rt, rt.alloc(), &mut View::of(rt.alloc(), &dict))
 }
 
 fn set_macro(alloc: Global, view: &mut View) -> Result<(), Fail> {
@@ -219,10 +237,13 @@ fn set_macro(alloc: Global, view: &mut View) -> Result<(), Fail> {
     Ok(())
 }
 
+fn set_and_find<R: Abort>(rt: &R, alloc: Global, view: &mut View) -> Result<(), Fail> {
+    set_macro(alloc, view)?;
+    expect_macro(rt, view, b'C', 0)
+}
+
 #[test]
 fn sets_macros(rt: HostRuntime) -> Result<(), Fail> {
     let dict = sample_dict(rt.alloc())?;
-    let mut view = View::of(rt.alloc(), &dict);
-    set_macro(rt.alloc(), &mut view)?;
-    expect_macro(&rt, &view, b'C', 0)
+    set_and_find(&rt, rt.alloc(), &mut View::of(rt.alloc(), &dict))
 }

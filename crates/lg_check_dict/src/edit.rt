@@ -155,24 +155,29 @@ fn make_macro(alloc: Global, view: &mut View) -> Result<(), Fail> {
     make(alloc, view, &edit)
 }
 
-#[test]
-fn macros_are_put_in_as_they_are_now(rt: HostRuntime) -> Result<(), Fail> {
-    let alloc = rt.alloc();
-    let dict = sample(alloc)?;
-    let mut view = View::of(alloc, &dict);
-    make_word(alloc, &mut view, b"x")?;
-    make_macro(alloc, &mut view)?;
-    make_word(alloc, &mut view, b"y")?;
-    expect_word(&rt, &view, b"x", Some(b'A'));
-    expect_word(&rt, &view, b"y", Some(b'B'));
-    expect_word(&rt, &view, b"a", Some(b'A'));
+fn make_three<R: Abort>(rt: &R, alloc: Global, view: &mut View) -> Result<(), Fail> {
+    make_word(alloc, view, b"x")?;
+    make_macro(alloc, view)?;
+    make_word(alloc, view, b"y")?;
+    expect_word(rt, view, b"x", Some(b'A'));
+    expect_word(rt, view, b"y", Some(b'B'));
+    expect_word(rt, view, b"a", Some(b'A'));
     Ok(())
 }
 
-fn put_and_remove(alloc: Global, view: &mut View) -> Result<(), Fail> {
+#[test]
+fn macros_are_put_in_as_they_are_now(rt: HostRuntime) -> Result<(), Fail> {
+    let dict = sample(rt.alloc())?;
+    make_three(&rt, rt.alloc(), &mut View::of(rt.alloc(), &dict))
+}
+
+fn put_and_remove<R: Abort>(rt: &R, alloc: Global, view: &mut View) -> Result<(), Fail> {
     let edit = put(alloc, b"a", b"C")?;
     make(alloc, view, &edit)?;
-    remove(alloc, view, b"a.v")
+    remove(alloc, view, b"a.v")?;
+    expect_word(rt, view, b"a.v", None);
+    expect_word(rt, view, b"a", Some(b'C'));
+    Ok(())
 }
 
 fn remove(alloc: Global, view: &mut View, word: &[u8]) -> Result<(), Fail> {
@@ -182,13 +187,8 @@ fn remove(alloc: Global, view: &mut View, word: &[u8]) -> Result<(), Fail> {
 
 #[test]
 fn words_are_put_and_removed(rt: HostRuntime) -> Result<(), Fail> {
-    let alloc = rt.alloc();
-    let dict = sample(alloc)?;
-    let mut view = View::of(alloc, &dict);
-    put_and_remove(alloc, &mut view)?;
-    expect_word(&rt, &view, b"a.v", None);
-    expect_word(&rt, &view, b"a", Some(b'C'));
-    Ok(())
+    let dict = sample(rt.alloc())?;
+    put_and_remove(&rt, rt.alloc(), &mut View::of(rt.alloc(), &dict))
 }
 
 fn expect_refusal<R: Abort>(rt: &R, view: &View, edit: &Edit, want: EditRefusal)
@@ -197,33 +197,39 @@ fn expect_refusal<R: Abort>(rt: &R, view: &View, edit: &Edit, want: EditRefusal)
     assert!(rt; check(view, edit) == Err(want));
 }
 
+fn refuse_unknown<R: Abort>(rt: &R, alloc: Global, view: &View) -> Result<(), Fail> {
+    let edit = put_macro(alloc, b"x", b"<n>", 200)?;
+    expect_refusal(rt, view, &edit, EditRefusal::UnknownMacro(0));
+    Ok(())
+}
+
 #[test]
 fn unknown_macros_are_refused(rt: HostRuntime) -> Result<(), Fail> {
-    let alloc = rt.alloc();
-    let dict = sample(alloc)?;
-    let edit = put_macro(alloc, b"x", b"<n>", 200)?;
-    let want = EditRefusal::UnknownMacro(0);
-    expect_refusal(&rt, &View::of(alloc, &dict), &edit, want);
+    let dict = sample(rt.alloc())?;
+    refuse_unknown(&rt, rt.alloc(), &View::of(rt.alloc(), &dict))
+}
+
+fn refuse_deep<R: Abort>(rt: &R, alloc: Global, view: &View) -> Result<(), Fail> {
+    let edit = put_macro(alloc, b"x", b"<m>", 100)?;
+    expect_refusal(rt, view, &edit, EditRefusal::TooDeep(201));
     Ok(())
 }
 
 #[test]
 fn deep_expressions_are_refused(rt: HostRuntime) -> Result<(), Fail> {
-    let alloc = rt.alloc();
-    let dict = sample(alloc)?;
-    let edit = put_macro(alloc, b"x", b"<m>", 100)?;
-    let want = EditRefusal::TooDeep(201);
-    expect_refusal(&rt, &View::of(alloc, &dict), &edit, want);
+    let dict = sample(rt.alloc())?;
+    refuse_deep(&rt, rt.alloc(), &View::of(rt.alloc(), &dict))
+}
+
+fn refuse_removed<R: Abort>(rt: &R, alloc: Global, view: &mut View) -> Result<(), Fail> {
+    remove(alloc, view, b"a")?;
+    let edit = Edit::Del(Text::of(alloc, b"a")?);
+    expect_refusal(rt, view, &edit, EditRefusal::NoSuchWord);
     Ok(())
 }
 
 #[test]
 fn words_that_are_none_are_refused(rt: HostRuntime) -> Result<(), Fail> {
-    let alloc = rt.alloc();
-    let dict = sample(alloc)?;
-    let mut view = View::of(alloc, &dict);
-    remove(alloc, &mut view, b"a")?;
-    let edit = Edit::Del(Text::of(alloc, b"a")?);
-    expect_refusal(&rt, &view, &edit, EditRefusal::NoSuchWord);
-    Ok(())
+    let dict = sample(rt.alloc())?;
+    refuse_removed(&rt, rt.alloc(), &mut View::of(rt.alloc(), &dict))
 }
