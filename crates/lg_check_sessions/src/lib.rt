@@ -1,4 +1,4 @@
-//! Tests of listings, of the log, of the core's steps, of sessions and of whole runs: outside values, and calls that succeed.
+//! Tests of listings, of the log, of the core's steps and of sessions: outside values, and calls that succeed.
 #![tactic(auto)]
 
 #[cfg(test)]
@@ -7,8 +7,6 @@ mod answer;
 mod log;
 #[cfg(test)]
 mod meeting;
-#[cfg(test)]
-mod run;
 #[cfg(test)]
 mod session;
 #[cfg(test)]

@@ -72,55 +72,37 @@ fn expect<R: Abort>(
     Ok(())
 }
 
-#[test]
-fn a_session_lists_edits_lists_again_and_goes_on(rt: HostRuntime) -> Result<(), Fail> {
-    let alloc = rt.alloc();
-    let dict = dictionary(alloc)?;
-    let scripts = scripts(alloc)?;
-    let mut core = start(alloc, &scripts)?;
+// A session that lists, edits, lists again, and goes on.
+fn walk<R: Abort>(
+    rt: &R,
+    alloc: Global,
+    dict: &Dict,
+    scripts: &Scripts,
+    core: &mut Core,
+) -> Result<(), Fail>
+    requires scripts { AreScripts (script_views scripts.now) }
+    requires core { IsCore (script_views scripts.now) dict.now core.old }
+{
     let listed = note(1, 0, NoteKind::Listed);
-    expect(
-        &rt,
-        alloc,
-        &dict,
-        &scripts,
-        &mut core,
-        Event::Look(0),
-        listed,
-    )?;
+    expect(rt, alloc, dict, scripts, core, Event::Look(0), listed)?;
     let published = note(2, 1, NoteKind::Published);
-    expect(
-        &rt,
-        alloc,
-        &dict,
-        &scripts,
-        &mut core,
-        Event::Publish(0),
-        published,
-    )?;
+    expect(rt, alloc, dict, scripts, core, Event::Publish(0), published)?;
     let listed = note(3, 1, NoteKind::Listed);
-    expect(
-        &rt,
-        alloc,
-        &dict,
-        &scripts,
-        &mut core,
-        Event::Look(0),
-        listed,
-    )?;
+    expect(rt, alloc, dict, scripts, core, Event::Look(0), listed)?;
     let hold = Hold {
         version: 1,
         command: 3,
         mores: 0,
     };
     let paged = note(4, 1, NoteKind::Paged(hold));
-    expect(
-        &rt,
-        alloc,
-        &dict,
-        &scripts,
-        &mut core,
-        Event::More(0),
-        paged,
-    )
+    expect(rt, alloc, dict, scripts, core, Event::More(0), paged)
+}
+
+#[test]
+fn a_session_lists_edits_lists_again_and_goes_on(rt: HostRuntime) -> Result<(), Fail> {
+    let alloc = rt.alloc();
+    let dict = dictionary(alloc)?;
+    let scripts = scripts(alloc)?;
+    let mut core = start(alloc, &scripts)?;
+    walk(&rt, alloc, &dict, &scripts, &mut core)
 }
