@@ -1,8 +1,9 @@
 //! How the alternatives of a region begin, so that a caller need not make those whose left key it has no use for.
-ghost use Rattle.std.specs.Prelude.{◌≡◌, ◌≢◌, ◌+◌, ◌++◌, ◌<◌, ◌≤◌, ◌↔◌, [], length, map, slice_index_or, IfOk, IfSome, IsTrue, OnOk};
+ghost use Rattle.std.specs.Prelude.{◌≡◌, ◌≢◌, ◌+◌, ◌++◌, ◌<◌, ◌≤◌, ◌↔◌, [], length, map, slice_index_or, IfNone, IfOk, IfSome, IsTrue, OnOk};
 ghost use Rattle.lg_region.specs.Openings.{AreBeginnings, AreGroups, BeginsSo, GroupsOfWord, HasRight, IsGapOf, begins_at, left_of};
 ghost use Rattle.lg_region.specs.Groups.{IsGroup, IsKnownGap, StandsIn, region_of_gap};
 ghost use Rattle.lg_region.specs.Keys.{IsAltOfRegion, IsValidKey};
+ghost use Rattle.lg_region.specs.declared.group.Gap.{Gap as SeenGap};
 ghost use Rattle.lg_region.specs.Ways.{AddsExactly};
 
 use crate::alternative::Alt;
@@ -52,7 +53,8 @@ impl Beginning {
 /// empty. No memory.
 pub fn gap_of(lists: &Lists<'_>, key: Key) -> Option<Gap>
     requires { IsValidKey lists.now.positions lists.now.lists key }
-    ensures { IfSome result (IsGapOf lists.now key) }
+    ensures gap { IfSome result (IsGapOf lists.now key) }
+    ensures none { IfNone result ((gap : SeenGap) → IsGapOf lists.now key gap → ⊥) }
 {
     match key {
         Key::Whole { .. } => None,

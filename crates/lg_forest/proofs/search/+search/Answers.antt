@@ -152,7 +152,7 @@ pub explore-explore_gap-requires : goal.explore-explore_gap-requires
 explore-explore_gap-requires g t c κs within =
     let room = c.requires.room in
     let ticked = c.tick.ensures in
-    (search rules, (search rules, (c.requires.decided, (c.requires.key, (c.in-Some.ensures, (c.requires.table, (c.requires.known, omega arith)))))))
+    (search rules, (search rules, (c.requires.decided, (c.requires.key, (c.in-Some.ensures.gap, (c.requires.table, (c.requires.known, omega arith)))))))
 
 pub explore_gap-explore_opening-requires : goal.explore_gap-explore_opening-requires
 explore_gap-explore_opening-requires g t c κs within =

@@ -4,8 +4,8 @@ use Rattle.lg_region.proofs.opening.gap_of.Goals as goal
 use Rattle.lg_region.proofs.opening.gap_of.Goals.{else-llist-eq0-via-then-llist-eq0+else-rlist-eq0, else-llist-eq0-via-else-llist-eq0}
 
 -- what a valid key says of its ends and lists
-pub returns-else-llist-eq0 : goal.returns-else-llist-eq0
-returns-else-llist-eq0 c =
+pub returns-else-llist-eq0-clause-gap : goal.returns-else-llist-eq0-clause-gap
+returns-else-llist-eq0-clause-gap c =
     let positions = c.args.lists.now.positions in
     let lists = c.args.lists.now.lists in
     let k = subst (λ z. IsValidKey positions lists z) c.in-Region.is c.requires in
