@@ -7,7 +7,7 @@ FOLDER has `en.dict`, a dictionary of this program's format; `lp`, the same dict
 files `sentences-N.txt` with a sentence of N words a line. The program is the one that `bin/lgparse --build` builds. For each file
 it prints, for each sentence, the numbers of disjuncts before and after pruning (by a run that counts them, which is not timed), and the
 processor milliseconds and the megabytes of both programs beyond those that they take for the dictionary alone; and then the medians. Each
-figure is the least of three runs. A run ends after LIMIT seconds (60). With WORD, as `of`, that word is put into the middle of each
+figure is the least of three runs, and that of the dictionary alone, which is taken from all others, the least of fifteen. A run ends after LIMIT seconds (60). With WORD, as `of`, that word is put into the middle of each
 sentence, so that most of them have a word that stays unlinked.
 """
 import glob
@@ -25,6 +25,7 @@ PARSER = ["-cost-max=1000", "-short=254", "-limit=1000", "-postscript=0", "-grap
 
 
 RUNS = 3
+BASE_RUNS = 15
 
 
 def one_run(folder, command, words, limit):
@@ -56,10 +57,10 @@ def ours(folder, sentence, limit, *options, runs=RUNS):
     return measured(folder, [PROGRAM, "one", "--want", "10", *options, "en.dict", sentence], "", limit, runs)
 
 
-def theirs(folder, sentence, limit):
+def theirs(folder, sentence, limit, runs=RUNS):
     if shutil.which("link-parser") is None:
         return None
-    return measured(folder, ["link-parser", f"{folder}/lp", *PARSER], sentence + "\n", limit)
+    return measured(folder, ["link-parser", f"{folder}/lp", *PARSER], sentence + "\n", limit, runs)
 
 
 def beyond(run, base):
@@ -85,7 +86,7 @@ def with_word(sentence, word):
 def main():
     folder, limit = os.path.abspath(sys.argv[1]), float(sys.argv[2]) if len(sys.argv) > 2 else 60.0
     word = sys.argv[3] if len(sys.argv) > 3 else None
-    base = ours(folder, "", limit), theirs(folder, "", limit)
+    base = ours(folder, "", limit, runs=BASE_RUNS), theirs(folder, "", limit, runs=BASE_RUNS)
     print("dictionary alone:   lgparse", shown(base[0] and base[0][:2]), "  link-parser", shown(base[1] and base[1][:2]))
     for path in sorted(glob.glob(f"{folder}/sentences-*.txt")):
         both = []
