@@ -1,11 +1,12 @@
 //! Costs, which rank the linkages of a sentence.
-ghost use Rattle.std.specs.Prelude.{◌≡◌, ◌+ℤ◌, ◌++◌, ◌^◌, ◌<◌, ◌≤◌, ◌==◌, ℕ, List, OnOk, OnErr, IfOk, IfSome, string_bytes, unsigned_abs, position, length};
+ghost use Rattle.std.specs.Prelude.{◌≡◌, ◌+◌, ◌+ℤ◌, ◌++◌, [], ◌∷◌, ◌^◌, ◌<◌, ◌≤◌, ◌==◌, ℕ, List, OnOk, OnErr, IfOk, IfSome, unsigned_abs, position, length, drop, if◌then◌else◌};
 ghost use Rattle.std.specs.Option.{SomeIff};
 ghost use Rattle.std.specs.Str.Parse.{digits_value};
-ghost use Rattle.lg_base.specs.Costs.{IsWithinCosts, cost_text, sign_of, AreDigits, part_value, ReadsForm, ReadsSize, ReadsCost, read_cost, IsReadBack, HasOneCost, HasOneReading};
+ghost use Rattle.lg_base.specs.Costs.{IsWithinCosts, cost_text, thousandths_text, sign_of, AreDigits, part_value, ReadsForm, ReadsSize, ReadsCost, read_cost, IsReadBack, HasOneCost, HasOneReading};
 
 use crate::memory::NoMemory;
 use crate::printing::write_bytes;
+use itoa::write_digits;
 use std::alloc::Global;
 use std::marker::Model;
 
@@ -55,37 +56,74 @@ impl Cost {
 }
 
 impl Cost {
-    // The sign that is printed.
-    fn sign(self) -> &'static str
-        ensures { result.now ≡ sign_of self }
+    // Whether it is below zero.
+    fn is_negative(self) -> bool
+        ensures { sign_of self ≡ (if result then 45 ∷ [] else []) }
     {
-        if self.0 < 0 { "-" } else { "" }
+        self.0 < 0
     }
 
     // How many thousandths from zero.
     fn size(self) -> u64
-        ensures { result ≡ unsigned_abs self }
+        ensures value { result ≡ unsigned_abs self }
+        ensures within { result ≤ 10 ^ 16 }
     {
         self.0.unsigned_abs()
     }
 }
 
 /// Appends the printed cost: a `-` where it is below zero, the whole part, a point, and three digits.
-pub fn write_cost(alloc: Global, out: &mut Vec<u8>, cost: Cost) -> Result<(), NoMemory>
+pub fn write_cost(_alloc: Global, out: &mut Vec<u8>, cost: Cost) -> Result<(), NoMemory>
     ensures ok { OnOk result (out.new.items ≡ out.old.items ++ cost_text cost) }
     ensures err { OnErr result (out.new.items ≡ out.old.items) }
 {
-    let text = printed(alloc, cost)?;
-    write_bytes(out, text.as_bytes())
+    let mut text = [0; PRINTED];
+    let start = print(cost, &mut text);
+    write_bytes(out, &text[start..])
 }
 
-// The printed cost.
-fn printed(alloc: Global, cost: Cost) -> Result<String, NoMemory>
-    ensures { IfOk result (λ text. string_bytes text ≡ cost_text cost) }
+// The most bytes of a printed cost: a sign, 14 digits, a point and three digits.
+const PRINTED: usize = 19;
+
+// Where the point of a printed cost stands.
+const WHOLE: usize = 15;
+
+// Writes the printed cost at the end of the bytes, and tells where it begins.
+fn print(cost: Cost, text: &mut [u8; PRINTED]) -> usize
+    ensures within { result ≤ 19 }
+    ensures written { drop result text.new ≡ cost_text cost }
 {
-    let size = cost.size();
-    let text = format!(in alloc; "{}{}.{:03}", cost.sign(), size / 1000, size % 1000)?;
-    Ok(text)
+    let start = print_size(cost.size(), text);
+    if !cost.is_negative() {
+        return start;
+    }
+    text[start - 1] = b'-';
+    start - 1
+}
+
+// The same of so many thousandths, with no sign; there is room for one.
+fn print_size(size: u64, text: &mut [u8; PRINTED]) -> usize
+    requires { size ≤ 10 ^ 16 }
+    ensures room { 0 < result }
+    ensures within { result ≤ 15 }
+    ensures written { drop result text.new ≡ thousandths_text size }
+{
+    let part = size % 1000;
+    text[WHOLE..].copy_from_slice(&[
+        b'.',
+        digit(part / 100),
+        digit(part / 10 % 10),
+        digit(part % 10),
+    ]);
+    write_digits(size / 1000, text, WHOLE)
+}
+
+// The digit of a number below ten.
+fn digit(number: u64) -> u8
+    requires { number < 10 }
+    ensures { result ≡ 48 + number }
+{
+    b'0' + number as u8
 }
 
 // The most digits before the point, and after it.

@@ -12,7 +12,7 @@ ghost use Rattle.lg_base.specs.Sinks.{AppendsFront, HasWriteCause};
 use crate::files::{FileError, Files};
 use crate::sinks::{Sink, SinkFault};
 use std::alloc::Global;
-use std::io::{Read, Write};
+use std::io::{ErrorKind, Read, Write};
 use std::{fs, io, rt};
 
 /// What opens files by name.
@@ -81,6 +81,37 @@ fn faults_with(faults: u64, error: FileError) -> u64
     }
 }
 
+// How often a read or a write is tried that the system interrupts, as by a signal.
+const TRIES: u32 = 1_000;
+
+// Reads some of the bytes. A read that is interrupted is tried again.
+fn read_again<S: Read>(source: &mut S, buffer: &mut [u8]) -> io::Result<usize>
+    ensures bound { ReadsAtMost result buffer.new }
+    ensures bytes { ReadConsumes (S.remaining source.old) (S.remaining source.new) result buffer.new }
+{
+    for _ in 1..TRIES {
+        match source.read(buffer) {
+            Err(error) if error.kind() == ErrorKind::Interrupted => {}
+            answer => return answer,
+        }
+    }
+    source.read(buffer)
+}
+
+// Writes some of the bytes. A write that is interrupted is tried again.
+fn write_again<W: Write>(writer: &mut W, bytes: &[u8]) -> io::Result<usize>
+    ensures bound { WritesAtMost result bytes.now }
+    ensures bytes { WriteAppends (W.contents writer.old) (W.contents writer.new) result bytes.now }
+{
+    for _ in 1..TRIES {
+        match writer.write(bytes) {
+            Err(error) if error.kind() == ErrorKind::Interrupted => {}
+            answer => return answer,
+        }
+    }
+    writer.write(bytes)
+}
+
 // A reader with a count of its reads that failed for another cause than memory.
 #[derive(Drop)]
 struct Counted<S> {
@@ -96,7 +127,7 @@ impl<S: Read> Counted<S> {
         ensures counted { self.new.faults ≡ faults_after self.old.faults result }
         ensures limitless { IsErrOf result FileError.TooLong → ⊥ }
     {
-        match self.source.read(buffer) {
+        match read_again(&mut self.source, buffer) {
             Ok(count) => Ok(count),
             Err(cause) => {
                 let error = FileError::from(cause);
@@ -216,7 +247,7 @@ impl<W: Write> WriterSink<W> {
         ensures taken { IfOk result (λ count. (0 < count) × (count ≤ length bytes.now)) }
         ensures counted { self.new.faults ≡ (if is_err result then raised self.old.faults else self.old.faults) }
     {
-        match self.writer.write(bytes) {
+        match write_again(&mut self.writer, bytes) {
             Ok(0) | Err(_) => {
                 self.faults = self.faults.saturating_add(1);
                 Err(SinkFault)

@@ -1,5 +1,5 @@
 -- The letters of names.
-use Rattle.std.proofs.Common.{◌≡◌, ℕ, zero, suc, ◌+◌, ◌-◌, ◌<◌, ◌≤◌, Bool, true, false, List, [], ◌∷◌, ◌++◌, length, take, drop, replicate, refl, sym, ap, ◌∙◌, arith, append_assoc, length-append, length-take, ◌==◌, cond, Less, Greater}
+use Rattle.std.proofs.Common.{◌≡◌, ℕ, zero, suc, ◌+◌, ◌-◌, ◌<◌, ◌≤◌, Bool, true, false, List, [], ◌∷◌, ◌++◌, length, take, drop, replicate, refl, sym, subst, ap, ◌∙◌, arith, codes, decimal, append_assoc, length-append, length-take, ◌==◌, cond, Less, Greater}
 use Rattle.std.specs.Ordering.{nat_cmp, ordering_then, ordering_reverse}
 use Rattle.std.specs.Cmp.Lexicographic.{slice_cmp}
 use Rattle.std.proofs.lemmas.Cmp.{nat_list_cmp_total}
@@ -9,10 +9,11 @@ use mathlib.Core.Bool.{beq}
 use Rattle.std.specs.Cmp.Derive.{both_true}
 use Rattle.std.proofs.lemmas.List.{length-replicate, take_at, drop_at, drop-replicate}
 use Rattle.std.proofs.lemmas.Bool.Decides.{nat_tests}
+use Rattle.std.proofs.lemmas.Fmt.{length-decimal-le}
 use Rattle.std.specs.List.{list_all, prefix_len, suffix_len}
 use borrow.Rule.Slice.PartMut.{put_mid}
-use Rattle.lg_gram.specs.Limits.{LETTERS}
-use Rattle.lg_gram.specs.Names.{IsName, is_capital, is_subscript, is_written, NamesAreWritten, trimmed, STAR}
+use Rattle.lg_gram.specs.Limits.{LETTERS, JOINT_RANK, JOINT_PLACE}
+use Rattle.lg_gram.specs.Names.{Name, IsName, IsJoint, by_letters, by_joint, joint_text, joint_fits, is_capital, is_subscript, is_written, NamesAreWritten, trimmed, STAR}
 use Rattle.lg_gram.specs.Connectors.{Connector, name_of, connector_text, connector_cmp}
 use Rattle.lg_gram.specs.Stored.{IsStored, stored}
 
@@ -64,10 +65,11 @@ trimmed_written caps subs h =
     is_written_from caps (trimmed subs) parts.some (omega (arith, parts.few, length-take (length subs - suffix_len (λ b. b == STAR) subs) subs))
     parts.capitals (list_all-take is_subscript subs _ parts.subscripts)
 
--- a name that is written as it may be is stored so
-pub stored_so : (caps subs : List ℕ) → is_written caps subs ≡ true → trimmed subs ≡ subs → IsStored (stored (record { caps = caps; subs = subs }))
-stored_so caps subs h short =
-    let parts = written_parts caps subs h in
+-- a name is stored so
+stored_name : (n : Name) → IsName n → length n.caps + length n.subs ≤ 16 → IsStored (stored n)
+stored_name n is few =
+    let caps = n.caps in
+    let subs = n.subs in
     let zeros : List ℕ = replicate (16 - (length caps + length subs)) 0 in
     let first : take (length caps) (caps ++ subs ++ zeros) ≡ caps = rw append_assoc (take_at caps (subs ++ zeros) _ refl) in
     let second : take (length caps + length subs - length caps) (drop (length caps) (caps ++ subs ++ zeros)) ≡ subs =
@@ -75,37 +77,105 @@ stored_so caps subs h short =
     let padded : drop (length caps + length subs) (caps ++ subs ++ zeros) ≡ zeros =
     drop_at (caps ++ subs) zeros _ (length-append caps subs) in
     record {
-      is_name = record {
-        written = rw (first, second) h;
-        short = rw second short;
-      };
+      is_name = subst IsName (λ i. record { caps = sym first i; subs = sym second i }) is;
       ordered = omega arith;
-      fits = omega (arith, parts.few);
-      sized = omega (arith, parts.few, length-append (caps ++ subs) zeros, length-append caps subs, length-replicate {A = ℕ} (16 - (length caps + length subs)) 0);
+      fits = omega (arith, few);
+      sized = omega (arith, few, length-append (caps ++ subs) zeros, length-append caps subs, length-replicate {A = ℕ} (16 - (length caps + length subs)) 0);
       padded = padded;
     }
 
-capital_less : (b : ℕ) → is_capital b ≡ true → nat_cmp 64 b ≡ Less
-capital_less b h = grind (arith, nat_tests)
+pub stored_so : (caps subs : List ℕ) → is_written caps subs ≡ true → trimmed subs ≡ subs → IsStored (stored (record { caps = caps; subs = subs }))
+stored_so caps subs h short =
+    let parts = written_parts caps subs h in
+    stored_name (record { caps = caps; subs = subs }) (by_letters h short) (omega (arith, parts.few))
 
-below_capitals : (xs caps ys : List ℕ) → 0 < length caps → list_all is_capital caps ≡ true → Less ≡ slice_cmp nat_cmp (64 ∷ xs) (caps ++ ys)
-below_capitals xs [] ys some all = absurd (omega arith)
-below_capitals xs (b ∷ caps) ys some all =
-    let first = and_parts (is_capital b) (list_all is_capital caps) all in
-    let less : nat_cmp 64 b ≡ Less = capital_less b first.0 in
-    ap (λ o. ordering_then o (slice_cmp nat_cmp xs (caps ++ ys))) (sym less)
+joint_numbers : (rank start joint : ℕ) → joint_fits rank start joint ≡ true → (rank ≤ JOINT_RANK) × ((start ≤ JOINT_PLACE) × (joint ≤ JOINT_PLACE))
+joint_numbers rank start joint h = (grind (arith, nat_tests), (grind (arith, nat_tests), grind (arith, nat_tests)))
+
+length-joint : (rank start joint : ℕ) → length (joint_text rank start joint) ≡ 4 + length (decimal rank) + length (decimal start) + length (decimal joint)
+length-joint rank start joint =
+    let a = length-append (decimal rank) (codes "." ++ (decimal start ++ (codes "." ++ decimal joint))) in
+    let b = length-append (decimal start) (codes "." ++ decimal joint) in
+    omega (arith, a, b)
+
+-- bytes that are put over zeros after a text
+pub put_zeros : (text bytes : List ℕ) (at : ℕ) → length text ≡ at →
+    put_mid at (at + length bytes - at) (text ++ replicate (16 - length text) 0) bytes ≡ (text ++ bytes) ++ replicate (16 - length (text ++ bytes)) 0
+put_zeros text bytes at is =
+    let zeros : List ℕ = replicate (16 - length text) 0 in
+    let count : 16 - length text - (at + length bytes - at) ≡ 16 - length (text ++ bytes) = omega (arith, length-append text bytes) in
+    rw (take_at text zeros at is, drop_at text zeros at is, drop-replicate {X = ℕ} (at + length bytes - at) (16 - length text) 0, count)
+    (sym (append_assoc text bytes _))
+
+-- how many digits the numbers of a joint have
+pub joint_digits : (rank start joint : ℕ) → joint_fits rank start joint ≡ true → (length (decimal rank) ≤ 6) × ((length (decimal start) ≤ 3) × (length (decimal joint) ≤ 3))
+joint_digits rank start joint h =
+    let parts = joint_numbers rank start joint h in (
+      length-decimal-le 6 rank (omega arith) (omega (arith, parts.0)) (omega (arith, parts.0)),
+      (
+        length-decimal-le 3 start (omega arith) (omega (arith, parts.1.0)) (omega (arith, parts.1.0)),
+        length-decimal-le 3 joint (omega arith) (omega (arith, parts.1.1)) (omega (arith, parts.1.1)),
+      ),
+    )
+
+-- the text of a joint by those of its numbers
+abbrev pub joint_of : List ℕ → List ℕ → List ℕ → List ℕ
+joint_of a b c = codes "id" ++ (a ++ (codes "." ++ (b ++ (codes "." ++ c))))
+
+-- its pieces, put one after another
+pub joint_pieces : (a b c : List ℕ) → (((((codes "id") ++ a) ++ codes ".") ++ b) ++ codes ".") ++ c ≡ joint_of a b c
+joint_pieces a b c =
+    append_assoc (((codes "id" ++ a) ++ codes ".") ++ b) (codes ".") c ∙ append_assoc ((codes "id" ++ a) ++ codes ".") b (codes "." ++ c)
+    ∙ append_assoc (codes "id" ++ a) (codes ".") (b ++ (codes "." ++ c)) ∙ append_assoc (codes "id") a (codes "." ++ (b ++ (codes "." ++ c)))
+
+-- the numbers of a joint have so few digits that its text has at most 16 bytes
+pub joint_short : (rank start joint : ℕ) → joint_fits rank start joint ≡ true → length (joint_text rank start joint) ≤ 16
+joint_short rank start joint h =
+    let few = joint_digits rank start joint h in
+    omega (arith, few.0, few.1.0, few.1.1, length-joint rank start joint)
+
+pub stored_joint : (rank start joint : ℕ) → joint_fits rank start joint ≡ true → IsStored (stored (record { caps = joint_text rank start joint; subs = [] }))
+stored_joint rank start joint fits =
+    let is : IsJoint (joint_text rank start joint) = record { rank = rank; start = start; joint = joint; fits = fits; spelled = refl } in
+    stored_name (record { caps = joint_text rank start joint; subs = [] }) (by_joint is refl) (omega (arith, joint_short rank start joint fits))
+
+-- the first byte of a name, which stands behind the sign `@` (64)
+pub record Starts (caps : List ℕ) : Type 0 where
+  pub first : ℕ
+  pub rest : List ℕ
+  pub is : caps ≡ first ∷ rest
+  pub above : 64 < first
+
+capitals_start : (caps : List ℕ) → 0 < length caps → list_all is_capital caps ≡ true → Starts caps
+capitals_start [] some all = absurd (omega arith)
+capitals_start (b ∷ caps) some all =
+    let capital : is_capital b ≡ true = (and_parts (is_capital b) (list_all is_capital caps) all).0 in
+    record { first = b; rest = caps; is = refl; above = grind (arith, nat_tests) }
+
+joint_starts : (caps : List ℕ) → IsJoint caps → Starts caps
+joint_starts caps is = record { first = 105; rest = drop 1 (joint_text is.rank is.start is.joint); is = is.spelled; above = omega arith }
+
+pub name_starts : (n : Name) → IsName n → Starts n.caps
+name_starts n (by_letters h short) = let parts = written_parts n.caps n.subs h in capitals_start n.caps parts.some parts.capitals
+name_starts n (by_joint is none) = joint_starts n.caps is
+
+less_by : (b : ℕ) → 64 < b → nat_cmp 64 b ≡ Less
+less_by b h = grind (arith, nat_tests)
+
+below_names : (xs caps ys : List ℕ) → Starts caps → Less ≡ slice_cmp nat_cmp (64 ∷ xs) (caps ++ ys)
+below_names xs caps ys s =
+    subst (λ (t : List ℕ). Less ≡ slice_cmp nat_cmp (64 ∷ xs) (t ++ ys)) (sym s.is)
+    (ap (λ o. ordering_then o (slice_cmp nat_cmp xs (s.rest ++ ys))) (sym (less_by s.first s.above)))
 
 -- the text of a connector with `@` comes before one without
-multi_first_on : (m n : Bool) (xs caps ys : List ℕ) → m ≡ true → n ≡ false → 0 < length caps → list_all is_capital caps ≡ true →
+multi_first_on : (m n : Bool) (xs caps ys : List ℕ) → m ≡ true → n ≡ false → Starts caps →
     Less ≡ slice_cmp nat_cmp (cond m (64 ∷ xs) xs) (cond n (64 ∷ (caps ++ ys)) (caps ++ ys))
-multi_first_on true false xs caps ys e f some all = below_capitals xs caps ys some all
-multi_first_on false n xs caps ys e f some all = absurd (false≢true e)
-multi_first_on true true xs caps ys e f some all = absurd (false≢true (sym f))
+multi_first_on true false xs caps ys e f s = below_names xs caps ys s
+multi_first_on false n xs caps ys e f s = absurd (false≢true e)
+multi_first_on true true xs caps ys e f s = absurd (false≢true (sym f))
 
 pub multi_first : (a b : Connector) → a.multi ≡ true → b.multi ≡ false → IsName (name_of b) → Less ≡ connector_cmp a b
-multi_first a b e f named =
-    let parts = written_parts b.caps b.subs named.written in
-    multi_first_on a.multi b.multi (a.caps ++ a.subs) b.caps b.subs e f parts.some parts.capitals
+multi_first a b e f named = multi_first_on a.multi b.multi (a.caps ++ a.subs) b.caps b.subs e f (name_starts (name_of b) named)
 
 pub multi_last : (a b : Connector) → a.multi ≡ false → b.multi ≡ true → IsName (name_of a) → Greater ≡ connector_cmp a b
 multi_last a b e f named = ap ordering_reverse (multi_first b a f e named) ∙ sym (nat_list_cmp_total.antisymm (connector_text a) (connector_text b))

@@ -6,11 +6,19 @@ use Rattle.std.specs.Cmp.{booleans_Decides, signed_Decides}
 use Rattle.std.specs.Cmp.Lexicographic.{pointwise}
 use Rattle.std.proofs.lemmas.Bool.Decides.{Decides-eqb, Decides-and}
 use Rattle.std.proofs.lemmas.Slice.Eq.{slice_eq-Decides}
-use Rattle.lg_gram.specs.Connectors.{Connector, connector_eq}
+use Rattle.lg_gram.specs.Names.{Name}
+use Rattle.lg_gram.specs.Connectors.{Connector, connector_eq, name_eq}
 use Rattle.lg_gram.specs.declared.disjunct.Disjunct.{Disjunct}
 
 numbers_Decides : (xs ys : List ℕ) → Decides (pointwise ◌==◌ xs ys) (xs ≡ ys)
 numbers_Decides xs ys = slice_eq-Decides Decides-eqb xs ys _ refl
+
+pub name_Decides : (a b : Name) → Decides (name_eq a b) (a ≡ b)
+name_Decides a b =
+    let parts = Decides-and _ _ (numbers_Decides a.caps b.caps) (numbers_Decides a.subs b.subs) in (
+      λ h. let p = parts.0 h in λ i. record { caps = p.0 i; subs = p.1 i },
+      λ e. parts.1 (ap (λ n. n.caps) e, ap (λ n. n.subs) e),
+    )
 
 pub connector_Decides : (a b : Connector) → Decides (connector_eq a b) (a ≡ b)
 connector_Decides a b =

@@ -5,6 +5,13 @@ use Rattle.std.specs.Prelude.{ℕ, ◌^◌, ◌-◌}
 abbrev pub LETTERS : ℕ
 LETTERS = 16
 
+-- the greatest rank in the text of a joint, and the greatest position or number of a joint in it
+abbrev pub JOINT_RANK : ℕ
+JOINT_RANK = 999999
+
+abbrev pub JOINT_PLACE : ℕ
+JOINT_PLACE = 999
+
 -- where the counts of nodes and of choices stop
 abbrev pub COUNTED : ℕ
 COUNTED = 2 ^ 40

@@ -1,9 +1,9 @@
 -- Names: of connectors, and of links, where they are called labels.
-use Rattle.std.specs.Prelude.{◌≡◌, ℕ, ◌+◌, ◌-◌, ◌<◌, ◌≤◌, List, ◌++◌, length, take, Bool, true, ◌&&◌, ◌||◌, ◌==◌, nat_le, nat_lt}
+use Rattle.std.specs.Prelude.{◌≡◌, ℕ, ◌+◌, ◌-◌, ◌<◌, ◌≤◌, List, [], ◌++◌, length, take, Bool, true, ◌&&◌, ◌||◌, ◌==◌, nat_le, nat_lt, codes, decimal}
 use Rattle.std.specs.List.{list_all, prefix_len, suffix_len}
-use Rattle.lg_gram.specs.Limits.{LETTERS}
+use Rattle.lg_gram.specs.Limits.{LETTERS, JOINT_RANK, JOINT_PLACE}
 
--- capital letters, and then subscripts
+-- A capital part, and then subscripts. The capital part is capital letters, or the text of a joint.
 pub record Name : Type 0 where
   pub caps : List ℕ
   pub subs : List ℕ
@@ -41,7 +41,24 @@ NamesAreWritten = (caps subs : List ℕ) → is_written caps subs ≡ true → W
 abbrev pub trimmed : List ℕ → List ℕ
 trimmed subs = take (length subs - suffix_len (λ b. b == STAR) subs) subs
 
--- written as it may be, with no star at the end
-pub record IsName (n : Name) : Type 0 where
-  pub written : is_written n.caps n.subs ≡ true
-  pub short : trimmed n.subs ≡ n.subs
+-- The text of a joint, by which an idiom's words hang together: `id`, and with points between the rank of the idiom's word, the position at
+-- which it starts, and the number of the joint.
+abbrev pub joint_text : ℕ → ℕ → ℕ → List ℕ
+joint_text rank start joint = codes "id" ++ (decimal rank ++ (codes "." ++ (decimal start ++ (codes "." ++ decimal joint))))
+
+-- these numbers fit into a name
+abbrev pub joint_fits : ℕ → ℕ → ℕ → Bool
+joint_fits rank start joint = nat_le rank JOINT_RANK && (nat_le start JOINT_PLACE && nat_le joint JOINT_PLACE)
+
+pub record IsJoint (caps : List ℕ) : Type 0 where
+  pub rank : ℕ
+  pub start : ℕ
+  pub joint : ℕ
+  pub fits : joint_fits rank start joint ≡ true
+  pub spelled : caps ≡ joint_text rank start joint
+
+-- A name: written as a dictionary may write it, with no star at the end; or a joint, which no dictionary can write, since it begins with a
+-- small letter.
+pub data IsName (n : Name) : Type 0 where
+  by_letters : is_written n.caps n.subs ≡ true → trimmed n.subs ≡ n.subs → IsName n
+  by_joint : IsJoint n.caps → n.subs ≡ [] → IsName n

@@ -8,6 +8,10 @@ use Rattle.lg_gram.specs.declared.label.Label.TheInside.{Inside}
 abbrev pub named : Inside → Name
 named a = record { caps = take a.caps_len a.letters; subs = slice_range a.letters a.caps_len a.len }
 
+-- the letters are those of a text, and zeros after them
+abbrev pub HoldsText : List ℕ → List ℕ → Type 0
+HoldsText letters text = letters ≡ text ++ replicate (16 - length text) 0
+
 -- the letters stand at the front, and zeros behind them
 pub record IsStored (a : Inside) : Type 0 where
   pub is_name : IsName (named a)

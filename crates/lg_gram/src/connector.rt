@@ -1,11 +1,11 @@
 //! Connectors, and which of them may be linked.
-ghost use Rattle.std.specs.Prelude.{◌≡◌, ◌<◌, ◌≤◌, ◌↔◌, ◌++◌, IsTrue, Some, None, if◌then◌else◌, max, length, take, slice_index_or};
+ghost use Rattle.std.specs.Prelude.{◌≡◌, ◌<◌, ◌≤◌, ◌↔◌, ◌++◌, [], false, IsTrue, Some, None, if◌then◌else◌, max, length, take, slice_index_or};
 ghost use Rattle.std.specs.Cmp.Lexicographic.{pointwise};
 ghost use Rattle.std.specs.Cmp.{partial_equiv_from_equiv};
 ghost use Rattle.std.specs.Cmp.Rules.{comparing, hashing};
 ghost use Rattle.std.specs.Hash as fed;
 ghost use Rattle.std.proofs.Common.{rules};
-ghost use Rattle.lg_gram.specs.Names.{is_written, trimmed, IsName, STAR};
+ghost use Rattle.lg_gram.specs.Names.{is_written, trimmed, IsName, STAR, joint_text, joint_fits};
 ghost use Rattle.lg_gram.specs.Connectors.{Match, Agree, name_of, label_of, connector_cmp, connector_eq, either, merged};
 
 use crate::label::{LETTERS, Label};
@@ -87,7 +87,22 @@ impl Connector {
         Some(Connector { name, multi, right })
     }
 
-    /// The capital letters.
+    /// The joint of a chain, by which an idiom's words hang together: named by the rank of the idiom's word, the position
+    /// at which the chain starts, and the number of the joint, each from 0. It takes one link. None where the rank is above
+    /// 999,999, or one of the others above 999. No memory.
+    pub fn chain(rank: u32, start: u32, joint: u32, right: bool) -> Option<Connector>
+        ensures { result ≡ (if joint_fits rank start joint then
+            Some (record { caps = joint_text rank start joint; subs = []; multi = false; right = right }) else None) }
+    {
+        let name = Label::joint(rank, start, joint)?;
+        Some(Connector {
+            name,
+            multi: false,
+            right,
+        })
+    }
+
+    /// The capital letters, or the text of a joint.
     pub fn caps(&self) -> &[u8]
         ensures value { result.now ≡ self.now.caps }
         ensures named { IsName (name_of self.now) }
@@ -155,9 +170,12 @@ pub fn link_label(a: &Connector, b: &Connector) -> Label
     requires { Match a.now b.now }
     ensures { result ≡ label_of a.now b.now }
 {
-    let length = a.subs().len().max(b.subs().len());
-    let letters = merged(a.subs(), b.subs());
-    Label::of(a.caps(), &letters[..length]).unwrap()
+    let (first, second) = (a.subs(), b.subs());
+    if a.name == b.name {
+        return a.name;
+    }
+    let letters = merged(first, second);
+    Label::of(a.caps(), &letters[..first.len().max(second.len())]).unwrap()
 }
 
 // The letter that stands at a place in either list, else a star.

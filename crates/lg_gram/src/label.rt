@@ -1,21 +1,30 @@
 //! Names of connectors and labels of links.
-ghost use Rattle.std.specs.Prelude.{◌≡◌, ◌+◌, ◌-◌, ◌≤◌, ◌++◌, length, replicate, Some, None, if◌then◌else◌};
+ghost use Rattle.std.specs.Prelude.{◌≡◌, ◌+◌, ◌-◌, ◌≤◌, ◌++◌, [], List, ℕ, true, length, replicate, Some, None, if◌then◌else◌};
 ghost use Rattle.std.specs.List.{list_all, prefix_len};
 ghost use Rattle.std.specs.Cmp.{partial_equiv_from_equiv};
 ghost use Rattle.std.specs.Cmp.Rules.{comparing, hashing};
 ghost use Rattle.std.specs.Hash as fed;
 ghost use Rattle.std.proofs.Common.{rules};
-ghost use Rattle.lg_gram.specs.Names.{is_capital, is_subscript, is_written, trimmed, IsName};
+ghost use Rattle.lg_gram.specs.Names.{is_capital, is_subscript, is_written, trimmed, IsName, joint_text, joint_fits};
+ghost use Rattle.lg_gram.specs.Stored.{HoldsText};
 ghost use Rattle.lg_gram.specs.Connectors.{name_eq};
 
+use itoa::Buffer;
 use std::hash::{Hash, Hasher};
 use std::marker::Model;
 
 /// The most letters of a name, capitals and subscripts together.
 pub const LETTERS: usize = 16;
 
-/// One or more capital letters, and then subscripts, which are small letters and stars: the name of a connector, and
-/// the label of a link. It has at most 16 letters and no star at the end.
+// The greatest rank in the text of a joint, and the greatest position or number of a joint in it.
+const JOINT_RANK: u32 = 999_999;
+
+const JOINT_PLACE: u32 = 999;
+
+/// The name of a connector, and the label of a link: one or more capital letters, and then subscripts, which are small
+/// letters and stars. It has at most 16 letters and no star at the end. In place of capital letters stands the text of a
+/// joint, `idR.S.J` with three numbers, in the names that hold the words of an idiom together; no dictionary can write
+/// such a name.
 ///
 /// Contracts see `{ caps, subs }`.
 #[derive(Clone, Copy, Debug)]
@@ -83,7 +92,24 @@ impl Label {
         })
     }
 
-    /// The capital letters.
+    /// The name of a joint, by the rank of an idiom's word, the position at which it starts, and the number of the joint
+    /// among those of the idiom. None where the rank is above 999,999, or one of the others above 999. No memory.
+    pub fn joint(rank: u32, start: u32, joint: u32) -> Option<Label>
+        ensures { result ≡ (if joint_fits rank start joint then Some (record { caps = joint_text rank start joint; subs = [] }) else None) }
+    {
+        if rank > JOINT_RANK || start > JOINT_PLACE || joint > JOINT_PLACE {
+            return None;
+        }
+        let mut letters = [0; LETTERS];
+        let len = write_joint(&mut letters, rank, start, joint) as u8;
+        Some(Label {
+            letters,
+            caps_len: len,
+            len,
+        })
+    }
+
+    /// The capital letters, or the text of a joint.
     pub fn caps(&self) -> &[u8]
         ensures value { result.now ≡ self.now.caps }
         ensures named { IsName self.now }
@@ -165,4 +191,31 @@ fn packed(caps: &[u8], subs: &[u8]) -> [u8; LETTERS]
     letters[..caps.len()].copy_from_slice(caps);
     letters[caps.len()..caps.len() + subs.len()].copy_from_slice(subs);
     letters
+}
+
+// Writes the text of a joint over zeros, and tells how long it is.
+fn write_joint(letters: &mut [u8; LETTERS], rank: u32, start: u32, joint: u32) -> usize
+    requires empty { letters.old ≡ replicate 16 0 }
+    requires fits { joint_fits rank start joint ≡ true }
+    ensures length { result ≡ length (joint_text rank start joint) }
+    ensures written { HoldsText letters.new (joint_text rank start joint) }
+{
+    let mut digits = Buffer::new();
+    let end = put(letters, 0, b"id");
+    let end = put(letters, end, digits.format(rank).as_bytes());
+    let end = put(letters, end, b".");
+    let end = put(letters, end, digits.format(start).as_bytes());
+    let end = put(letters, end, b".");
+    put(letters, end, digits.format(joint).as_bytes())
+}
+
+// Writes these bytes after so many letters, where zeros stand, and tells where they end.
+fn put(letters: &mut [u8; LETTERS], at: usize, bytes: &[u8]) -> usize
+    requires { at + length bytes.now ≤ 16 }
+    ensures end { result ≡ at + length bytes.now }
+    ensures written { (text : List ℕ) → length text ≡ at → HoldsText letters.old text → HoldsText letters.new (text ++ bytes.now) }
+{
+    let end = at + bytes.len();
+    letters[at..end].copy_from_slice(bytes);
+    end
 }

@@ -1,10 +1,7 @@
 -- A text has no more tokens than bytes.
-use Rattle.std.proofs.Common.{◌≡◌, ℕ, ◌+◌, ◌≤◌, Bool, true, false, cond, nat_eq, List, [], ◌∷◌, ◌++◌, length, drop, refl, ap, arith, length-append}
-use Rattle.std.proofs.lemmas.List.{length-drop}
-use Rattle.std.specs.List.{starts_with}
+use Rattle.std.proofs.Common.{◌≡◌, ℕ, ◌+◌, ◌≤◌, List, [], ◌∷◌, ◌++◌, length, refl, ap, arith, length-append}
 use Rattle.lg_lex.specs.declared.marks.Marks.{Marks}
-use Rattle.lg_lex.specs.Marked.{byte_order_mark, without_mark}
-use Rattle.lg_lex.specs.Tokens.{Lexeme, sign, quoted, plain, broken, gap_text, Spells, AfterToken, AreTokens, IsText}
+use Rattle.lg_lex.specs.Tokens.{Lexeme, sign, quoted, plain, broken, gap_text, Spells, AfterToken, AreTokens}
 
 module _ (marks : Marks) where
   -- a token has a byte
@@ -22,19 +19,9 @@ module _ (marks : Marks) where
   more_tokens (plain w) ts at rest next after = next after
   more_tokens broken ts at rest next after = rw after (omega arith)
 
-  few_tokens : (ts : List (Lexeme × ℕ)) (before : ℕ) (bytes : List ℕ) → AreTokens marks ts before bytes → length ts ≤ length bytes
+  pub few_tokens : (ts : List (Lexeme × ℕ)) (before : ℕ) (bytes : List ℕ) → AreTokens marks ts before bytes → length ts ≤ length bytes
   few_tokens [] before bytes are = omega arith
   few_tokens (t ∷ ts) before bytes (gap, text, rest, skips, spells, split, start, after) =
       let here = some_bytes t.0 text rest spells in
       let more = more_tokens t.0 ts (t.1 + length text) rest (few_tokens ts (t.1 + length text) rest) after in
       omega (arith, ap length split, length-append (gap_text gap) (text ++ rest), length-append text rest)
-
-by_mark : (text : List ℕ) (marked : Bool) → length (cond marked (drop (length byte_order_mark) text) text) ≤ length text
-by_mark text true = omega (arith, length-drop (length byte_order_mark) text)
-by_mark text false = omega arith
-
-pub text_tokens : (marks : Marks) (ts : List (Lexeme × ℕ)) (bytes : List ℕ) → IsText marks bytes ts → length ts ≤ length bytes
-text_tokens marks ts bytes is =
-    let few = few_tokens marks ts 0 (without_mark bytes) is.tokens in
-    let rest = by_mark bytes (starts_with nat_eq bytes byte_order_mark) in
-    omega arith

@@ -8,7 +8,7 @@ ghost use Rattle.lg_lex.specs.declared.marks.Marks.{Marks};
 ghost use Rattle.lg_lex.specs.declared.location.Location.{Location};
 ghost use Rattle.lg_lex.specs.declared.run.Separators.{Separators};
 ghost use Rattle.lg_lex.specs.Classes.{line_feed};
-ghost use Rattle.lg_lex.specs.Tokens.{Lexeme, AreTokens, IsText, HasUtf8};
+ghost use Rattle.lg_lex.specs.Tokens.{Lexeme, AreTokens, HasUtf8};
 ghost use Rattle.lg_lex.specs.Marked.{without_mark};
 ghost use Rattle.lg_lex.specs.Spots.{IsSpot};
 ghost use Rattle.lg_lex.specs.Lexing.{between, lex, tokens_from};
@@ -38,8 +38,8 @@ pub fn sections_keep_their_tokens()
 
 /// A text has no more tokens than bytes.
 pub fn tokens_are_no_more_than_bytes()
-    ensures { (marks : Marks) (tokens : List (Lexeme × ℕ)) (bytes : List ℕ)
-        → IsText marks bytes tokens
+    ensures { (marks : Marks) (tokens : List (Lexeme × ℕ)) (before : ℕ) (bytes : List ℕ)
+        → AreTokens marks tokens before bytes
         → length tokens ≤ length bytes }
 {}
 
