@@ -1,29 +1,30 @@
 -- What a dictionary has with changes laid over it.
-use Rattle.std.proofs.Common.{◌≡◌, ◌⊎◌, inl, inr, ◌↔◌, ℕ, ◌+◌, ◌<◌, ◌≤◌, List, [], ◌∷◌, ◌++◌, Bool, true, false, cond, ◌||◌, if◌then◌else◌, map, length, nat_eq, is_some, Option, Some, None, IsSome, IfSome, Vec, Contains, All, refl, sym, ap, subst, ◌∙◌, true≢false, arith, length-append}
+use Rattle.std.proofs.Common.{◌≡◌, ◌⊎◌, inl, inr, ◌↔◌, ℕ, ◌+◌, ◌<◌, ◌≤◌, List, [], ◌∷◌, ◌++◌, Bool, true, false, cond, ◌||◌, if◌then◌else◌, map, length, nat_eq, is_some, Option, Some, None, IsSome, IfSome, Vec, Contains, All, refl, sym, ap, subst, ◌∙◌, true≢false, arith}
 use lib.Pointwise.{pointwise}
 use mathlib.Core.Logic.{⊎_elim}
 use Rattle.std.proofs.lemmas.Bool.{cases_Bool}
-use Rattle.std.proofs.lemmas.List.{get_or_append_left}
-use Rattle.std.proofs.lemmas.Option.{slice_get_read, slice_get-get_or}
-use Rattle.std.proofs.Math.Seq.{get_or-append_seam}
 use Rattle.std.specs.Cmp.Lexicographic.{slice_cmp, nat_list_cmp_total, texts_ties}
 use Rattle.std.specs.FinMap.{get, insert, remove, get-insert, get-remove, same_map, IsAntisymmetric, nat_cmp-IsAntisymmetric, slice_cmp-IsAntisymmetric}
-use Rattle.std.specs.List.{list_any, slice_get}
+use Rattle.std.specs.List.{list_any}
 use Rattle.std.specs.Map.{lookup}
-use Rattle.std.specs.Option.{option_map, option_map_or, unwrap_or}
+use Rattle.std.specs.Option.{option_map, unwrap_or}
 use Rattle.std.specs.Ordering.{nat_cmp}
 use Rattle.lg_gram.specs.Fits.{Fits, AllFit}
-use Rattle.lg_gram.specs.Trees.{Tree, empty, tree_of}
+use Rattle.lg_gram.specs.Trees.{Tree}
 use Rattle.lg_gram.specs.declared.expr.Expr.{Expr}
-use Rattle.lg_dict.specs.Changed.{set_key, laid_over, word_by, named_by, changed, change_at, IsNamed, KeepsToLevel, IsGiven, IsLaid, HasSame}
+use Rattle.lg_dict.specs.Changed.{set_key, laid_over, word_by, named_by, changed, change_at, IsNamed, KeepsToLevel, IsLaid, IsTree, HasGiven, HasSame}
 use Rattle.lg_dict.specs.Dictionary.{Dictionary, TextMap, insert_all, macros_of, IsWordOf}
+use Rattle.lg_dict.specs.Lengths.{HasLengths}
 use Rattle.lg_dict.specs.Subscripts.{stem_of}
-use Rattle.lg_dict.specs.Tables.{at_text, texts_at, same_text, is_under, tree_at}
+use Rattle.lg_dict.specs.Tables.{AreListed, at_text, texts_at, same_text, is_under}
 use Rattle.lg_dict.specs.declared.changes.Change.{Change}
-use Rattle.lg_dict.specs.declared.changes.Change.TheVariants.{Same, Removed, Own, Given}
+use Rattle.lg_dict.specs.declared.changes.Change.TheVariants.{Same}
 use Rattle.lg_dict.specs.declared.changes.Changes.{Changes}
 use Rattle.lg_dict.specs.declared.changes.Named.{Named}
-use Rattle.lg_dict.proofs.Lookups.{under_stem, stem_under}
+use Rattle.lg_dict.specs.declared.tables.By.{By}
+use Rattle.lg_dict.specs.declared.tables.By.TheVariants.{Stem, First}
+use Rattle.indexmap.specs.IndexMap.{IndexMap}
+use Rattle.lg_dict.proofs.Lookups.{under_itself, not_own_stem, stem_under}
 use Rattle.lg_dict.proofs.Words.{text_is, text_is_itself, Contains-among}
 
 -- ---- one key
@@ -89,20 +90,19 @@ module _ {V X : Type 0} (means : List ℕ → V → Option X) where
 none_laid : {A V X : Type 0} (means : List ℕ → V → Option X) (es : List (Vec ℕ A × V)) (m : TextMap X) → es ≡ [] → laid_over means (map (λ (e : Vec ℕ A × V). (e.0.items, e.1)) es) m ≡ m
 none_laid {A} {V} means es m h = ap (λ l. laid_over means (map (λ (e : Vec ℕ A × V). (e.0.items, e.1)) l) m) h
 
-over_word : (words : TextMap Tree) (formulas : List Expr) (word : List ℕ) (found : Option Change)
-    → over (option_map (word_by words formulas word) found) (get words word) ≡ word_by words formulas word (unwrap_or found Same)
-over_word words formulas word None = refl
-over_word words formulas word (Some change) = refl
+over_word : (words : TextMap Tree) (word : List ℕ) (found : Option Change) → over (option_map (word_by words word) found) (get words word) ≡ word_by words word (unwrap_or found Same)
+over_word words word None = refl
+over_word words word (Some change) = refl
 
 module _ (dict : Dictionary) where
   -- a word has what its change gives it
-  pub get-word : (c : Changes) (word : List ℕ) → get (changed dict c).words word ≡ word_by dict.words c.formulas.items word (change_at c word)
+  pub get-word : (c : Changes) (word : List ℕ) → get (changed dict c).words word ≡ word_by dict.words word (change_at c word)
   get-word c word =
-      get-laid_over (word_by dict.words c.formulas.items) c.words.entries dict.words word
-      ∙ over_word dict.words c.formulas.items word (at_text c.words word)
+      get-laid_over (word_by dict.words) c.words.entries dict.words word
+      ∙ over_word dict.words word (at_text c.words word)
 
-  pub get-found : (c : Changes) (word : List ℕ) (change : Change) → at_text c.words word ≡ Some change → get (changed dict c).words word ≡ word_by dict.words c.formulas.items word change
-  get-found c word change is = get-word c word ∙ ap (λ o. word_by dict.words c.formulas.items word (unwrap_or o Same)) is
+  pub get-found : (c : Changes) (word : List ℕ) (change : Change) → at_text c.words word ≡ Some change → get (changed dict c).words word ≡ word_by dict.words word change
+  get-found c word change is = get-word c word ∙ ap (λ o. word_by dict.words word (unwrap_or o Same)) is
 
   -- and a macro
   pub get-macro : (c : Changes) (name : List ℕ) → get (changed dict c).macros name ≡ over (option_map (λ m. Some (named_by m)) (at_text c.macros name)) (get dict.macros name)
@@ -124,7 +124,7 @@ module _ (dict : Dictionary) where
   -- no changes
   pub nothing_changed : (c : Changes) → c.words.entries ≡ [] → c.macros.entries ≡ [] → changed dict c ≡ dict
   nothing_changed c no_words no_macros =
-      let words = none_laid (word_by dict.words c.formulas.items) c.words.entries dict.words no_words in
+      let words = none_laid (word_by dict.words) c.words.entries dict.words no_words in
       let macros = none_laid (λ name m. Some (named_by m)) c.macros.entries dict.macros no_macros in
       λ i. record { words = words i; macros = macros i }
 
@@ -132,98 +132,51 @@ module _ (dict : Dictionary) where
   pub same_dictionary : (old new : Changes) → HasSame old new → changed dict new ≡ changed dict old
   same_dictionary old new h =
       dictionaries (changed dict old).words (changed dict old).macros new
-      (λ word. get-word new word ∙ (λ i. word_by dict.words (h.formulas i) word (h.words word i)) ∙ sym (get-word old word))
+      (λ word. get-word new word ∙ ap (word_by dict.words word) (h.words word) ∙ sym (get-word old word))
       (kept_macros old new h.macros)
 
--- ---- one formula more
+-- ---- the same table of lists
 
-slice_seam : (formulas : List Expr) (e : Expr) → slice_get (formulas ++ e ∷ []) (length formulas) ≡ Some e
-slice_seam formulas e =
-    slice_get_read (formulas ++ e ∷ []) (length formulas + 1) (length formulas) e (omega (arith, length-append formulas (e ∷ []))) (omega arith) (sym (get_or-append_seam formulas e [] e))
-
-slice_within : (formulas : List Expr) (e : Expr) (number : ℕ) → number < length formulas → slice_get (formulas ++ e ∷ []) number ≡ slice_get formulas number
-slice_within formulas e number low =
-    slice_get-get_or (formulas ++ e ∷ []) number e (omega (arith, length-append formulas (e ∷ [])))
-    ∙ ap Some (get_or_append_left formulas (e ∷ []) e number low)
-    ∙ sym (slice_get-get_or formulas number e low)
-
-module _ (formulas : List Expr) (e : Expr) where
-  pub new_tree : tree_at (formulas ++ e ∷ []) (length formulas) ≡ tree_of e
-  new_tree = ap (λ o. option_map_or tree_of o empty) (slice_seam formulas e)
-
-  old_tree : (number : ℕ) → number < length formulas → tree_at (formulas ++ e ∷ []) number ≡ tree_at formulas number
-  old_tree number low = ap (λ o. option_map_or tree_of o empty) (slice_within formulas e number low)
-
-  old_word : (words : TextMap Tree) (word : List ℕ) (change : Change) → IsGiven formulas change → word_by words (formulas ++ e ∷ []) word change ≡ word_by words formulas word change
-  old_word words word Same h = refl
-  old_word words word Removed h = refl
-  old_word words word (Own formula) h = refl
-  old_word words word (Given number) h = ap Some (old_tree number h)
-
-  still_given : (change : Change) → IsGiven formulas change → IsGiven (formulas ++ e ∷ []) change
-  still_given Same h = tt
-  still_given Removed h = tt
-  still_given (Own formula) h = tt
-  still_given (Given number) h = omega (arith, length-append formulas (e ∷ []))
+lists_still : {A B S : Type 0} (by : By) (IsOld IsNew : List ℕ → Type 0) (old new : IndexMap (Vec ℕ A) (Vec (List ℕ) B) S) → AreListed by IsOld old → new ≡ old → ((text : List ℕ) → IsNew text → IsOld text) → AreListed by IsNew new
+lists_still by IsOld IsNew old new lists is named = record {
+  only = λ key word h. lists.only key word (subst (λ t. Contains (texts_at t key) word) is h);
+  all = λ key word h under. subst (λ t. Contains (texts_at t key) word) (sym is) (lists.all key word (named word h) under);
+}
 
 -- ---- words that get a formula
 
-module _ (old new : Changes) (e : Expr) (laid : IsLaid old) (grown : new.formulas.items ≡ old.formulas.items ++ e ∷ []) where
-  abbrev olds : List Expr
-  olds = old.formulas.items
+module _ (old new : Changes) where
+  pub words_given : (formulas : List Expr) (tree : Tree) (names : List (List ℕ)) → All (IsTree tree) formulas → HasGiven formulas names old new → new.macros ≡ old.macros
+      → (dict : Dictionary) → changed dict new ≡ record (changed dict old) { words = insert_all names tree (changed dict old).words }
+  words_given formulas tree names all given same dict =
+      dictionaries dict (insert_all names tree (changed dict old).words) (changed dict old).macros new
+      (λ word.
+      get-word dict new word ∙ given tree all dict.words word ∙ ap (cond (list_any (same_text word) names) (Some tree)) (sym (get-word dict old word))
+      ∙ sym (get-insert_all names tree (changed dict old).words word))
+      (kept_macros dict old new (λ name i. at_text (same i) name))
 
-  -- where only a formula is added, a word with the same change has the same
-  kept_word : (dict : Dictionary) (word : List ℕ) → word_by dict.words new.formulas.items word (change_at old word) ≡ get (changed dict old).words word
-  kept_word dict word =
-      ap (λ fs. word_by dict.words fs word (change_at old word)) grown ∙ old_word olds e dict.words word (change_at old word) (laid.words word) ∙ sym (get-word dict old word)
-
-  module _ (names : List (List ℕ)) (set : (text : List ℕ) → change_at new text ≡ (if list_any (same_text text) names then Given (length olds) else change_at old text)) where
-    word_at : (dict : Dictionary) (word : List ℕ) (b : Bool) → list_any (same_text word) names ≡ b → get (changed dict new).words word ≡ cond b (Some (tree_of e)) (get (changed dict old).words word)
-    word_at dict word true is =
-        get-word dict new word
-        ∙ ap (word_by dict.words new.formulas.items word) (set word ∙ ap (λ b. if b then Given (length olds) else change_at old word) is)
-        ∙ ap (λ fs. Some (tree_at fs (length olds))) grown
-        ∙ ap Some (new_tree olds e)
-    word_at dict word false is =
-        get-word dict new word
-        ∙ ap (word_by dict.words new.formulas.items word) (set word ∙ ap (λ b. if b then Given (length olds) else change_at old word) is)
-        ∙ kept_word dict word
-
-    pub words_given : (dict : Dictionary) → new.macros ≡ old.macros → changed dict new ≡ record (changed dict old) { words = insert_all names (tree_of e) (changed dict old).words }
-    words_given dict same =
-        dictionaries dict (insert_all names (tree_of e) (changed dict old).words) (changed dict old).macros new
-        (λ word. word_at dict word (list_any (same_text word) names) refl ∙ sym (get-insert_all names (tree_of e) (changed dict old).words word))
-        (kept_macros dict old new (λ name i. at_text (same i) name))
-
-    given_at : (word : List ℕ) (b : Bool) → list_any (same_text word) names ≡ b → IsGiven (olds ++ e ∷ []) (change_at new word)
-    given_at word true is =
-        subst (IsGiven (olds ++ e ∷ [])) (sym (set word ∙ ap (λ b. if b then Given (length olds) else change_at old word) is)) (omega (arith, length-append olds (e ∷ [])))
-    given_at word false is =
-        subst (IsGiven (olds ++ e ∷ [])) (sym (set word ∙ ap (λ b. if b then Given (length olds) else change_at old word) is)) (still_given olds e (change_at old word) (laid.words word))
-
-    pub laid_given : new.macros ≡ old.macros → new.stems ≡ old.stems → ((text : List ℕ) → is_some (at_text new.words text) ≡ is_some (at_text old.words text)) → IsLaid new
-    laid_given same stems named = record {
-      words = λ word. subst (λ fs. IsGiven fs (change_at new word)) (sym grown) (given_at word (list_any (same_text word) names) refl);
-      macros = λ name. subst (λ ms. IfSome (at_text ms name) KeepsToLevel) (sym same) (laid.macros name);
-      only = λ stem word h. laid.only stem word (subst (λ t. Contains (texts_at t stem) word) stems h);
-      all = λ stem word h under. subst (λ t. Contains (texts_at t stem) word) (sym stems) (laid.all stem word (sym (named word) ∙ h) under);
-    }
+  pub laid_given : IsLaid old → new.macros ≡ old.macros → new.stems ≡ old.stems → new.firsts ≡ old.firsts → new.lengths ≡ old.lengths → ((text : List ℕ) → is_some (at_text new.words text) ≡ is_some (at_text old.words text)) → IsLaid new
+  laid_given laid same stems firsts lengths named = record {
+    macros = λ name. subst (λ ms. IfSome (at_text ms name) KeepsToLevel) (sym same) (laid.macros name);
+    stems = lists_still Stem (IsNamed old) (IsNamed new) old.stems new.stems laid.stems stems (λ word h. sym (named word) ∙ h);
+    firsts = lists_still First (IsNamed old) (IsNamed new) old.firsts new.firsts laid.firsts firsts (λ word h. sym (named word) ∙ h);
+    lengths = λ word h. subst (λ l. HasLengths l word) (sym lengths) (laid.lengths word (sym (named word) ∙ h));
+  }
 
 -- ---- one word
 
 -- what a word has by a change of it alone
-module _ (old new : Changes) (formulas : new.formulas.items ≡ old.formulas.items) (macros : new.macros ≡ old.macros) (word : List ℕ) (change : Change)
+module _ (old new : Changes) (macros : new.macros ≡ old.macros) (word : List ℕ) (change : Change)
     (set : (text : List ℕ) → at_text new.words text ≡ (if same_text text word then Some change else at_text old.words text)) where
   change_now : (text : List ℕ) (b : Bool) → same_text text word ≡ b → change_at new text ≡ cond b change (change_at old text)
   change_now text true is = ap (λ o. unwrap_or o Same) (set text ∙ ap (λ b. if b then Some change else at_text old.words text) is)
   change_now text false is = ap (λ o. unwrap_or o Same) (set text ∙ ap (λ b. if b then Some change else at_text old.words text) is)
 
-  module _ (found : Option Tree) (means : (words : TextMap Tree) (formulas : List Expr) (text : List ℕ) → word_by words formulas text change ≡ found) where
+  module _ (found : Option Tree) (means : (words : TextMap Tree) (text : List ℕ) → word_by words text change ≡ found) where
     word_now : (dict : Dictionary) (text : List ℕ) (b : Bool) → same_text text word ≡ b → get (changed dict new).words text ≡ cond b found (get (changed dict old).words text)
-    word_now dict text true is = get-word dict new text ∙ ap (word_by dict.words new.formulas.items text) (change_now text true is) ∙ means dict.words new.formulas.items text
+    word_now dict text true is = get-word dict new text ∙ ap (word_by dict.words text) (change_now text true is) ∙ means dict.words text
     word_now dict text false is =
-        get-word dict new text ∙ ap (word_by dict.words new.formulas.items text) (change_now text false is)
-        ∙ ap (λ fs. word_by dict.words fs text (change_at old text)) formulas ∙ sym (get-word dict old text)
+        get-word dict new text ∙ ap (word_by dict.words text) (change_now text false is) ∙ sym (get-word dict old text)
 
     pub word_set : (dict : Dictionary) → changed dict new ≡ record (changed dict old) { words = set_key (changed dict old).words word found }
     word_set dict =
@@ -233,7 +186,7 @@ module _ (old new : Changes) (formulas : new.formulas.items ≡ old.formulas.ite
 
 -- ---- one macro
 
-module _ (old new : Changes) (formulas : new.formulas ≡ old.formulas) (words : new.words ≡ old.words) (name : List ℕ) (found : Named)
+module _ (old new : Changes) (words : new.words ≡ old.words) (name : List ℕ) (found : Named)
     (set : (text : List ℕ) → at_text new.macros text ≡ cond (same_text text name) (Some found) (at_text old.macros text)) where
   macro_now : (dict : Dictionary) (text : List ℕ) (b : Bool) → same_text text name ≡ b → get (changed dict new).macros text ≡ cond b (Some (named_by found)) (get (changed dict old).macros text)
   macro_now dict text true is =
@@ -245,7 +198,7 @@ module _ (old new : Changes) (formulas : new.formulas ≡ old.formulas) (words :
   pub macro_set : (dict : Dictionary) → changed dict new ≡ record (changed dict old) { macros = insert (changed dict old).macros name (named_by found) }
   macro_set dict =
       dictionaries dict (changed dict old).words (insert (changed dict old).macros name (named_by found)) new
-      (λ word. get-word dict new word ∙ (λ i. word_by dict.words (formulas i).items word (unwrap_or (at_text (words i) word) Same)) ∙ sym (get-word dict old word))
+      (λ word. get-word dict new word ∙ (λ i. word_by dict.words word (unwrap_or (at_text (words i) word) Same)) ∙ sym (get-word dict old word))
       (λ text. macro_now dict text (same_text text name) refl ∙ sym (get-inserted (changed dict old).macros name (named_by found) text))
 
   -- each macro still keeps to its level
@@ -270,19 +223,19 @@ fit_changed dict c laid below =
 
 module _ (dict : Dictionary) (c : Changes) (laid : IsLaid c) where
   below_kept : (word : List ℕ) (found : Option Change) → at_text c.words word ≡ found → IsSome (get (changed dict c).words word) → IsNamed c word ⊎ IsSome (get dict.words word)
-  below_kept word None is h = inr (subst IsSome (get-word dict c word ∙ ap (λ o. word_by dict.words c.formulas.items word (unwrap_or o Same)) is) h)
+  below_kept word None is h = inr (subst IsSome (get-word dict c word ∙ ap (λ o. word_by dict.words word (unwrap_or o Same)) is) h)
   below_kept word (Some change) is h = inl (ap is_some is)
 
   -- a word is named by the changes, or is a word of the dictionary below
   pub where_kept : (word : List ℕ) → IsSome (get (changed dict c).words word) → IsNamed c word ⊎ IsSome (get dict.words word)
   where_kept word h = below_kept word (at_text c.words word) refl h
 
-  stem_cases : (text word : List ℕ) (own : Bool) → same_text (stem_of word) word ≡ own → stem_of word ≡ text → (word ≡ text) ⊎ (is_under text word ≡ true)
+  stem_cases : (text word : List ℕ) (own : Bool) → same_text (stem_of word) word ≡ own → stem_of word ≡ text → (word ≡ text) ⊎ (is_under Stem text word ≡ true)
   stem_cases text word true is stem = inl (sym (text_is (stem_of word) word is) ∙ stem)
-  stem_cases text word false is stem = inr (under_stem text word is ∙ ap (same_text text) stem ∙ text_is_itself text)
+  stem_cases text word false is stem = inr (under_itself Stem text word (not_own_stem word is ∙ ap Some stem))
 
   -- a word of a text is the text, or is listed below or among the changes
-  pub word_listed : (text word : List ℕ) (below : List (List ℕ)) → ((w : List ℕ) → Contains below w ↔ (IsSome (get dict.words w) × (is_under text w ≡ true)))
+  pub word_listed : (text word : List ℕ) (below : List (List ℕ)) → ((w : List ℕ) → Contains below w ↔ (IsSome (get dict.words w) × (is_under Stem text w ≡ true)))
       → IsWordOf (changed dict c) text word → (word ≡ text) ⊎ (Contains below word ⊎ Contains (texts_at c.stems text) word)
   word_listed text word below exact is =
       elim is.fits [
@@ -290,13 +243,13 @@ module _ (dict : Dictionary) (c : Changes) (laid : IsLaid c) where
         | inr stem ↦ elim (stem_cases text word (same_text (stem_of word) word) refl stem) [
           | inl same ↦ inl same
           | inr under ↦ elim (where_kept word is.kept) [
-            | inl named ↦ inr (inr (laid.all text word named under))
+            | inl named ↦ inr (inr (laid.stems.all text word named under))
             | inr there ↦ inr (inl ((exact word).1 (there, under)))
           ]
         ]
       ]
 
-  pub listed_word : (text word : List ℕ) → IsSome (get (changed dict c).words word) → is_under text word ≡ true → IsWordOf (changed dict c) text word
+  pub listed_word : (text word : List ℕ) → IsSome (get (changed dict c).words word) → is_under Stem text word ≡ true → IsWordOf (changed dict c) text word
   listed_word text word kept under = record { kept = kept; fits = inr (stem_under text word under) }
 
 -- ---- how long words are

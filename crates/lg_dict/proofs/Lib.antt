@@ -1,9 +1,12 @@
 pub mod Points
+pub mod Compounds
 pub mod Lookups
 pub mod Gathered
 pub mod Words
 pub mod Longest
 pub mod Fits
+pub mod Lengthened
 pub mod Changed
+pub mod Missing
 pub mod Viewed
 pub mod Admitted

@@ -1,4 +1,4 @@
--- The longest word, and that a text longer than it is neither a word nor a stem.
+-- The longest word, and that a text longer than it is none.
 use Rattle.std.proofs.Common.{◌≡◌, ◌↔◌, ℕ, ◌<◌, ◌≤◌, List, [], ◌∷◌, ◌++◌, Bool, true, false, if◌then◌else◌, cond, length, take, max, Contains, IsSome, Option, Some, None, inl, inr, true≢false, refl, sym, ap, subst, ◌∙◌, arith}
 use mathlib.Core.Logic.{⊎_elim}
 use Rattle.std.proofs.lemmas.Bool.{cases_lt, cases_order}
@@ -54,7 +54,7 @@ longest-same P Q n same is = record {
   ];
 }
 
-key_is_word : (a : Inside) (word : List ℕ) → Contains (text_keys a.words) word ↔ IsSome (get (shown a).words word)
+pub key_is_word : (a : Inside) (word : List ℕ) → Contains (text_keys a.words) word ↔ IsSome (get (shown a).words word)
 key_is_word a word = (λ h. known a word ∙ (Contains-among (text_keys a.words) word).0 h, λ h. (Contains-among (text_keys a.words) word).1 (sym (known a word) ∙ h))
 
 pub longest_seen : (a : Inside) (dict : Dictionary) → shown a ≡ dict → IsKept a → IsLongestWord dict a.longest
@@ -64,42 +64,10 @@ longest_seen a dict seen kept =
 
 -- a text that is longer
 
-take_is_short : (n : ℕ) (word : List ℕ) → length (take n word) ≤ length word
-take_is_short n word = omega (arith, length-take n word)
-
-stem_is_short : (word : List ℕ) (b : Bool) → length (if b then before_last is_point word else word) ≤ length word
-stem_is_short word true = take_is_short _ word
-stem_is_short word false = omega arith
-
--- a word of a text has at least the bytes of the text
-pub word_is_longer : (dict : Dictionary) (text word : List ℕ) → IsWordOf dict text word → length text ≤ length word
-word_is_longer dict text word is = elim is.fits [
-  | inl same ↦ let lengths : length word ≡ length text = ap length same in omega arith
-  | inr stem ↦ subst (λ t. length t ≤ length word) stem (stem_is_short word (has_subscript word))
-]
-
 module _ (dict : Dictionary) (n : ℕ) (bounds : NoWordIsLonger dict n) (text : List ℕ) (longer : n < length text) where
-  pub has_no_word : (word : List ℕ) → IsWordOf dict text word → ⊥
-  has_no_word word is =
-      let least : length text ≤ length word = word_is_longer dict text word is in
-      let most : length word ≤ n = bounds word is.kept in
-      omega arith
-
-  pub has_none : (false ≡ true) ↔ ((word : List ℕ) × IsWordOf dict text word)
-  has_none = (λ h. absurd (true≢false (sym h)), λ w. absurd (has_no_word w.0 w.1))
-
   no_value : (found : Option Tree) → (IsSome found → ⊥) → None ≡ found
   no_value None none = refl
   no_value (Some t) none = absurd (none refl)
 
   pub is_missing : None ≡ get dict.words text
   is_missing = no_value (get dict.words text) (λ h. let most : length text ≤ n = bounds text h in omega arith)
-
-  none_rise : IsStrictlySortedBy (slice_cmp nat_cmp) []
-  unfolding IsStrictlySortedBy
-  none_rise = tt
-
-  pub has_no_words : (words : List (List ℕ)) → words ≡ [] → AreWordsOf dict text words
-  has_no_words words is =
-      subst (AreWordsOf dict text) (sym is)
-      (record { rise = none_rise; exactly = λ word. (λ h. absurd (let within = h.1 in omega arith), λ w. absurd (has_no_word word w)) })

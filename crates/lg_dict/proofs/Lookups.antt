@@ -1,12 +1,11 @@
 -- Look-ups by bytes in tables whose keys are bytes.
-use Rattle.std.proofs.Common.{◌≡◌, ◌<◌, ◌+◌, ℕ, length, take, filter, get_or, All, subst, List, [], ◌∷◌, ◌++◌, Bool, true, false, ◌&&◌, not, true≢false, cond, if◌then◌else◌, map, nat_eq, vec_len, Option, Some, None, refl, sym, ap, ◌∙◌}
+use Rattle.std.proofs.Common.{◌≡◌, ◌<◌, ◌+◌, ℕ, length, take, filter, get_or, All, subst, List, [], ◌∷◌, ◌++◌, Bool, true, false, true≢false, cond, if◌then◌else◌, map, nat_eq, vec_len, Option, Some, None, is_some, refl, sym, ap, ◌∙◌}
 use Rattle.std.proofs.lemmas.Bool.{cases_Bool, cond-true, cond-false}
-use Rattle.std.proofs.Math.Bool.{and-true, and-false}
 use mathlib.Core.Logic.{⊎_elim}
 use lib.Pointwise.{pointwise}
 use Rattle.std.specs.declared.vec.Vec.{Vec}
 use Rattle.std.specs.Map.{KeepsOthers, lookup}
-use Rattle.std.specs.Option.{option_map, option_map_or, UnwrapsOrElse}
+use Rattle.std.specs.Option.{option_map, option_map_or, unwrap_or, UnwrapsOrElse}
 use Rattle.std.specs.Ordering.{nat_cmp}
 use Rattle.std.specs.Cmp.Lexicographic.{slice_cmp, bytes_decides, nat_list_eq_equiv, nat_list_cmp_total, texts_ties}
 use Rattle.std.specs.FinMap.{get, find, from_entries, get-from_entries}
@@ -19,7 +18,9 @@ use Rattle.std.proofs.lemmas.Option.{slice_get-get_or, unwrap_or-slice_get}
 use Rattle.lg_gram.specs.Trees.{empty, tree_of}
 use Rattle.lg_gram.specs.declared.expr.Expr.{Expr}
 use Rattle.lg_dict.specs.Subscripts.{stem_of}
-use Rattle.lg_dict.specs.Tables.{text_entries, at_text, text_at, numbers_at, texts_at, listed, same_text, is_under, tree_at}
+use Rattle.lg_dict.specs.Tables.{text_entries, at_text, text_at, numbers_at, texts_at, listed, same_text, other_stem, key_of, is_at, is_under, tree_at}
+use Rattle.lg_dict.specs.declared.tables.By.{By}
+use Rattle.lg_dict.specs.declared.tables.By.TheVariants.{Stem}
 
 -- how the keys of a table are compared
 abbrev pub key_eq : {A : Type 0} → Vec ℕ A → Vec ℕ A → Bool
@@ -92,7 +93,7 @@ module _ {A B S : Type 0} where
       ∙ sym (cond-false (same_text text key.items) (numbers_at old text ++ number ∷ []) (numbers_at old text) other))
       (cases_Bool (same_text text key.items))
 
--- texts that are set at a stem
+-- texts that are set at a key
 module _ {A B S : Type 0} (old new : IndexMap (Vec ℕ A) (Vec (List ℕ) B) S) (stem : List ℕ) (list : Vec (List ℕ) B)
     (set : (text : List ℕ) → at_text new text ≡ cond (same_text text stem) (Some list) (at_text old text)) where
   texts-set : (text : List ℕ) (b : Bool) → same_text text stem ≡ b → texts_at new text ≡ cond b list.items (texts_at old text)
@@ -115,38 +116,57 @@ module _ {A B S : Type 0} (old new : IndexMap (Vec ℕ A) (Vec (List ℕ) B) S) 
       → texts_at new text ≡ (if same_text text stem then texts_at old text ++ word ∷ [] else texts_at old text)
   texts-pushed word more text = pushed_by word more text (same_text text stem) refl
 
--- one more word under its stem
-module _ (words : List (List ℕ)) (text : List ℕ) (number : ℕ) where
+-- one more word under its key
+module _ (by : By) (words : List (List ℕ)) (text : List ℕ) (number : ℕ) where
   pushed : (numbers : List ℕ) (b : Bool) → map (λ n. text_at words n) (if b then numbers ++ number ∷ [] else numbers)
       ≡ map (λ n. text_at words n) numbers ++ (if b then get_or words number [] ∷ [] else [])
   pushed numbers true = map-append (λ n. text_at words n) numbers (number ∷ []) ∙ ap (λ word. map (λ n. text_at words n) numbers ++ word ∷ []) (unwrap_or-slice_get words number [])
   pushed numbers false = sym (append-nil (map (λ n. text_at words n) numbers))
 
   pub listed-more : {A B S : Type 0} (old new : IndexMap (Vec ℕ A) (Vec ℕ B) S) (word : List ℕ) → number < length words → word ≡ text_at words number
-      → numbers_at new text ≡ (if is_under text word then numbers_at old text ++ number ∷ [] else numbers_at old text)
-      → listed words old text ≡ filter (λ w. is_under text w) (take number words) → listed words new text ≡ filter (λ w. is_under text w) (take (number + 1) words)
+      → numbers_at new text ≡ (if is_under by text word then numbers_at old text ++ number ∷ [] else numbers_at old text)
+      → listed words old text ≡ filter (λ w. is_under by text w) (take number words) → listed words new text ≡ filter (λ w. is_under by text w) (take (number + 1) words)
   listed-more old new word within is step so_far =
       let here = get_or words number [] in
-      ap (map (λ n. text_at words n)) (step ∙ ap (λ w. if is_under text w then numbers_at old text ++ number ∷ [] else numbers_at old text) (is ∙ unwrap_or-slice_get words number []))
-      ∙ pushed (numbers_at old text) (is_under text here)
-      ∙ ap (λ l. l ++ (if is_under text here then here ∷ [] else [])) so_far
-      ∙ sym (ap (filter (λ w. is_under text w)) ((take_at_read words number [] within).1) ∙ filter-append (λ w. is_under text w) (take number words) (here ∷ []))
+      ap (map (λ n. text_at words n)) (step ∙ ap (λ w. if is_under by text w then numbers_at old text ++ number ∷ [] else numbers_at old text) (is ∙ unwrap_or-slice_get words number []))
+      ∙ pushed (numbers_at old text) (is_under by text here)
+      ∙ ap (λ l. l ++ (if is_under by text here then here ∷ [] else [])) so_far
+      ∙ sym (ap (filter (λ w. is_under by text w)) ((take_at_read words number [] within).1) ∙ filter-append (λ w. is_under by text w) (take number words) (here ∷ []))
 
--- a word that is its own stem is under no stem, and each other word is under its own alone
-module _ (text word : List ℕ) where
-  pub under_none : same_text (stem_of word) word ≡ true → is_under text word ≡ false
+-- a word without a key is under none, and each other word is under its own alone
+module _ (by : By) (text word : List ℕ) where
+  pub under_none : key_of by word ≡ None → is_under by text word ≡ false
   unfolding is_under
-  under_none own = ap (λ b. same_text text (stem_of word) && not b) own ∙ and-false (same_text text (stem_of word))
+  under_none none = ap (λ o. is_at o text) none
 
-  pub under_stem : same_text (stem_of word) word ≡ false → is_under text word ≡ same_text text (stem_of word)
+  pub under_key : (key : List ℕ) → key_of by word ≡ Some key → is_under by text word ≡ same_text text key
   unfolding is_under
-  under_stem other = ap (λ b. same_text text (stem_of word) && not b) other ∙ and-true (same_text text (stem_of word))
+  under_key key is = ap (λ o. is_at o text) is
 
-  pub stem_under : is_under text word ≡ true → stem_of word ≡ text
-  stem_under h = ⊎_elim
-      (λ own. absurd (true≢false (sym h ∙ under_none own)))
-      (λ other. sym ((bytes_decides text (stem_of word)).0 (sym (under_stem other) ∙ h)))
-      (cases_Bool (same_text (stem_of word) word))
+  pub under_itself : key_of by word ≡ Some text → is_under by text word ≡ true
+  under_itself is = under_key text is ∙ nat_list_eq_equiv.refl text
+
+  under_by : (found : Option (List ℕ)) → key_of by word ≡ found → is_under by text word ≡ true → key_of by word ≡ Some text
+  under_by None is h = absurd (true≢false (sym h ∙ under_none is))
+  under_by (Some key) is h = is ∙ ap Some (sym ((bytes_decides text key).0 (sym (under_key key is) ∙ h)))
+
+  pub under_gives : is_under by text word ≡ true → key_of by word ≡ Some text
+  under_gives h = under_by (key_of by word) refl h
+
+-- a word with a subscript
+module _ (word : List ℕ) where
+  pub own_stem : same_text (stem_of word) word ≡ true → other_stem word ≡ None
+  own_stem own = ap (λ b. if b then None else Some (stem_of word)) own
+
+  pub not_own_stem : same_text (stem_of word) word ≡ false → other_stem word ≡ Some (stem_of word)
+  not_own_stem other = ap (λ b. if b then None else Some (stem_of word)) other
+
+stem_by : (text word : List ℕ) (own : Bool) → same_text (stem_of word) word ≡ own → other_stem word ≡ Some text → stem_of word ≡ text
+stem_by text word true is h = absurd (true≢false (sym (ap is_some (sym (own_stem word is) ∙ h))))
+stem_by text word false is h = ap (λ o. unwrap_or o []) (sym (not_own_stem word is) ∙ h)
+
+pub stem_under : (text word : List ℕ) → is_under Stem text word ≡ true → stem_of word ≡ text
+stem_under text word h = stem_by text word (same_text (stem_of word) word) refl (under_gives Stem text word h)
 
 -- what holds of all holds of one of them
 pub among_all : {X : Type 0} (P : X → Type 0) (xs : List X) (x : X) → All P xs → IsAmong xs x → P x

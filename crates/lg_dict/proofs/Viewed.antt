@@ -1,15 +1,21 @@
 -- What a view finds of a text.
-use Rattle.std.proofs.Common.{◌≡◌, ◌⊎◌, inl, inr, ◌↔◌, ℕ, List, [], ◌∷◌, ◌++◌, Bool, true, false, ◌||◌, ◌&&◌, if◌then◌else◌, map, filter, is_some, IsSome, Contains, refl, sym, ap, subst, ◌∙◌, true≢false, arith}
+use Rattle.std.proofs.Common.{◌≡◌, ◌⊎◌, inl, inr, ◌↔◌, ℕ, List, [], ◌∷◌, ◌++◌, Bool, true, false, ◌||◌, ◌&&◌, if◌then◌else◌, map, filter, is_some, Option, Some, None, Vec, IsSome, Contains, refl, sym, ap, subst, ◌∙◌, true≢false, arith}
 use Rattle.std.proofs.lemmas.Bool.{and_parts}
 use Rattle.std.proofs.lemmas.List.Elements.{Contains-append_left, Contains-append_right, Contains-append_cases}
 use Rattle.std.specs.FinMap.{get}
 use Rattle.std.specs.List.{list_any}
-use Rattle.lg_dict.specs.Changed.{changed, IsLaid}
-use Rattle.lg_dict.specs.Dictionary.{Dictionary, IsWordOf}
-use Rattle.lg_dict.specs.Tables.{texts_at, same_text, is_under}
+use Rattle.std.specs.Option.{option_map}
+use Rattle.lg_dict.specs.Changed.{changed, named_by, IsNamed, IsLaid}
+use Rattle.lg_dict.specs.Dictionary.{Dictionary, IsWordOf, IsCompoundOf}
+use Rattle.lg_dict.specs.Tables.{AreListed, at_text, text_keys, texts_at, same_text, is_under}
+use Rattle.lg_dict.specs.declared.tables.By.{By}
+use Rattle.lg_dict.specs.declared.tables.By.TheVariants.{Stem, First}
+use Rattle.lg_dict.proofs.Lookups.{under_gives, under_itself}
+use Rattle.indexmap.specs.IndexMap.{IndexMap}
 use Rattle.lg_dict.specs.declared.changes.Changes.{Changes}
-use Rattle.lg_dict.proofs.Words.{text_is, Contains-among, among, among-filter}
-use Rattle.lg_dict.proofs.Changed.{word_listed, listed_word}
+use Rattle.lg_dict.specs.declared.changes.Named.{Named}
+use Rattle.lg_dict.proofs.Words.{text_is, Contains-among, among, among-filter, found_among}
+use Rattle.lg_dict.proofs.Changed.{over, get-macro, where_kept, word_listed, listed_word}
 
 -- ---- tests over texts
 
@@ -71,7 +77,7 @@ one_text word text h = sym (or_false (same_text word text)) ∙ (Contains-among 
 
 -- ---- words of a text
 
-module _ (dict : Dictionary) (c : Changes) (laid : IsLaid c) (text : List ℕ) (below : List (List ℕ)) (exact : (w : List ℕ) → Contains below w ↔ (IsSome (get dict.words w) × (is_under text w ≡ true))) where
+module _ (dict : Dictionary) (c : Changes) (laid : IsLaid c) (text : List ℕ) (below : List (List ℕ)) (exact : (w : List ℕ) → Contains below w ↔ (IsSome (get dict.words w) × (is_under Stem text w ≡ true))) where
   abbrev pub kept : List ℕ → Bool
   kept word = is_some (get (changed dict c).words word)
 
@@ -81,7 +87,7 @@ module _ (dict : Dictionary) (c : Changes) (laid : IsLaid c) (text : List ℕ) (
   word_of : (kept text ≡ true) ⊎ ((list_any kept below ≡ true) ⊎ (list_any kept names ≡ true)) → (word : List ℕ) × IsWordOf (changed dict c) text word
   word_of (inl h) = (text, record { kept = h; fits = inl refl })
   word_of (inr (inl h)) = let w = any_found kept below h in (w.0, listed_word dict c laid text w.0 w.2 ((exact w.0).0 w.1).1)
-  word_of (inr (inr h)) = let w = any_found kept names h in (w.0, listed_word dict c laid text w.0 w.2 (laid.only text w.0 w.1))
+  word_of (inr (inr h)) = let w = any_found kept names h in (w.0, listed_word dict c laid text w.0 w.2 (laid.stems.only text w.0 w.1))
 
   of_word : (word : List ℕ) → IsWordOf (changed dict c) text word → (kept text ≡ true) ⊎ ((list_any kept below ≡ true) ⊎ (list_any kept names ≡ true))
   of_word word is = elim (word_listed dict c laid text word below exact is) [
@@ -111,7 +117,7 @@ module _ (dict : Dictionary) (c : Changes) (laid : IsLaid c) (text : List ℕ) (
       | inl here ↦ itself word (kept text) refl here
       | inr there ↦ let is = (Contains-filter kept below word).0 there in listed_word dict c laid text word is.1 ((exact word).0 is.0).1
     ]
-    | inr there ↦ let is = (Contains-filter kept names word).0 there in listed_word dict c laid text word is.1 (laid.only text word is.0)
+    | inr there ↦ let is = (Contains-filter kept names word).0 there in listed_word dict c laid text word is.1 (laid.stems.only text word is.0)
   ]
 
   word_found : (word : List ℕ) → IsWordOf (changed dict c) text word → Contains all_found word
@@ -132,11 +138,78 @@ module _ (dict : Dictionary) (c : Changes) (laid : IsLaid c) (text : List ℕ) (
 abbrev pub is_word : Dictionary → List ℕ → Bool
 is_word dict word = is_some (get dict.words word)
 
+-- ---- the words at a key
+
+module _ (base seen : Dictionary) (c : Changes) (laid : IsLaid c) (is : changed base c ≡ seen) (by : By) where
+  pub listed_are : {A B S : Type 0} (lists : IndexMap (Vec ℕ A) (Vec (List ℕ) B) S) → AreListed by (IsNamed c) lists → (key : List ℕ) (below : List (List ℕ))
+      → ((w : List ℕ) → Contains below w ↔ (IsSome (get base.words w) × (is_under by key w ≡ true))) → (word : List ℕ)
+      → Contains (filter (is_word seen) below ++ filter (is_word seen) (texts_at lists key)) word ↔ (IsSome (get seen.words word) × (is_under by key word ≡ true))
+  listed_are lists listed key below exact word = (
+    λ h. elim (Contains-append_cases (filter (is_word seen) below) (filter (is_word seen) (texts_at lists key)) word h) [
+      | inl there ↦ let found = (Contains-filter (is_word seen) below word).0 there in (found.1, ((exact word).0 found.0).1)
+      | inr there ↦ let found = (Contains-filter (is_word seen) (texts_at lists key) word).0 there in (found.1, listed.only key word found.0)
+    ],
+    λ h. elim (where_kept base c laid word (subst (λ (d : Dictionary). IsSome (get d.words word)) (sym is) h.0)) [
+      | inl named ↦ Contains-append_right (filter (is_word seen) below) (filter (is_word seen) (texts_at lists key)) word ((Contains-filter (is_word seen) (texts_at lists key) word).1 (listed.all key word named h.1, h.0))
+      | inr kept ↦ Contains-append_left (filter (is_word seen) below) (filter (is_word seen) (texts_at lists key)) word ((Contains-filter (is_word seen) below word).1 ((exact word).1 (kept, h.1), h.0))
+    ],
+  )
+
+-- the compounds with a first part
+pub compounds_are : (seen : Dictionary) (first : List ℕ) (found : List (List ℕ)) → ((word : List ℕ) → Contains found word ↔ (IsSome (get seen.words word) × (is_under First first word ≡ true)))
+    → (word : List ℕ) → Contains found word ↔ IsCompoundOf seen first word
+compounds_are seen first found exact word = (
+  λ h. let is = (exact word).0 h in record { kept = is.0; begins = under_gives First first word is.1 },
+  λ one. (exact word).1 (one.kept, under_itself First first word one.begins),
+)
+
+-- ---- all words and all macros
+
+named_key : (c : Changes) (word : List ℕ) → IsNamed c word → Contains (text_keys c.words) word
+named_key c word h = (Contains-among (text_keys c.words) word).1 (sym (found_among word c.words.entries) ∙ h)
+
+module _ (base seen : Dictionary) (c : Changes) (laid : IsLaid c) (is : changed base c ≡ seen) where
+  pub words_known : (below : List (List ℕ)) → ((w : List ℕ) → Contains below w ↔ IsSome (get base.words w)) → (word : List ℕ)
+      → Contains (filter (is_word seen) (below ++ text_keys c.words)) word ↔ IsSome (get seen.words word)
+  words_known below exact word = (
+    λ h. ((Contains-filter (is_word seen) (below ++ text_keys c.words) word).0 h).1,
+    λ h. (Contains-filter (is_word seen) (below ++ text_keys c.words) word).1 (there (where_kept base c laid word (subst (λ (d : Dictionary). IsSome (get d.words word)) (sym is) h)), h),
+  )
+    where
+      there : IsNamed c word ⊎ IsSome (get base.words word) → Contains (below ++ text_keys c.words) word
+      there (inl named) = Contains-append_right below (text_keys c.words) word (named_key c word named)
+      there (inr kept) = Contains-append_left below (text_keys c.words) word ((exact word).1 kept)
+
+  pub macros_known : (below : List (List ℕ)) → ((w : List ℕ) → Contains below w ↔ IsSome (get base.macros w)) → (name : List ℕ)
+      → Contains (below ++ text_keys c.macros) name ↔ IsSome (get seen.macros name)
+  macros_known below exact name = (
+    λ h. subst (λ (d : Dictionary). IsSome (get d.macros name)) is (of_keys (at_text c.macros name) refl (Contains-append_cases below (text_keys c.macros) name h)),
+    λ h. to_keys (at_text c.macros name) refl (subst (λ (d : Dictionary). IsSome (get d.macros name)) (sym is) h),
+  )
+    where
+      macro_is : (found : Option Named) → at_text c.macros name ≡ found → get (changed base c).macros name ≡ over (option_map (λ m. Some (named_by m)) found) (get base.macros name)
+      macro_is found found_is = get-macro base c name ∙ ap (λ o. over (option_map (λ m. Some (named_by m)) o) (get base.macros name)) found_is
+
+      found_key : Contains (text_keys c.macros) name ↔ IsSome (at_text c.macros name)
+      found_key = (
+        λ h. found_among name c.macros.entries ∙ (Contains-among (text_keys c.macros) name).0 h,
+        λ h. (Contains-among (text_keys c.macros) name).1 (sym (found_among name c.macros.entries) ∙ h),
+      )
+
+      of_keys : (found : Option Named) → at_text c.macros name ≡ found → Contains below name ⊎ Contains (text_keys c.macros) name → IsSome (get (changed base c).macros name)
+      of_keys (Some m) found_is h = ap is_some (macro_is (Some m) found_is)
+      of_keys None found_is (inl kept) = subst IsSome (sym (macro_is None found_is)) ((exact name).0 kept)
+      of_keys None found_is (inr key) = absurd (true≢false (sym (found_key.0 key) ∙ ap is_some found_is))
+
+      to_keys : (found : Option Named) → at_text c.macros name ≡ found → IsSome (get (changed base c).macros name) → Contains (below ++ text_keys c.macros) name
+      to_keys (Some m) found_is h = Contains-append_right below (text_keys c.macros) name (found_key.1 (ap is_some found_is))
+      to_keys None found_is h = Contains-append_left below (text_keys c.macros) name ((exact name).1 (subst IsSome (macro_is None found_is) h))
+
 -- the text itself if it is a word, and those of two lists that are words
 abbrev pub words_among : Dictionary → List ℕ → List (List ℕ) → List (List ℕ) → List (List ℕ)
 words_among dict text below names = ((if is_word dict text then text ∷ [] else []) ++ filter (is_word dict) below) ++ filter (is_word dict) names
 
-module _ (base seen : Dictionary) (c : Changes) (laid : IsLaid c) (is : changed base c ≡ seen) (text : List ℕ) (below : List (List ℕ)) (exact : (w : List ℕ) → Contains below w ↔ (IsSome (get base.words w) × (is_under text w ≡ true))) where
+module _ (base seen : Dictionary) (c : Changes) (laid : IsLaid c) (is : changed base c ≡ seen) (text : List ℕ) (below : List (List ℕ)) (exact : (w : List ℕ) → Contains below w ↔ (IsSome (get base.words w) × (is_under Stem text w ≡ true))) where
   pub has_seen : (b : Bool) → ((is_word seen text || list_any (is_word seen) below) || list_any (is_word seen) (texts_at c.stems text)) ≡ b → (b ≡ true) ↔ ((word : List ℕ) × IsWordOf seen text word)
   has_seen b =
       subst (λ (d : Dictionary). ((is_word d text || list_any (is_word d) below) || list_any (is_word d) (texts_at c.stems text)) ≡ b → (b ≡ true) ↔ ((word : List ℕ) × IsWordOf d text word)) is

@@ -11,16 +11,18 @@ use Rattle.std.specs.List.{list_any, dedup, dedup_from, AllByRecursion}
 use Rattle.std.specs.List.Sorted.{IsStrictlySortedBy}
 use Rattle.std.specs.Map.{lookup}
 use Rattle.std.specs.Option.{option_map}
-use Rattle.std.specs.FinMap.{get}
+use Rattle.std.specs.FinMap.{get, from_entries}
+use Rattle.indexmap.specs.IndexMap.{IndexMap}
 use Rattle.std.specs.Ordering.{nat_cmp}
 use Rattle.std.specs.Cmp.Lexicographic.{slice_cmp, bytes_decides, nat_list_eq_equiv, on_texts, texts_ties}
 use Rattle.std.proofs.lemmas.List.Kept.{IsStrictlySortedBy-dedup, Contains-dedup, Contains-from_dedup}
 use Rattle.std.proofs.lemmas.List.Sorted.{IsPermutation-map, IsPermutation-sym, Contains-permutation}
-use Rattle.lg_dict.specs.Dictionary.{Dictionary, IsWordOf, AreWordsOf}
-use Rattle.lg_dict.specs.Tables.{text_keys, at_text, listed, same_text, is_under, tree_at}
-use Rattle.lg_dict.specs.Layout.{shown, IsKept}
+use Rattle.lg_dict.specs.Dictionary.{Dictionary, TextMap, IsWordOf, AreWordsOf, IsCompoundOf, AreCompoundsOf, AreKeys}
+use Rattle.lg_dict.specs.Tables.{text_entries, text_keys, at_text, listed, Lists, same_text, is_under, tree_at}
+use Rattle.lg_dict.specs.declared.tables.By.{By}
+use Rattle.lg_dict.specs.Layout.{shown}
 use Rattle.lg_dict.specs.declared.dict.Dict.TheInside.{Inside}
-use Rattle.lg_dict.proofs.Lookups.{get-shown}
+use Rattle.lg_dict.proofs.Lookups.{get-shown, shown_as}
 
 -- `dedup` by what f reads
 dedup_from-map : {X Y : Type 0} (f : X → Y) (same : Y → Y → Bool) (k : X) (xs : List X) → map f (dedup_from (λ a b. same (f a) (f b)) k xs) ≡ dedup_from same (f k) (map f xs)
@@ -43,6 +45,11 @@ pub IsStrictlySortedBy-map : {X Y : Type 0} (f : X → Y) (R : Y → Y → Order
 unfolding IsStrictlySortedBy
 IsStrictlySortedBy-map f R [] h = tt
 IsStrictlySortedBy-map f R (x ∷ xs) h = (all_read f (λ y. R (f x) y ≡ Less) xs h.0, IsStrictlySortedBy-map f R xs h.1)
+
+pub filter-map : {X Y : Type 0} (f : X → Y) (p : Y → Bool) (xs : List X) → map f (filter (λ x. p (f x)) xs) ≡ filter p (map f xs)
+filter-map f p [] = refl
+filter-map f p (x ∷ xs) =
+    elim (p (f x)) as (λ b. map f (cond b (x ∷ filter (λ x. p (f x)) xs) (filter (λ x. p (f x)) xs)) ≡ cond b (f x ∷ filter p (map f xs)) (filter p (map f xs))) [ true ↦ ap (λ l. f x ∷ l) (filter-map f p xs) | false ↦ filter-map f p xs ]
 
 -- whether a text is among texts
 abbrev pub among : List ℕ → List (List ℕ) → Bool
@@ -99,20 +106,38 @@ module _ (a : Inside) where
   pub known : (word : List ℕ) → is_some (get (shown a).words word) ≡ among word (text_keys a.words)
   known word = ap is_some (get-shown (tree_at a.formulas.items) a.words word) ∙ is_some-map (tree_at a.formulas.items) (at_text a.words word) ∙ found_among word a.words.entries
 
--- a stem lists the words that have it and a subscript
-pub listed_seen : (a : Inside) (dict : Dictionary) → shown a ≡ dict → IsKept a → (text word : List ℕ)
-    → Contains (listed (text_keys a.words) a.stems text) word ↔ (IsSome (get dict.words word) × (is_under text word ≡ true))
-listed_seen a dict seen kept text word =
-    let test : among word (listed (text_keys a.words) a.stems text) ≡ (among word (text_keys a.words) && is_under text word) = ap (among word) (kept.stems text) ∙ among-filter (λ w. is_under text w) word (text_keys a.words) in
+-- the keys of a table are those of the map that it stands for
+module _ {A V S X : Type 0} (g : V → X) (table : IndexMap (Vec ℕ A) V S) where
+  pub is_key : (text : List ℕ) → Contains (text_keys table) text ↔ IsSome (get (from_entries {R = slice_cmp nat_cmp} (shown_as g (text_entries table))) text)
+  is_key text =
+      let same : is_some (get (from_entries {R = slice_cmp nat_cmp} (shown_as g (text_entries table))) text) ≡ among text (text_keys table)
+      = ap is_some (get-shown g table text) ∙ is_some-map g (at_text table text) ∙ found_among text table.entries in
+      (λ h. same ∙ (Contains-among (text_keys table) text).0 h, λ h. (Contains-among (text_keys table) text).1 (sym same ∙ h))
+
+-- at a key stand the words that are listed there
+pub listed_seen : {A B S : Type 0} (by : By) (a : Inside) (dict : Dictionary) → shown a ≡ dict → (lists : IndexMap (Vec ℕ A) (Vec ℕ B) S) → Lists by (text_keys a.words) lists → (key word : List ℕ)
+    → Contains (listed (text_keys a.words) lists key) word ↔ (IsSome (get dict.words word) × (is_under by key word ≡ true))
+listed_seen by a dict seen lists kept key word =
+    let test : among word (listed (text_keys a.words) lists key) ≡ (among word (text_keys a.words) && is_under by key word) = ap (among word) (kept key) ∙ among-filter (λ w. is_under by key w) word (text_keys a.words) in
     let here : is_some (get dict.words word) ≡ among word (text_keys a.words) = ap (λ (d : Dictionary). is_some (get d.words word)) (sym seen) ∙ known a word in (
-      λ h. let parts = and_parts (among word (text_keys a.words)) (is_under text word) (sym test ∙ (Contains-among (listed (text_keys a.words) a.stems text) word).0 h) in (here ∙ parts.0, parts.1),
-      λ h. (Contains-among (listed (text_keys a.words) a.stems text) word).1 (test ∙ (λ i. (sym here ∙ h.0) i && h.1 i)),
+      λ h. let parts = and_parts (among word (text_keys a.words)) (is_under by key word) (sym test ∙ (Contains-among (listed (text_keys a.words) lists key) word).0 h) in (here ∙ parts.0, parts.1),
+      λ h. (Contains-among (listed (text_keys a.words) lists key) word).1 (test ∙ (λ i. (sym here ∙ h.0) i && h.1 i)),
     )
 
 pub words_result : {E : Type 0} (r : Result (List (List ℕ)) E) (dict : Dictionary) (text : List ℕ) (found : List (List ℕ)) → ((word : List ℕ) → Contains found word ↔ IsWordOf dict text word)
     → IfOk r (λ texts. IsStrictlySortedBy (slice_cmp nat_cmp) texts) → IfOk r (λ texts. (word : List ℕ) → Contains texts word ↔ Contains found word) → IfOk r (AreWordsOf dict text)
 words_result (Ok texts) dict text found exact rise same = record { rise = rise; exactly = λ word. (λ h. (exact word).0 ((same word).0 h), λ w. (same word).1 ((exact word).1 w)) }
 words_result (Err e) dict text found exact rise same = tt
+
+pub compounds_result : {E : Type 0} (r : Result (List (List ℕ)) E) (dict : Dictionary) (first : List ℕ) (found : List (List ℕ)) → ((word : List ℕ) → Contains found word ↔ IsCompoundOf dict first word)
+    → IfOk r (λ texts. IsStrictlySortedBy (slice_cmp nat_cmp) texts) → IfOk r (λ texts. (word : List ℕ) → Contains texts word ↔ Contains found word) → IfOk r (AreCompoundsOf dict first)
+compounds_result (Ok texts) dict first found exact rise same = record { rise = rise; exactly = λ word. (λ h. (exact word).0 ((same word).0 h), λ w. (same word).1 ((exact word).1 w)) }
+compounds_result (Err e) dict first found exact rise same = tt
+
+pub keys_result : {E V : Type 0} (r : Result (List (List ℕ)) E) (m : TextMap V) (found : List (List ℕ)) → ((text : List ℕ) → Contains found text ↔ IsSome (get m text))
+    → IfOk r (λ texts. IsStrictlySortedBy (slice_cmp nat_cmp) texts) → IfOk r (λ texts. (text : List ℕ) → Contains texts text ↔ Contains found text) → IfOk r (AreKeys m)
+keys_result (Ok texts) m found exact rise same = record { rise = rise; exactly = λ text. (λ h. (exact text).0 ((same text).0 h), λ h. (same text).1 ((exact text).1 h)) }
+keys_result (Err e) m found exact rise same = tt
 
 -- texts that were sorted by their bytes and are each kept once
 module _ (before sorted : List (Bor (List ℕ))) where

@@ -1,5 +1,5 @@
 -- What contracts see of a dictionary: two finite maps.
-use Rattle.std.specs.Prelude.{◌≡◌, ◌⊎◌, ◌↔◌, ◌≤◌, ℕ, List, [], ◌∷◌, length, map, Contains, IsSome}
+use Rattle.std.specs.Prelude.{◌≡◌, ◌⊎◌, ◌↔◌, ◌≤◌, ℕ, List, [], ◌∷◌, length, map, Contains, Some, IsSome}
 use Rattle.std.specs.List.{flat_map}
 use Rattle.std.specs.List.Sorted.{IsStrictlySortedBy}
 use Rattle.std.specs.Ordering.{nat_cmp}
@@ -9,6 +9,7 @@ use Rattle.lg_gram.specs.Filled.{Formulas}
 use Rattle.lg_gram.specs.Trees.{Tree, tree_of}
 use Rattle.lg_gram.specs.declared.entry.Entry.{Entry}
 pub use Rattle.lg_gram.specs.Entries.{words_in, macros_in, AreEntries}
+use Rattle.lg_dict.specs.Compounds.{compound_first}
 use Rattle.lg_dict.specs.Subscripts.{stem_of}
 
 -- a finite map from texts, in the order of their bytes
@@ -53,6 +54,21 @@ pub record IsWordOf (dict : Dictionary) (text word : List ℕ) : Type 0 where
 pub record AreWordsOf (dict : Dictionary) (text : List ℕ) (words : List (List ℕ)) : Type 0 where
   pub rise : IsStrictlySortedBy (slice_cmp nat_cmp) words
   pub exactly : (word : List ℕ) → Contains words word ↔ IsWordOf dict text word
+
+-- a compound of the dictionary whose first part this is
+pub record IsCompoundOf (dict : Dictionary) (first word : List ℕ) : Type 0 where
+  pub kept : IsSome (get dict.words word)
+  pub begins : compound_first word ≡ Some first
+
+-- exactly those compounds, increasing by bytes
+pub record AreCompoundsOf (dict : Dictionary) (first : List ℕ) (words : List (List ℕ)) : Type 0 where
+  pub rise : IsStrictlySortedBy (slice_cmp nat_cmp) words
+  pub exactly : (word : List ℕ) → Contains words word ↔ IsCompoundOf dict first word
+
+-- exactly the keys of the map, increasing by bytes
+pub record AreKeys {V : Type 0} (m : TextMap V) (texts : List (List ℕ)) : Type 0 where
+  pub rise : IsStrictlySortedBy (slice_cmp nat_cmp) texts
+  pub exactly : (text : List ℕ) → Contains texts text ↔ IsSome (get m text)
 
 -- the length of the longest of some texts: none has more bytes, and one has so many, or it is 0
 pub record IsLongest (IsOne : List ℕ → Type 0) (n : ℕ) : Type 0 where

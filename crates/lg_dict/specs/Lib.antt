@@ -1,5 +1,7 @@
 pub mod Subscripts
+pub mod Compounds
 pub mod Dictionary
+pub mod Lengths
 pub mod Stored
 pub mod Tables
 pub mod Layout

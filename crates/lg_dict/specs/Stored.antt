@@ -1,4 +1,4 @@
--- Dictionaries as values that are told apart by a code: a tree by the steps that build it.
+-- Dictionaries as values that are told apart by a code: a tree by the steps that build it. The lemmas stand here since a Model's `coded` reads specs/ alone.
 use Rattle.std.specs.Prelude.{◌≡◌, ◌⊎◌, ℤ, List, [], ◌∷◌, Bool, true, false, refl, ℕ}
 use Rattle.std.proofs.Common.{inl, inr, ap, ◌∙◌}
 use Rattle.std.specs.declared.option.Option.{Option}

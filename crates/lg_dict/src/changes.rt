@@ -1,18 +1,17 @@
 //! Changes of a dictionary that are laid over it.
-ghost use Rattle.std.specs.Prelude.{◌≡◌, ℕ, List, [], All, IsSome, IfSome, Some, is_some, if◌then◌else◌, OnOk, OnErr};
+ghost use Rattle.std.specs.Prelude.{◌≡◌, ℕ, List, [], length, All, IsSome, IfOk, IfSome, Some, is_some, if◌then◌else◌, OnOk, OnErr};
 ghost use Rattle.std.specs.FinMap as finite;
-ghost use Rattle.std.specs.List.{list_any};
 ghost use Rattle.std.specs.Option.{option_map};
 ghost use Rattle.lg_gram.specs.Fits.{Fits};
 ghost use Rattle.lg_gram.specs.Formulas.{LevelFits};
 ghost use Rattle.lg_gram.specs.Trees.{tree_of};
-ghost use Rattle.lg_dict.specs.Changed.{change_at, changed, HasSame, IsLaid, IsNamed};
+ghost use Rattle.lg_dict.specs.Changed.{changed, HasGiven, HasSame, IsLaid, IsNamed, IsTree};
 ghost use Rattle.lg_dict.specs.Dictionary.{Dictionary, insert_all};
 ghost use Rattle.lg_dict.specs.Tables.{at_text, same_text};
-ghost use Rattle.lg_dict.specs.declared.changes.Change.TheVariants.{Given};
 
 use crate::dict::Dict;
-use crate::tables::{Table, list_text};
+use crate::lengths::Lengths;
+use crate::tables::{By, Table, list_text};
 use indexmap::IndexMap;
 use lg_base::{NoMemory, Text, copied};
 use lg_gram::Formula;
@@ -24,10 +23,8 @@ pub enum Change {
     /// Nothing.
     Same,
     Removed,
-    /// The formula that was given to this word alone. It goes when the word is changed again.
-    Own(Formula),
-    /// The number, among those of the changes, of a formula that was given to several words at once.
-    Given(usize),
+    /// The formula that was given to the word; words that were given it at once share it.
+    Given(Formula),
 }
 
 /// What a macro stands for now. The formula goes when the macro is set again.
@@ -37,16 +34,17 @@ pub(crate) struct Named {
     pub(crate) level: u32,
 }
 
-/// Changes: of words, with the words of each stem, and of macros.
+/// Changes: of words, with the words of each stem and those of each first part, and of macros.
 ///
-/// The formulas are those that were given to several words at once; they stay until the changes are given back, also where
-/// no word has them any more. The words that a stem lists may be unchanged, and may stand twice.
+/// A formula goes when the last word that has it is changed again. The words that are listed may be unchanged, and may
+/// stand twice.
 #[derive(Drop)]
 pub(crate) struct Changes {
-    pub(crate) formulas: Vec<Formula>,
     pub(crate) words: Table<Change>,
     pub(crate) stems: Table<Vec<Text>>,
+    pub(crate) firsts: Table<Vec<Text>>,
     pub(crate) macros: Table<Named>,
+    pub(crate) lengths: Lengths,
 }
 
 impl Changes {
@@ -57,10 +55,11 @@ impl Changes {
         ensures macros { result.macros.entries ≡ [] }
     {
         Changes {
-            formulas: Vec::new(alloc),
             words: IndexMap::new(alloc),
             stems: IndexMap::new(alloc),
+            firsts: IndexMap::new(alloc),
             macros: IndexMap::new(alloc),
+            lengths: Lengths::new(alloc),
         }
     }
 
@@ -121,7 +120,7 @@ impl Changes {
         ensures unchanged { OnErr result ((dict : Dictionary) → changed dict self.new ≡ changed dict self.old) }
     {
         self.admit(alloc, word)?;
-        set_change(&mut self.words, word, Change::Own(formula));
+        set_change(&mut self.words, word, Change::Given(formula));
         Ok(())
     }
 
@@ -132,10 +131,9 @@ impl Changes {
         ensures put { OnOk result ((dict : Dictionary) → changed dict self.new ≡ record (changed dict self.old) { words = insert_all words.now (tree_of formula) (changed dict self.old).words }) }
         ensures unchanged { OnErr result ((dict : Dictionary) → changed dict self.new ≡ changed dict self.old) }
     {
+        let copies = copies_of(alloc, formula, words.len())?;
         self.admit_all(alloc, words)?;
-        let number = self.formulas.len();
-        self.formulas.push(formula)?;
-        self.set_all(words, number);
+        self.set_all(words, copies);
         Ok(())
     }
 
@@ -164,24 +162,44 @@ impl Changes {
             return Ok(());
         }
         let key = copied(alloc, word)?;
-        list_text(alloc, &mut self.stems, word)?;
+        self.lengths.add_word(word)?;
+        list_text(alloc, By::Stem, &mut self.stems, word)?;
+        list_text(alloc, By::First, &mut self.firsts, word)?;
         self.words.insert(key, Change::Same)?;
         Ok(())
     }
 
-    // Gives each of these words, for which there is room, the formula of this number.
-    fn set_all(&mut self, words: &[Text], number: usize)
+    // Gives each of these words, for which there is room, one of these formulas.
+    fn set_all(&mut self, words: &[Text], mut copies: Vec<Formula>)
         requires named { All (IsNamed self.old) words.now }
-        ensures words { (text : List ℕ) → change_at self.new text ≡ (if list_any (same_text text) words.now then Given number else change_at self.old text) }
+        requires count { length copies.items ≡ length words.now }
+        ensures words { HasGiven copies.items words.now self.old self.new }
         ensures names { (text : List ℕ) → is_some (at_text self.new.words text) ≡ is_some (at_text self.old.words text) }
         ensures stems { self.new.stems ≡ self.old.stems }
-        ensures formulas { self.new.formulas ≡ self.old.formulas }
+        ensures firsts { self.new.firsts ≡ self.old.firsts }
         ensures macros { self.new.macros ≡ self.old.macros }
+        ensures lengths { self.new.lengths ≡ self.old.lengths }
     {
         for word in words {
-            set_change(&mut self.words, word.bytes(), Change::Given(number));
+            match copies.pop() {
+                Some(copy) => set_change(&mut self.words, word.bytes(), Change::Given(copy)),
+                None => unreachable!(),
+            }
         }
     }
+}
+
+// So many formulas, which share their expression.
+fn copies_of(alloc: Global, formula: Formula, count: usize) -> Result<Vec<Formula>, NoMemory>
+    ensures count { IfOk result (λ copies. length copies.items ≡ count) }
+    ensures same { IfOk result (λ copies. All (IsTree (tree_of formula)) copies.items) }
+{
+    let shared = formula.shared(alloc)?;
+    let mut copies = Vec::with_capacity(alloc, count)?;
+    for _ in 0..count {
+        copies.push(shared.copied(alloc)?)?;
+    }
+    Ok(copies)
 }
 
 // Sets the change of a word, for which there is room.
@@ -201,15 +219,13 @@ pub(crate) fn looked_up<'b>(
     changes: &'b Changes,
     word: &[u8],
 ) -> Option<&'b Formula>
-    requires { IsLaid changes.now }
     ensures { option_map (λ formula. tree_of formula.now) result ≡ finite.get (changed base.now changes.now).words word.now }
 {
     match changes.words.get(word) {
         None => base.get(word),
         Some(Change::Same) => base.get(word),
         Some(Change::Removed) => None,
-        Some(Change::Own(formula)) => Some(formula),
-        Some(Change::Given(number)) => Some(&changes.formulas[*number]),
+        Some(Change::Given(formula)) => Some(formula),
     }
 }
 

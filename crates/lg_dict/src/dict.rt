@@ -1,14 +1,19 @@
 //! A dictionary, made once from its entries.
-ghost use Rattle.std.specs.Prelude.{◌≡◌, ◌↔◌, ℕ, List, map, true, Contains, IsSome, IfOk, IfSome};
+ghost use Rattle.std.specs.Prelude.{◌≡◌, ◌↔◌, ℕ, List, map, true, false, Contains, IsSome, IfOk, IfSome};
 ghost use Rattle.std.specs.FinMap as finite;
 ghost use Rattle.std.specs.Option.{option_map};
 ghost use Rattle.lg_gram.specs.Trees.{tree_of};
 ghost use Rattle.lg_gram.specs.Fits.{AllFit};
 ghost use Rattle.lg_gram.specs.Formulas.{LevelFits};
 ghost use Rattle.lg_dict.specs.Dictionary.{dictionary_of, macros_of, AreEntries, IsLongestWord};
+ghost use Rattle.lg_dict.specs.Lengths.{NoWordHas};
 ghost use Rattle.lg_dict.specs.Tables.{text_at, text_keys, is_under};
+ghost use Rattle.lg_dict.specs.declared.tables.By.TheVariants.{Stem, First};
 
-use crate::tables::{Macro, Table, longest_word, macro_table, stem_table, with_stem, word_table};
+use crate::lengths::Lengths;
+use crate::tables::{
+    By, Macro, Table, lengths_of, list_table, longest_word, macro_table, numbers_under, word_table,
+};
 use lg_base::NoMemory;
 use lg_gram::{Entry, Formula};
 use std::alloc::Global;
@@ -17,15 +22,17 @@ use std::marker::Model;
 /// A dictionary. Contracts see two finite maps: from its words to the trees of their formulas, and from its macros to
 /// the trees of their formulas and their levels.
 ///
-/// A formula is stored once, for all words of its entry. A text longer than each word is found to be none without being
-/// read.
+/// A formula is stored once, for all words of its entry. A text whose length no word and no stem has is found to be none
+/// without being read.
 #[derive(Drop)]
 pub struct Dict {
     formulas: Vec<Formula>,
     words: Table<usize>,
     macros: Table<Macro>,
     stems: Table<Vec<usize>>,
+    firsts: Table<Vec<usize>>,
     longest: usize,
+    lengths: Lengths,
 }
 
 impl Model for Dict {
@@ -53,14 +60,18 @@ impl Dict {
         let words = word_table(alloc, &entries)?;
         let macros = macro_table(alloc, &entries)?;
         let formulas = formulas_of(alloc, entries)?;
-        let stems = stem_table(alloc, &words)?;
+        let stems = list_table(alloc, By::Stem, &words)?;
+        let firsts = list_table(alloc, By::First, &words)?;
         let longest = longest_word(&words);
+        let lengths = lengths_of(alloc, &words)?;
         Ok(Dict {
             formulas,
             words,
             macros,
             stems,
+            firsts,
             longest,
+            lengths,
         })
     }
 
@@ -69,6 +80,13 @@ impl Dict {
         ensures { IsLongestWord self.now result }
     {
         self.longest
+    }
+
+    /// Whether a word or a stem of a word may have this length in bytes. No memory.
+    pub(crate) fn has_length(&self, length: usize) -> bool
+        ensures { result ≡ false → NoWordHas self.now length }
+    {
+        self.lengths.has(length)
     }
 
     /// The formula of a word. No memory.
@@ -98,11 +116,32 @@ impl Dict {
         let _macros = &self.macros;
     }
 
+    /// The words, as the keys of a table. No memory.
+    pub(crate) fn words(&self) -> &Table<usize>
+        ensures { (word : List ℕ) → Contains (text_keys result.now) word ↔ IsSome (finite.get self.now.words word) }
+    {
+        &self.words
+    }
+
+    /// The names of macros, as the keys of a table. No memory.
+    pub(crate) fn macros(&self) -> &Table<Macro>
+        ensures { (name : List ℕ) → Contains (text_keys result.now) name ↔ IsSome (finite.get self.now.macros name) }
+    {
+        &self.macros
+    }
+
     /// The words that have this stem and are not their own, as their numbers in a table of words. No memory.
     pub(crate) fn with_stem(&self, stem: &[u8]) -> (&Table<usize>, &[usize])
-        ensures { (word : List ℕ) → Contains (map (λ number. text_at (text_keys result.0.now) number) result.1.now) word ↔ (IsSome (finite.get self.now.words word) × (is_under stem.now word ≡ true)) }
+        ensures { (word : List ℕ) → Contains (map (λ number. text_at (text_keys result.0.now) number) result.1.now) word ↔ (IsSome (finite.get self.now.words word) × (is_under Stem stem.now word ≡ true)) }
     {
-        (&self.words, with_stem(&self.stems, stem))
+        (&self.words, numbers_under(&self.stems, stem))
+    }
+
+    /// The compounds that have this first part, as their numbers in a table of words. No memory.
+    pub(crate) fn with_first(&self, first: &[u8]) -> (&Table<usize>, &[usize])
+        ensures { (word : List ℕ) → Contains (map (λ number. text_at (text_keys result.0.now) number) result.1.now) word ↔ (IsSome (finite.get self.now.words word) × (is_under First first.now word ≡ true)) }
+    {
+        (&self.words, numbers_under(&self.firsts, first))
     }
 }
 

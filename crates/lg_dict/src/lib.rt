@@ -2,11 +2,14 @@
 #![tactic(auto)]
 
 pub mod changes;
+pub mod compound;
 pub mod dict;
+pub mod lengths;
 pub mod subscript;
 pub mod tables;
 pub mod view;
 
+pub use compound::{compound_first, parts};
 pub use dict::Dict;
 pub use subscript::{stem, words_have_one_stem};
 pub use view::View;

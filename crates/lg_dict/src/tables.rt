@@ -1,10 +1,14 @@
 //! The hash tables of a dictionary, each made once from the entries. Their keys are bytes.
-ghost use Rattle.std.specs.Prelude.{◌≡◌, ◌≢◌, ◌<◌, ◌≤◌, ◌++◌, [], ◌∷◌, ℕ, List, map, filter, length, All, AllPairs, Contains, IsSome, IfOk, OnOk, OnErr, nat_eq, if◌then◌else◌};
+ghost use Rattle.std.specs.Prelude.{◌≡◌, ◌≢◌, ◌<◌, ◌≤◌, ◌++◌, [], ◌∷◌, ℕ, List, map, length, All, AllPairs, Contains, IsSome, IfOk, OnOk, OnErr, nat_eq, if◌then◌else◌};
 ghost use Rattle.std.specs.List.{IsDistinct};
+ghost use Rattle.std.specs.Option.{option_map};
 ghost use Rattle.indexmap.specs.IndexMap.{values};
 ghost use Rattle.lg_dict.specs.Dictionary.{words_in, macros_in, words_with_formulas, macros_with_formulas, AreEntries, IsLongest};
-ghost use Rattle.lg_dict.specs.Tables.{text_entries, text_keys, text_at, at_text, numbers_at, texts_at, listed, same_text, is_under, with_trees, with_macros, IsMacro};
+ghost use Rattle.lg_dict.specs.Lengths.{HasLengths};
+ghost use Rattle.lg_dict.specs.Tables.{text_entries, text_keys, text_at, at_text, numbers_at, texts_at, Lists, same_text, other_stem, key_of, is_under, with_trees, with_macros, IsMacro};
 
+use crate::compound::compound_first;
+use crate::lengths::Lengths;
 use crate::subscript::stem;
 use indexmap::IndexMap;
 use lg_base::{NoMemory, Text, copied};
@@ -12,6 +16,15 @@ use lg_gram::Entry;
 use std::alloc::Global;
 
 pub(crate) type Table<V> = IndexMap<Vec<u8>, V>;
+
+/// By what words are listed in a table beside the words.
+#[derive(Clone, Copy, Debug, PartialEq, Eq)]
+pub enum By {
+    /// The stem, for a word that has a subscript.
+    Stem,
+    /// The first part, for a compound.
+    First,
+}
 
 /// Where a macro's formula stands among the formulas, and its level.
 #[derive(Clone, Copy, Debug, PartialEq, Eq)]
@@ -69,6 +82,19 @@ fn add_names<V: Copy>(
     Ok(())
 }
 
+/// Adds the keys of a table.
+pub(crate) fn add_keys<'b, V>(
+    found: &mut Vec<&'b [u8]>,
+    table: &'b Table<V>,
+) -> Result<(), NoMemory>
+    ensures { OnOk result (map (λ key. key.now) found.new.items ≡ map (λ key. key.now) found.old.items ++ text_keys table.now) }
+{
+    for key in table.keys() {
+        found.push(key.as_slice())?;
+    }
+    Ok(())
+}
+
 /// The length in bytes of the longest word; 0 where there is no word.
 pub(crate) fn longest_word(words: &Table<usize>) -> usize
     ensures { IsLongest (Contains (text_keys words.now)) result }
@@ -78,6 +104,17 @@ pub(crate) fn longest_word(words: &Table<usize>) -> usize
         longest = longest.max(word.len());
     }
     longest
+}
+
+/// The lengths of the words and of their stems.
+pub(crate) fn lengths_of(alloc: Global, words: &Table<usize>) -> Result<Lengths, NoMemory>
+    ensures { IfOk result (λ lengths. (word : List ℕ) → Contains (text_keys words.now) word → HasLengths lengths word) }
+{
+    let mut lengths = Lengths::new(alloc);
+    for word in words.keys() {
+        lengths.add_word(word.as_slice())?;
+    }
+    Ok(lengths)
 }
 
 /// The greatest of a length in bytes and the lengths of these words. No memory.
@@ -92,15 +129,40 @@ pub(crate) fn longest_of(start: usize, words: &[Text]) -> usize
     longest
 }
 
-/// The numbers of the words of each stem but the stem itself.
-pub(crate) fn stem_table(alloc: Global, words: &Table<usize>) -> Result<Table<Vec<usize>>, NoMemory>
-    ensures { IfOk result (λ stems. (text : List ℕ) → listed (text_keys words.now) stems text ≡ filter (λ word. is_under text word) (text_keys words.now)) }
+/// The numbers of the words that are listed at each key.
+pub(crate) fn list_table(
+    alloc: Global,
+    by: By,
+    words: &Table<usize>,
+) -> Result<Table<Vec<usize>>, NoMemory>
+    ensures { IfOk result (Lists by (text_keys words.now)) }
 {
-    let mut stems = IndexMap::new(alloc);
+    let mut lists = IndexMap::new(alloc);
     for number in 0..words.len() {
-        list_word(alloc, &mut stems, word_at(words, number), number)?;
+        list_word(alloc, by, &mut lists, word_at(words, number), number)?;
     }
-    Ok(stems)
+    Ok(lists)
+}
+
+// The key by which a word is listed, if it is. No memory.
+fn key_under(by: By, word: &[u8]) -> Option<&[u8]>
+    ensures { option_map (λ key. key.now) result ≡ key_of by word.now }
+{
+    match by {
+        By::Stem => other_stem(word),
+        By::First => compound_first(word),
+    }
+}
+
+// The stem of a word that has a subscript. No memory.
+fn other_stem(word: &[u8]) -> Option<&[u8]>
+    ensures { option_map (λ key. key.now) result ≡ other_stem word.now }
+{
+    let stem = stem(word);
+    if stem == word {
+        return None;
+    }
+    Some(stem)
 }
 
 /// The word of this number in a table of words; where there is none, no bytes. No memory.
@@ -113,25 +175,25 @@ pub(crate) fn word_at(words: &Table<usize>, number: usize) -> &[u8]
     }
 }
 
-// Adds a word's number to those of its stem; a word that is its own stem is not listed.
+// Adds a word's number to those of its key, if it is listed.
 fn list_word(
     alloc: Global,
-    stems: &mut Table<Vec<usize>>,
+    by: By,
+    lists: &mut Table<Vec<usize>>,
     word: &[u8],
     number: usize,
 ) -> Result<(), NoMemory>
-    ensures { OnOk result ((text : List ℕ) → numbers_at stems.new text ≡ (if is_under text word.now then numbers_at stems.old text ++ number ∷ [] else numbers_at stems.old text)) }
+    ensures { OnOk result ((text : List ℕ) → numbers_at lists.new text ≡ (if is_under by text word.now then numbers_at lists.old text ++ number ∷ [] else numbers_at lists.old text)) }
 {
-    let stem = stem(word);
-    if stem == word {
+    let Some(key) = key_under(by, word) else {
         return Ok(());
-    }
-    let key = copied(alloc, stem)?;
-    push_tightly(stems.entry(key)?.or_default(), number)?;
+    };
+    let key = copied(alloc, key)?;
+    push_tightly(lists.entry(key)?.or_default(), number)?;
     Ok(())
 }
 
-// Adds a number to a list. Most stems have one word, so the first takes the room of one.
+// Adds a number to a list. Most keys have one word, so the first takes the room of one.
 fn push_tightly(list: &mut Vec<usize>, number: usize) -> Result<(), NoMemory>
     ensures { OnOk result (list.new.items ≡ list.old.items ++ number ∷ []) }
 {
@@ -142,55 +204,55 @@ fn push_tightly(list: &mut Vec<usize>, number: usize) -> Result<(), NoMemory>
     Ok(())
 }
 
-/// The numbers that a table of stems has for a stem. No memory.
-pub(crate) fn with_stem<'a>(stems: &'a Table<Vec<usize>>, stem: &[u8]) -> &'a [usize]
-    ensures { result.now ≡ numbers_at stems.now stem.now }
+/// The numbers that a table of lists has for a key. No memory.
+pub(crate) fn numbers_under<'a>(lists: &'a Table<Vec<usize>>, key: &[u8]) -> &'a [usize]
+    ensures { result.now ≡ numbers_at lists.now key.now }
 {
-    match stems.get(stem) {
+    match lists.get(key) {
         Some(numbers) => numbers.as_slice(),
         None => &[],
     }
 }
 
-/// Adds a word to those that a table of stems has for its stem; a word that is its own stem is not added. Out of memory,
-/// the table has the same for each stem.
+/// Adds a word to those that a table of lists has for its key, if it is listed. Out of memory, the table has the same for
+/// each key.
 pub(crate) fn list_text(
     alloc: Global,
-    stems: &mut Table<Vec<Text>>,
+    by: By,
+    lists: &mut Table<Vec<Text>>,
     word: &[u8],
 ) -> Result<(), NoMemory>
-    ensures unchanged { OnErr result ((text : List ℕ) → texts_at stems.new text ≡ texts_at stems.old text) }
-    ensures listed { OnOk result ((text : List ℕ) → texts_at stems.new text ≡ (if is_under text word.now then texts_at stems.old text ++ word.now ∷ [] else texts_at stems.old text)) }
+    ensures unchanged { OnErr result ((text : List ℕ) → texts_at lists.new text ≡ texts_at lists.old text) }
+    ensures listed { OnOk result ((text : List ℕ) → texts_at lists.new text ≡ (if is_under by text word.now then texts_at lists.old text ++ word.now ∷ [] else texts_at lists.old text)) }
 {
-    let stem = stem(word);
-    if stem == word {
+    let Some(key) = key_under(by, word) else {
         return Ok(());
-    }
+    };
     let text = Text::of(alloc, word)?;
-    admit_stem(alloc, stems, stem)?;
-    push_text(stems, stem, text)
+    admit_key(alloc, lists, key)?;
+    push_text(lists, key, text)
 }
 
-// Makes room for the words of a stem.
-fn admit_stem(alloc: Global, stems: &mut Table<Vec<Text>>, stem: &[u8]) -> Result<(), NoMemory>
-    ensures same { (text : List ℕ) → texts_at stems.new text ≡ texts_at stems.old text }
-    ensures there { OnOk result (IsSome (at_text stems.new stem.now)) }
+// Makes room for the words of a key.
+fn admit_key(alloc: Global, lists: &mut Table<Vec<Text>>, key: &[u8]) -> Result<(), NoMemory>
+    ensures same { (text : List ℕ) → texts_at lists.new text ≡ texts_at lists.old text }
+    ensures there { OnOk result (IsSome (at_text lists.new key.now)) }
 {
-    if stems.contains_key(stem) {
+    if lists.contains_key(key) {
         return Ok(());
     }
-    let key = copied(alloc, stem)?;
-    stems.insert(key, Vec::new(alloc))?;
+    let copy = copied(alloc, key)?;
+    lists.insert(copy, Vec::new(alloc))?;
     Ok(())
 }
 
-// Adds a word to those of a stem, for which there is room.
-fn push_text(stems: &mut Table<Vec<Text>>, stem: &[u8], word: Text) -> Result<(), NoMemory>
-    requires { IsSome (at_text stems.old stem.now) }
-    ensures unchanged { OnErr result ((text : List ℕ) → texts_at stems.new text ≡ texts_at stems.old text) }
-    ensures pushed { OnOk result ((text : List ℕ) → texts_at stems.new text ≡ (if same_text text stem.now then texts_at stems.old text ++ word ∷ [] else texts_at stems.old text)) }
+// Adds a word to those of a key, for which there is room.
+fn push_text(lists: &mut Table<Vec<Text>>, key: &[u8], word: Text) -> Result<(), NoMemory>
+    requires { IsSome (at_text lists.old key.now) }
+    ensures unchanged { OnErr result ((text : List ℕ) → texts_at lists.new text ≡ texts_at lists.old text) }
+    ensures pushed { OnOk result ((text : List ℕ) → texts_at lists.new text ≡ (if same_text text key.now then texts_at lists.old text ++ word ∷ [] else texts_at lists.old text)) }
 {
-    match stems.get_mut(stem) {
+    match lists.get_mut(key) {
         Some(words) => push(words, word),
         None => unreachable!(),
     }
@@ -204,11 +266,11 @@ fn push(words: &mut Vec<Text>, word: Text) -> Result<(), NoMemory>
     Ok(())
 }
 
-/// The words that a table of stems has for a stem. No memory.
-pub(crate) fn texts_with_stem<'a>(stems: &'a Table<Vec<Text>>, stem: &[u8]) -> &'a [Text]
-    ensures { result.now ≡ texts_at stems.now stem.now }
+/// The words that a table of lists has for a key. No memory.
+pub(crate) fn texts_under<'a>(lists: &'a Table<Vec<Text>>, key: &[u8]) -> &'a [Text]
+    ensures { result.now ≡ texts_at lists.now key.now }
 {
-    match stems.get(stem) {
+    match lists.get(key) {
         Some(words) => words.as_slice(),
         None => &[],
     }

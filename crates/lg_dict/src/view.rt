@@ -1,5 +1,5 @@
 //! Views of a dictionary.
-ghost use Rattle.std.specs.Prelude.{◌≡◌, ◌↔◌, ◌++◌, [], ◌∷◌, ℕ, List, map, filter, is_some, if◌then◌else◌, Contains, IsTrue, IfOk, IfSome, OnOk, OnErr};
+ghost use Rattle.std.specs.Prelude.{◌≡◌, ◌↔◌, ◌++◌, [], ◌∷◌, ℕ, List, map, filter, is_some, false, if◌then◌else◌, Contains, IsTrue, IfOk, IfSome, OnOk, OnErr};
 ghost use Rattle.std.specs.FinMap as finite;
 ghost use Rattle.std.specs.Cmp.Lexicographic.{slice_cmp};
 ghost use Rattle.std.specs.List.{list_any};
@@ -9,12 +9,13 @@ ghost use Rattle.std.specs.Ordering.{nat_cmp};
 ghost use Rattle.lg_gram.specs.Trees.{tree_of};
 ghost use Rattle.lg_gram.specs.Fits.{AllFit};
 ghost use Rattle.lg_gram.specs.Formulas.{LevelFits};
-ghost use Rattle.lg_dict.specs.Dictionary.{IsWordOf, AreWordsOf, NoWordIsLonger, macros_of, insert_all};
+ghost use Rattle.lg_dict.specs.Dictionary.{IsWordOf, AreWordsOf, AreCompoundsOf, AreKeys, NoWordIsLonger, macros_of, insert_all};
+ghost use Rattle.lg_dict.specs.Lengths.{NoWordHas};
 ghost use Rattle.lg_dict.specs.Tables.{text_at, text_keys};
 
 use crate::changes::{Changes, looked_up, named_in};
 use crate::dict::Dict;
-use crate::tables::{Table, longest_of, texts_with_stem, word_at};
+use crate::tables::{Table, add_keys, longest_of, texts_under, word_at};
 use lg_base::{NoMemory, Text, Texts};
 use lg_gram::{Formula, Macros};
 use std::alloc::Global;
@@ -22,9 +23,8 @@ use std::marker::Model;
 
 /// A dictionary with changes laid over it. Contracts see the same two finite maps.
 ///
-/// The dictionary below stays as it is. A change takes the memory of its words and of one formula. What a macro had, or a
-/// word by a change of it alone, goes when the macro or the word is changed again; a formula that was given to several words
-/// at once stays until the view is given back.
+/// The dictionary below stays as it is. A change takes the memory of its words and of one formula. What a macro had goes
+/// when the macro is changed again, and a formula that was given to words when the last of them is.
 #[derive(Drop)]
 pub struct View<'a> {
     alloc: Global,
@@ -113,27 +113,59 @@ impl<'a> View<'a> {
     pub fn has(&self, text: &[u8]) -> bool
         ensures { IsTrue result ↔ ((word : List ℕ) × IsWordOf self.now text.now word) }
     {
-        if text.len() > self.longest {
+        if !self.has_length(text.len()) {
             return false;
         }
         let (words, numbers) = self.base.with_stem(text);
         self.is_word(text)
             || self.has_number(words, numbers)
-            || self.has_text(texts_with_stem(&self.changes.stems, text))
+            || self.has_text(texts_under(&self.changes.stems, text))
     }
 
     /// The words that equal the text or have it as stem, increasing by bytes.
     pub fn words_of(&self, alloc: Global, text: &[u8]) -> Result<Texts, NoMemory>
         ensures { IfOk result (AreWordsOf self.now text.now) }
     {
-        if text.len() > self.longest {
+        if !self.has_length(text.len()) {
             return Ok(Texts::of(Vec::new(alloc)));
         }
         let mut found = Vec::new(alloc);
         let (words, numbers) = self.base.with_stem(text);
         self.add_word(&mut found, text)?;
         self.add_numbers(&mut found, words, numbers)?;
-        self.add_texts(&mut found, texts_with_stem(&self.changes.stems, text))?;
+        self.add_texts(&mut found, texts_under(&self.changes.stems, text))?;
+        sorted_texts(alloc, found)
+    }
+
+    /// The compounds whose first part this is, increasing by bytes.
+    pub fn compounds(&self, alloc: Global, first: &[u8]) -> Result<Texts, NoMemory>
+        ensures { IfOk result (AreCompoundsOf self.now first.now) }
+    {
+        let mut found = Vec::new(alloc);
+        let (words, numbers) = self.base.with_first(first);
+        self.add_numbers(&mut found, words, numbers)?;
+        self.add_texts(&mut found, texts_under(&self.changes.firsts, first))?;
+        sorted_texts(alloc, found)
+    }
+
+    /// All words, increasing by bytes.
+    pub fn words(&self, alloc: Global) -> Result<Texts, NoMemory>
+        ensures { IfOk result (AreKeys self.now.words) }
+    {
+        let mut found = Vec::new(alloc);
+        add_keys(&mut found, self.base.words())?;
+        add_keys(&mut found, &self.changes.words)?;
+        found.retain(|word| self.is_word(word));
+        sorted_texts(alloc, found)
+    }
+
+    /// The names of all macros, with their angle brackets, increasing by bytes.
+    pub fn macros(&self, alloc: Global) -> Result<Texts, NoMemory>
+        ensures { IfOk result (AreKeys self.now.macros) }
+    {
+        let mut found = Vec::new(alloc);
+        add_keys(&mut found, self.base.macros())?;
+        add_keys(&mut found, &self.changes.macros)?;
         sorted_texts(alloc, found)
     }
 
@@ -167,6 +199,13 @@ impl<'a> View<'a> {
         ensures unchanged { OnErr result (self.new ≡ self.old) }
     {
         self.changes.remove(self.alloc, word)
+    }
+
+    // Whether a word or a stem of a word may have this length in bytes. No memory.
+    fn has_length(&self, length: usize) -> bool
+        ensures { result ≡ false → NoWordHas self.now length }
+    {
+        self.base.has_length(length) || self.changes.lengths.has(length)
     }
 
     // Whether the text itself is a word. No memory.

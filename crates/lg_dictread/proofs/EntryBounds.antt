@@ -5,8 +5,7 @@ use Rattle.lg_gram.specs.EntryBounds.{IsEntryInBounds}
 use Rattle.lg_gram.specs.EntryViews.{EntryView}
 use Rattle.lg_gram.specs.Limits.{LEVEL}
 use Rattle.lg_lex.specs.declared.marks.Marks.TheVariants.{Dictionary}
-use Rattle.lg_lex.specs.Marked.{without_mark}
-use Rattle.lg_lex.specs.Tokens.{Token, IsText}
+use Rattle.lg_lex.specs.Tokens.{Token, AreTokens}
 use Rattle.lg_expr.specs.Grammar.{Rules}
 use Rattle.lg_expr.specs.Reading.{StandFor}
 use Rattle.lg_dictread.specs.declared.entry_text.EntryError.{EntryError}
@@ -20,15 +19,15 @@ items_before [] ts rest h = omega (arith, ap length h)
 items_before (i ∷ is) [] rest h = absurd h
 items_before (i ∷ is) (t ∷ ts) rest h = let more = items_before is ts rest h.2 in omega arith
 
-module _ (few_tokens : (ts : List Token) (bytes : List ℕ) → IsText Dictionary bytes ts → length ts ≤ length bytes)
+module _ (few_tokens : (ts : List Token) (before : ℕ) (bytes : List ℕ) → AreTokens Dictionary ts before bytes → length ts ≤ length bytes)
     (bounded : (r : Rules) (ts : List Token) (e : EntryView) (rest : List Token) → r.limit ≤ LEVEL → length ts < 2 ^ 32 → StandFor Token part r ts e.expr e.level rest → IsEntryInBounds e) where
   text_bounded : (bytes : List ℕ) (x : Result EntryView EntryError) (e : EntryView) → length bytes ≤ FILE → EntryTextIs bytes x → x ≡ Ok e → IsEntryInBounds e
   text_bounded bytes x e low (not_utf8 n h) same = absurd cc
   text_bounded bytes x e low (one ts w is h) same =
-      let read : written_view (without_mark bytes) w ≡ e = cc in
-      let few = few_tokens ts bytes is in
+      let read : written_view bytes w ≡ e = cc in
+      let few = few_tokens ts 0 bytes is.tokens in
       let left = items_before w.items ts (h.mark ∷ h.body) h.are_items in
-      subst IsEntryInBounds read (bounded free_rules h.body (written_view (without_mark bytes) w) [] (omega arith) (omega arith) h.stands)
+      subst IsEntryInBounds read (bounded free_rules h.body (written_view bytes w) [] (omega arith) (omega arith) h.stands)
   text_bounded bytes x e low (goes_on ts w t rest error is h at) same = absurd cc
   text_bounded bytes x e low (faulty ts f left error is h at) same = absurd cc
 

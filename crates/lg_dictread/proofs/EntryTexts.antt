@@ -4,8 +4,7 @@ use Rattle.std.specs.Str.{IsUtf8, IsValidUpTo}
 use Rattle.lg_lex.specs.declared.marks.Marks.TheVariants.{Dictionary}
 use Rattle.lg_lex.specs.declared.location.Location.{Location}
 use Rattle.lg_lex.specs.Lexing.{between, lex}
-use Rattle.lg_lex.specs.Marked.{without_mark}
-use Rattle.lg_lex.specs.Tokens.{AreTokens, Token, IsText}
+use Rattle.lg_lex.specs.Tokens.{AreTokens, Token}
 use Rattle.lg_lex.specs.Spots.{location_left}
 use Rattle.lg_expr.specs.declared.fault.Fault as expr_fault
 use Rattle.lg_expr.specs.declared.fault.Fault.TheVariants as faults
@@ -20,7 +19,7 @@ use Rattle.lg_dictread.specs.declared.stop.Stop.TheVariants as stops
 use Rattle.lg_dictread.specs.View.{TellsStop, KnowsMacros, LeadsTo, TellsAlone}
 use Rattle.lg_gram.specs.declared.entry.RawEntry.{RawEntry}
 use Rattle.lg_gram.specs.EntryViews.{EntryView, entry_view}
-use Rattle.lg_dictread.specs.EntryTexts.{free_rules, written_view, IsErrorAt, EntryTextIs, not_utf8, one, goes_on, faulty, TellsEntryText}
+use Rattle.lg_dictread.specs.EntryTexts.{AreTokensOf, free_rules, written_view, IsErrorAt, EntryTextIs, not_utf8, one, goes_on, faulty, TellsEntryText}
 
 no_unknown_part : (body rest : List Token) → FirstFault Token part free_rules body faults.UnknownMacro rest → ⊥
 no_unknown_part body [] h = h.stops
@@ -46,7 +45,7 @@ same_error p faults.TooDeep d e h k = h ∙ sym k
 
 -- ---- what an answer of the tokens makes of the text
 
-pub text_is : (bytes : List ℕ) (ts : List Token) (a : EntryAnswer) (x : Result EntryView EntryError) → IsText Dictionary bytes ts → EntryIs free_rules ts a → LeadsTo (without_mark bytes) a x → EntryTextIs bytes x
+pub text_is : (bytes : List ℕ) (ts : List Token) (a : EntryAnswer) (x : Result EntryView EntryError) → AreTokensOf bytes ts → EntryIs free_rules ts a → LeadsTo bytes a x → EntryTextIs bytes x
 text_is bytes ts (entry e []) x is h leads = subst (EntryTextIs bytes) (sym leads) (one ts e is h)
 text_is bytes ts (entry e (t ∷ rest)) x is h (d, error, leads) = subst (EntryTextIs bytes) (sym leads) (goes_on ts e t rest d is h error)
 text_is bytes ts (fault f left) x is h (d, error, leads) = subst (EntryTextIs bytes) (sym leads) (faulty ts f left d is h error)
@@ -64,7 +63,7 @@ same_result text (fault f left) x y (d, h, xd) (e, k, ye) = xd ∙ ap Err (same_
 -- the text is at fault before all else, or an answer of its tokens leads to the result
 abbrev Reached : List ℕ → Result EntryView EntryError → Type 0
 Reached bytes x = ((n : ℕ) × IsValidUpTo bytes n × (x ≡ Err (NotUtf8 n)))
-    ⊎ ((ts : List Token) × (a : EntryAnswer) × IsText Dictionary bytes ts × EntryIs free_rules ts a × LeadsTo (without_mark bytes) a x)
+    ⊎ ((ts : List Token) × (a : EntryAnswer) × AreTokensOf bytes ts × EntryIs free_rules ts a × LeadsTo bytes a x)
 
 reached : (bytes : List ℕ) (x : Result EntryView EntryError) → EntryTextIs bytes x → Reached bytes x
 reached bytes x (not_utf8 n h) = inl (n, h, refl)
@@ -82,7 +81,7 @@ knows_macros text ts a (stops.CostForm line) is h = tt
 knows_macros text ts a (stops.UnknownMacro line name) is h = no_unknown ts h.0 h.1 (subst (EntryIs free_rules ts) h.2 is) h.3.0
 knows_macros text ts a (stops.TooDeep line) is h = tt
 
-pub told_text : (bytes : List ℕ) (ts : List Token) (a : EntryAnswer) (x : Result RawEntry EntryError) → IsText Dictionary bytes ts → EntryIs free_rules ts a → TellsAlone (without_mark bytes) a x → TellsEntryText bytes x
+pub told_text : (bytes : List ℕ) (ts : List Token) (a : EntryAnswer) (x : Result RawEntry EntryError) → AreTokensOf bytes ts → EntryIs free_rules ts a → TellsAlone bytes a x → TellsEntryText bytes x
 told_text bytes ts a (Ok e) is h leads = text_is bytes ts a (Ok (entry_view e)) is h leads
 told_text bytes ts a (Err NoMemory) is h leads = tt
 told_text bytes ts a (Err (NotUtf8 n)) is h leads = text_is bytes ts a (Err (NotUtf8 n)) is h leads
@@ -101,7 +100,7 @@ module _ (lexed : (bytes : List ℕ) → AreTokens Dictionary (lex Dictionary be
     (fault_apart : (bytes : List ℕ) (n : ℕ) → IsValidUpTo bytes n → IsUtf8 bytes → ⊥) where
   some_of : (bytes : List ℕ) → IsUtf8 bytes ⊎ ((n : ℕ) × IsValidUpTo bytes n) → (x : Result EntryView EntryError) × EntryTextIs bytes x
   some_of bytes (inl utf8) =
-      let text = without_mark bytes in
+      let text = bytes in
       let ts = lex Dictionary between 0 text in
       let h = some_answer ts in
       let x = some_result text ts (answer_of free_rules ts) h in
@@ -116,9 +115,9 @@ module _ (lexed : (bytes : List ℕ) → AreTokens Dictionary (lex Dictionary be
   one_reached bytes x y (inl (n, h, xn)) (inr (us, b, is, k, leads)) = absurd (fault_apart bytes n h is.utf8)
   one_reached bytes x y (inr (ts, a, is, h, leads)) (inl (m, k, ym)) = absurd (fault_apart bytes m k is.utf8)
   one_reached bytes x y (inr (ts, a, is, h, x_leads)) (inr (us, b, are, k, y_leads)) =
-      let same : us ≡ ts = sym (one_list us (without_mark bytes) are.tokens) ∙ one_list ts (without_mark bytes) is.tokens in
+      let same : us ≡ ts = sym (one_list us bytes are.tokens) ∙ one_list ts bytes is.tokens in
       let answers : b ≡ a = one_answer ts b a (subst (λ (l : List Token). EntryIs free_rules l b) same k) h in
-      same_result (without_mark bytes) a x y x_leads (subst (λ (c : EntryAnswer). LeadsTo (without_mark bytes) c y) answers y_leads)
+      same_result bytes a x y x_leads (subst (λ (c : EntryAnswer). LeadsTo bytes c y) answers y_leads)
 
   pub one_text : (bytes : List ℕ) (x y : Result EntryView EntryError) → EntryTextIs bytes x → EntryTextIs bytes y → x ≡ y
   one_text bytes x y h k = one_reached bytes x y (reached bytes x h) (reached bytes y k)

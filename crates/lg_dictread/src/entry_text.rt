@@ -13,12 +13,11 @@ use crate::stop::Stop;
 use lg_expr::{Known, Macros};
 use lg_gram::RawEntry;
 use lg_gram::macros::LEVEL;
-use lg_lex::{Location, Marks, Spot, next_spotted, tokens_are_one_list, utf8_fault, without_mark};
+use lg_lex::{Location, Marks, Spot, next_spotted, tokens_are_one_list, utf8_fault};
 use std::alloc::Global;
 use thiserror::Error;
 
-/// Why a text is not one entry: the first fault. Lines and columns count from 1, after a byte order mark, and columns
-/// count bytes.
+/// Why a text is not one entry: the first fault. Lines and columns count from 1, and columns count bytes.
 #[derive(Clone, Copy, Debug, PartialEq, Eq, Error)]
 pub enum EntryError {
     /// Memory ran out.
@@ -55,7 +54,7 @@ impl Macros for FreeMacros {
 
 /// A text that holds exactly one entry, with its macros as they are named.
 ///
-/// The text is first tested for UTF-8. A byte order mark at its start is passed over. A token after the entry's `;` is a
+/// The text is first tested for UTF-8. A byte order mark at its start is part of its first token. A token after the entry's `;` is a
 /// syntax error there. The time is linear in the text.
 pub fn read_entry(alloc: Global, bytes: &[u8]) -> Result<RawEntry, EntryError>
     ensures { TellsEntryText bytes.now result }
@@ -64,11 +63,11 @@ pub fn read_entry(alloc: Global, bytes: &[u8]) -> Result<RawEntry, EntryError>
     exactly_one_entry();
     match utf8_fault(bytes) {
         Some(byte) => Err(EntryError::NotUtf8(byte)),
-        None => read_alone(alloc, without_mark(bytes)),
+        None => read_alone(alloc, bytes),
     }
 }
 
-/// The entry of a text that is UTF-8 and has no byte order mark.
+/// The entry of a text that is UTF-8.
 fn read_alone(alloc: Global, text: &[u8]) -> Result<RawEntry, EntryError>
     ensures { TellsAlone text.now (answer_of free_rules (tokens_from Dictionary text.now 0)) result }
 {

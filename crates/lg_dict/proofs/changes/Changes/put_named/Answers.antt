@@ -14,7 +14,7 @@ returns-in_err-insert-clause-unchanged c =
     let old = c.args.self.now in
     let new : Changes = record old { macros = c.insert.new.self } in
     on_err c.from_residual-in_err-insert.result
-    (λ dict. same_dictionary dict old new (record { words = λ word. refl; macros = λ name. ap (lookup (λ k. pointwise nat_eq name k.items)) c.in_err-insert.ensures.err; formulas = refl }))
+    (λ dict. same_dictionary dict old new (record { words = λ word. refl; macros = λ name. ap (lookup (λ k. pointwise nat_eq name k.items)) c.in_err-insert.ensures.err }))
 
 -- the macro alone has the formula
 pub returns-clause-laid : goal.returns-clause-laid
@@ -25,10 +25,10 @@ returns-clause-laid c =
     let set : (text : List ℕ) → at_text new.macros text ≡ cond (same_text text c.args.name.now) (Some found) (at_text old.macros text) =
     λ text. at_text-updates old.macros new.macros c.in_ok-key.key (Some found) c.in_ok-insert.ensures.updates text ∙ ap (λ k. cond (same_text text k) (Some found) (at_text old.macros text)) c.in_ok-key.ensures in
     record {
-      words = c.requires.laid.words;
-      macros = still_kept old new refl refl c.args.name.now found set c.requires.fits c.requires.laid.macros;
-      only = c.requires.laid.only;
-      all = c.requires.laid.all;
+      macros = still_kept old new refl c.args.name.now found set c.requires.fits c.requires.laid.macros;
+      stems = c.requires.laid.stems;
+      firsts = c.requires.laid.firsts;
+      lengths = c.requires.laid.lengths;
     }
 
 pub returns-clause-put : goal.returns-clause-put
@@ -38,4 +38,4 @@ returns-clause-put c =
     let found : Named = record { formula = c.args.formula; level = c.args.level } in
     let set : (text : List ℕ) → at_text new.macros text ≡ cond (same_text text c.args.name.now) (Some found) (at_text old.macros text) =
     λ text. at_text-updates old.macros new.macros c.in_ok-key.key (Some found) c.in_ok-insert.ensures.updates text ∙ ap (λ k. cond (same_text text k) (Some found) (at_text old.macros text)) c.in_ok-key.ensures in
-    macro_set old new refl refl c.args.name.now found set
+    macro_set old new refl c.args.name.now found set

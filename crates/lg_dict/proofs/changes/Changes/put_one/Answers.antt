@@ -2,7 +2,7 @@ use Rattle.std.proofs.Common.{Some, ap, refl, ◌∙◌}
 use Rattle.std.specs.FinMap.{insert}
 use Rattle.lg_gram.specs.Trees.{tree_of}
 use Rattle.lg_dict.specs.Dictionary.{Dictionary}
-use Rattle.lg_dict.specs.declared.changes.Change.TheVariants.{Own}
+use Rattle.lg_dict.specs.declared.changes.Change.TheVariants.{Given}
 use Rattle.lg_dict.specs.declared.changes.Changes.{Changes}
 use Rattle.lg_dict.proofs.Admitted.{on_err}
 use Rattle.lg_dict.proofs.Changed.{same_dictionary, word_set}
@@ -16,5 +16,5 @@ returns-clause-put c = λ dict.
     let mid = c.admit.new.self in
     let new : Changes = record mid { words = c.set_change.new.words } in
     let tree = tree_of c.args.formula in
-    word_set mid new refl refl c.args.word.now (Own c.args.formula) c.set_change.ensures (Some tree) (λ words formulas text. refl) dict
+    word_set mid new refl c.args.word.now (Given c.args.formula) c.set_change.ensures (Some tree) (λ words text. refl) dict
     ∙ ap (λ (d : Dictionary). record d { words = insert d.words c.args.word.now tree }) (same_dictionary dict c.args.self.now mid c.admit.ensures.same)

@@ -14,5 +14,5 @@ pub returns-clause-removed : goal.returns-clause-removed
 returns-clause-removed c = λ dict.
     let mid = c.admit.new.self in
     let new : Changes = record mid { words = c.set_change.new.words } in
-    word_set mid new refl refl c.args.word.now Removed c.set_change.ensures None (λ words formulas text. refl) dict
+    word_set mid new refl c.args.word.now Removed c.set_change.ensures None (λ words text. refl) dict
     ∙ ap (λ (d : Dictionary). record d { words = remove d.words c.args.word.now }) (same_dictionary dict c.args.self.now mid c.admit.ensures.same)

@@ -17,7 +17,9 @@ invariant_of-result c =
       words = subst (λ n. All (λ number. number < n) (values c.in_ok-words.words)) count c.in_ok-words.ensures.within;
       macros = subst (λ fs. All (IsMacro fs) (values c.in_ok-macros.macros)) same c.in_ok-macros.ensures.fit;
       stems = c.in_ok-stems.ensures;
+      firsts = c.in_ok-firsts.ensures;
       longest = c.longest_word-longest.ensures;
+      lengths = c.in_ok-lengths.ensures;
     }
 
 pub returns : goal.returns

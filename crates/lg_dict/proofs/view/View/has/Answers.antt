@@ -1,15 +1,13 @@
 use Rattle.std.proofs.Common.{◌≡◌, ◌||◌, map, sym, ap, subst, ◌∙◌}
 use Rattle.std.specs.List.{list_any}
-use Rattle.lg_dict.specs.Dictionary.{Dictionary, NoWordIsLonger}
 use Rattle.lg_dict.specs.Tables.{text_at, text_keys, texts_at}
-use Rattle.lg_dict.proofs.Longest.{has_none}
+use Rattle.lg_dict.proofs.Missing.{has_none}
 use Rattle.lg_dict.proofs.Viewed.{is_word, any_read, has_seen}
 use Rattle.lg_dict.proofs.view.View.has.Goals as goal
 use Rattle.lg_dict.proofs.view.View.has.Goals.{then-is_word, else-is_word}
 
-pub returns-then-text-self : goal.returns-then-text-self
-returns-then-text-self c =
-    has_none c.args.self.now c.self.inside.longest (subst (λ (d : Dictionary). NoWordIsLonger d c.self.inside.longest) c.self.view_is c.self.invariant.longest) c.args.text.now c.if-text-self.true
+pub returns-then-not-has_length : goal.returns-then-not-has_length
+returns-then-not-has_length c = has_none c.args.self.now c.args.text.now (c.has_length.ensures c.if-not-has_length.true)
 
 -- the text itself, or a word that is listed below
 pub returns-then-has_number : goal.returns-then-has_number
@@ -37,4 +35,4 @@ returns-else-has_number c =
       | else-is_word w ↦ ap (λ b. b || list_any (is_word seen) below) (sym c.is_word.ensures ∙ w.if-is_word.false) ∙ sym (w.value-is ∙ w.has_number.ensures ∙ any_read (is_word seen) (λ number. text_at (text_keys c.with_stem.result.0.now) number) c.with_stem.result.1.now)
     ] in
     has_seen c.self.inside.base.now seen c.self.inside.changes c.self.invariant.laid c.self.view_is text below c.with_stem.ensures c.has_text.result
-    (ap (λ b. b || list_any (is_word seen) names) (first ∙ c.if-has_number.false) ∙ ap (list_any (is_word seen)) (sym c.texts_with_stem.ensures) ∙ sym c.has_text.ensures)
+    (ap (λ b. b || list_any (is_word seen) names) (first ∙ c.if-has_number.false) ∙ ap (list_any (is_word seen)) (sym c.texts_under.ensures) ∙ sym c.has_text.ensures)

@@ -1,0 +1,12 @@
+use Rattle.std.proofs.Common.{◌≡◌, ◌↔◌, map, IsSome, true, Contains, sym, subst}
+use Rattle.std.specs.FinMap.{get}
+use Rattle.lg_dict.specs.Tables.{is_under, text_at, text_keys}
+use Rattle.lg_dict.specs.declared.tables.By.TheVariants.{First}
+use Rattle.lg_dict.proofs.Words.{listed_seen}
+use Rattle.lg_dict.proofs.dict.Dict.with_first.Goals as goal
+
+pub returns : goal.returns
+returns c = λ word.
+    subst (λ numbers. Contains (map (λ number. text_at (text_keys c.self.inside.words) number) numbers) word ↔ (IsSome (get c.args.self.now.words word) × (is_under First c.args.first.now word ≡ true)))
+    (sym c.numbers_under.ensures)
+    (listed_seen First c.self.inside c.args.self.now c.self.view_is c.self.inside.firsts c.self.invariant.firsts c.args.first.now word)

@@ -1,0 +1,12 @@
+use Rattle.std.proofs.Common.{◌↔◌, List, ℕ, IsSome, Contains, subst}
+use Rattle.std.specs.FinMap.{get}
+use Rattle.lg_dict.specs.Dictionary.{Dictionary}
+use Rattle.lg_dict.specs.Tables.{text_keys, tree_at}
+use Rattle.lg_dict.proofs.Words.{is_key}
+use Rattle.lg_dict.proofs.dict.Dict.words.Goals as goal
+
+pub returns : goal.returns
+returns c =
+    let table = c.self.inside.words in
+    subst (λ (d : Dictionary). (text : List ℕ) → Contains (text_keys table) text ↔ IsSome (get d.words text)) c.self.view_is
+    (is_key (tree_at c.self.inside.formulas.items) table)
