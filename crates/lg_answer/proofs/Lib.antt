@@ -11,3 +11,4 @@ pub mod Kept
 pub mod Searching
 pub mod Expanded
 pub mod Narrowed
+pub mod AliveKept

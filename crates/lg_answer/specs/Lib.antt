@@ -3,3 +3,4 @@ pub mod Candidates
 pub mod Pages
 pub mod Searches
 pub mod Steps
+pub mod Alive

@@ -2,6 +2,7 @@
 #![tactic(auto)]
 
 mod course;
+pub mod law;
 mod listing;
 mod narrow;
 mod options;
@@ -10,6 +11,7 @@ mod problem;
 mod refusal;
 mod search;
 
+pub use law::expression_pruning_keeps_what_is_alive;
 pub use listing::Listing;
 pub use options::{Nulls, Options};
 pub use refusal::AnswerRefusal;

@@ -1,12 +1,12 @@
 //! Listings.
-ghost use Rattle.std.specs.Prelude.{◌≡◌, ◌+◌, ◌-◌, ◌<◌, ◌≤◌, ◌^◌, false, None, List, length, All, IfOk, IfErr};
+ghost use Rattle.std.specs.Prelude.{◌≡◌, ◌+◌, ◌-◌, ◌<◌, ◌≤◌, ◌^◌, false, None, List, length, All, IfOk, IfErr, IfSome};
 ghost use Rattle.lg_gram.specs.declared.disjunct.Disjunct.{Disjunct};
 ghost use Rattle.std.specs.List.{sum_by};
 ghost use Rattle.lg_forest.specs.Forests.{AreWorkers};
 ghost use Rattle.lg_knowread.specs.declared.knowledge.Knowledge.{Knowledge as SeenKnowledge};
 ghost use Rattle.lg_token.specs.Bounds.{bound_of};
 ghost use Rattle.lg_answer.specs.Candidates.{StandsFor};
-ghost use Rattle.lg_answer.specs.Pages.{IsOpen, HasLinkagesOf, AreStats, IsListing, IsSameListing, HasSkipped, IsRefused, IsPage, IsLinkageFor};
+ghost use Rattle.lg_answer.specs.Pages.{IsOpen, HasLinkagesOf, AreStats, IsListing, IsSameListing, HasSkipped, IsBeyond, IsRefused, IsPage, IsLinkageFor};
 ghost use Rattle.lg_answer.specs.Steps.{HaveOrder, IsSearched};
 
 use crate::course::Course;
@@ -17,10 +17,11 @@ use crate::problem::problem_of;
 use crate::refusal::AnswerRefusal;
 use lg_base::NoMemory;
 use lg_dict::View;
-use lg_gram::{Page, Problem, Stats, Token, Tokens};
+use lg_gram::problem::POSITIONS;
+use lg_gram::{Bound, Page, Problem, Stats, Token, Tokens};
 use lg_knowread::Knowledge;
 use lg_pprune::{pprune, pruning_keeps_linkages};
-use lg_token::{bound_of, tokens};
+use lg_token::{bound_of, count_tokens, tokens};
 use std::alloc::Global;
 use std::marker::Model;
 use std::thread::Threads;
@@ -69,6 +70,9 @@ impl Listing {
         ensures stands { (know : SeenKnowledge) → IfOk result (λ listing. StandsFor know listing.course) }
         ensures refused { IfErr result (IsRefused view.now text.now) }
     {
+        if let Some(bound) = too_many(alloc, view, text)? {
+            return Err(AnswerRefusal::Beyond(bound));
+        }
         let tokens = tokens(alloc, view, text)?;
         if let Some(bound) = bound_of(view, tokens.items()) {
             return Err(AnswerRefusal::Beyond(bound));
@@ -164,6 +168,19 @@ impl Listing {
         ensures { result ≡ self.now.stats }
     {
         self.stats
+    }
+}
+
+// The bound that a sentence passes whose tokens are too many, found before they are made.
+fn too_many(alloc: Global, view: &View, text: &str) -> Result<Option<Bound>, NoMemory>
+    requires { length text.now < 2 ^ 32 }
+    ensures { IfOk result (λ found. IfSome found (IsBeyond view.now text.now)) }
+{
+    let count = count_tokens(alloc, view, text)?;
+    if count > POSITIONS as u64 {
+        Ok(Some(Bound::TooManyWords(count)))
+    } else {
+        Ok(None)
     }
 }
 

@@ -12,3 +12,4 @@ pub mod Some
 pub mod Bounds
 pub mod Numbers
 pub mod Coded
+pub mod SingleLines

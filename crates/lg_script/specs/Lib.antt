@@ -8,3 +8,4 @@ pub mod Bounds
 pub mod Histories
 pub mod EditNumbers
 pub mod Codes
+pub mod SingleLines

@@ -4,6 +4,7 @@ ghost use Rattle.lg_script.specs.Bounds.{AreInBounds};
 ghost use Rattle.lg_script.specs.Codes.{EditsHavePlaces, CommandsKeepBounds};
 ghost use Rattle.lg_script.specs.Commands.{CommandView};
 ghost use Rattle.lg_script.specs.Scripts.{Outcome, ScriptIs};
+ghost use Rattle.lg_script.specs.SingleLines.{ScriptsHaveSingleLines};
 
 use lg_dictread::{entry_texts_keep_bounds, exactly_one_entry_text};
 use lg_lex::{bytes_are_utf8_or_at_fault, parts_are_utf8};
@@ -30,6 +31,13 @@ pub fn scripts_keep_bounds()
     entry_texts_keep_bounds();
     parts_are_utf8();
 }
+
+/// No text that a command says has a line feed: its sentence, what its edit defines, or the word that it removes.
+///
+/// The function does nothing: a caller whose proof needs the fact calls it.
+pub fn scripts_have_single_lines()
+    ensures { ScriptsHaveSingleLines }
+{}
 
 /// What holds of places in scripts: each edit has a code, which names its place, and each command keeps its bounds.
 ///

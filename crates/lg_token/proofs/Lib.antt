@@ -11,3 +11,4 @@ pub mod SomeWords
 pub mod SomeSpecials
 pub mod SomeList
 pub mod Spans
+pub mod Counting

@@ -182,7 +182,7 @@ module _ (dict : Dictionary) (initial : Bool) where
 -- tokens
 
 module _ (dict : Dictionary) where
-  some_pieces : (ps : List (Bool × List ℕ)) (from : ℕ) → (ts : List Token) × AreOfPieces dict from ps ts
+  pub some_pieces : (ps : List (Bool × List ℕ)) (from : ℕ) → (ts : List Token) × AreOfPieces dict from ps ts
   unfolding Listed
   some_pieces [] from = ([], refl)
   some_pieces (p ∷ ps) from =

@@ -1,8 +1,9 @@
 -- The work step by step: what one step cuts off a chunk, and what one adds to the tokens.
-use Rattle.std.specs.Prelude.{◌≡◌, ◌<◌, ℕ, List, [], ◌∷◌, ◌++◌, length, map, Bool}
+use Rattle.std.specs.Prelude.{◌≡◌, ◌<◌, ℕ, ◌+◌, List, [], ◌∷◌, ◌++◌, length, map, Bool, All}
 use Rattle.std.specs.List.{sum_by}
 use Rattle.lg_gram.specs.declared.listing.Token.{Token}
-use Rattle.lg_dict.specs.Dictionary.{Dictionary}
+use Rattle.lg_dict.specs.Dictionary.{Dictionary, AreWordsOf}
+use Rattle.lg_token.specs.declared.lists.Named.{Named}
 use Rattle.lg_token.specs.declared.cuts.Side.{Side}
 use Rattle.lg_token.specs.declared.cuts.Side.TheVariants.{Before, After}
 use Rattle.lg_token.specs.declared.cuts.Off.{Off}
@@ -48,6 +49,25 @@ pub record IsPossessive (chunk : List ℕ) (off : Off) : Type 0 where
 pub record IsStep (dict : Dictionary) (initial : Bool) (chunk : List ℕ) (off : Off) : Type 0 where
   pub shorter : length off.rest.now < length chunk
   pub cuts : (p : Pieces) → AreCut dict initial off.rest.now p → AreCut dict initial chunk (put_back off.side off.piece.now p)
+
+-- how many pieces there are; and the chunk has so many
+abbrev pub piece_count : Pieces → ℕ
+piece_count p = length p.before + (1 + length p.after)
+
+pub record HasPieces (dict : Dictionary) (initial : Bool) (chunk : List ℕ) (count : ℕ) : Type 0 where
+  pub pieces : Pieces
+  pub cut : AreCut dict initial chunk pieces
+  pub counted : count ≡ piece_count pieces
+
+-- each of these lists has the words of its name
+abbrev pub AreLists : Dictionary → List Named → Type 0
+AreLists dict lists = All (λ list. AreWordsOf dict list.name.now list.words) lists
+
+-- so many tokens are of this kind
+pub record Counts (Are : List Token → Type 0) (count : ℕ) : Type 0 where
+  pub tokens : List Token
+  pub are : Are tokens
+  pub counted : count ≡ length tokens
 
 -- tokens of this kind were added at the end
 pub record Adds (Are : List Token → Type 0) (old new : List Token) : Type 0 where

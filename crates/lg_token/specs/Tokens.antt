@@ -52,3 +52,9 @@ pub record AreTokens (dict : Dictionary) (text : List ℕ) (ts : List Token) : T
   pub left_wall : IsWall dict (codes "LEFT-WALL") 0 left
   pub of_chunks : AreOfChunks dict true chunks inner
   pub right_wall : IsWall dict (codes "RIGHT-WALL") (length text) right
+
+-- the sentence has so many tokens
+pub record HasTokens (dict : Dictionary) (text : List ℕ) (count : ℕ) : Type 0 where
+  pub tokens : List Token
+  pub of_text : AreTokens dict text tokens
+  pub counted : count ≡ length tokens

@@ -1,18 +1,45 @@
 //! Which sentences are listed.
-ghost use Rattle.std.specs.Prelude.{◌≡◌, ◌≤◌, min};
+ghost use Rattle.std.specs.Prelude.{◌≡◌, ◌<◌, ◌≤◌, ◌^◌, length, min, IfOk, IfErr};
 ghost use Rattle.lg_gram.specs.Limits.{FORMULA_CHOICES};
-ghost use Rattle.lg_token.specs.Bounds.{CHOICES_COUNTED, word_choices, token_choices, all_choices, bound_of};
+ghost use Rattle.lg_token.specs.Bounds.{CHOICES_COUNTED, word_choices, token_choices, all_choices, bound_of, AreListed, IsBeyond};
 
-use lg_base::Text;
+use crate::count::count_tokens;
+use crate::tokenizing::tokens;
+use lg_base::{NoMemory, Text};
 use lg_dict::View;
 use lg_gram::problem::POSITIONS;
-use lg_gram::{Bound, Token};
+use lg_gram::{Bound, Token, Tokens};
+use std::alloc::Global;
 
 // The most choices of all words of a sentence that is listed.
 const LISTED_CHOICES: u64 = 4_000_000;
 
 // Where the count of choices stops.
 const CHOICES_COUNTED: u64 = 1 << 60;
+
+/// The tokens of a sentence that is listed, or else the bound that it passes. The tokens are counted first, so that words are
+/// made only where there are at most 252.
+///
+/// The text has fewer than 2^32 bytes.
+pub fn listed_tokens(
+    alloc: Global,
+    view: &View,
+    text: &str,
+) -> Result<Result<Tokens, Bound>, NoMemory>
+    requires { length text.now < 2 ^ 32 }
+    ensures listed { IfOk result (λ found. IfOk found (AreListed view.now text.now)) }
+    ensures beyond { IfOk result (λ found. IfErr found (IsBeyond view.now text.now)) }
+{
+    let count = count_tokens(alloc, view, text)?;
+    if count > POSITIONS as u64 {
+        return Ok(Err(Bound::TooManyWords(count)));
+    }
+    let tokens = tokens(alloc, view, text)?;
+    match bound_of(view, tokens.items()) {
+        Some(bound) => Ok(Err(bound)),
+        None => Ok(Ok(tokens)),
+    }
+}
 
 /// Why these tokens are not listed, if they are not: there are more than 252, or else their words have more than 4,000,000
 /// choices together, whose counting stops at 2^60. No memory.

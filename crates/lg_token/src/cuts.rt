@@ -1,8 +1,8 @@
 //! How a chunk of a sentence, which has no blanks, is cut into pieces.
-ghost use Rattle.std.specs.Prelude.{◌≡◌, ◌+◌, length, IfOk, MatchOption};
+ghost use Rattle.std.specs.Prelude.{◌≡◌, ◌+◌, ◌<◌, ◌^◌, ◌≤◌, length, IfOk, MatchOption};
 ghost use Rattle.lg_token.specs.Words.{Has};
 ghost use Rattle.lg_token.specs.Cuts.{is_closing, is_opening, possessive, HasNoClosing, HasNoOpening, HasNoPossessive, whole, AreCut};
-ghost use Rattle.lg_token.specs.Steps.{pieces_in, total, IsClosing, IsOpening, IsPossessive, IsStep};
+ghost use Rattle.lg_token.specs.Steps.{pieces_in, total, HasPieces, IsClosing, IsOpening, IsPossessive, IsStep};
 
 use crate::words::is_known;
 use lg_base::NoMemory;
@@ -65,6 +65,26 @@ pub(crate) fn cut_chunk<'a>(
         middle,
         after,
     })
+}
+
+/// How many pieces a chunk has.
+pub(crate) fn count_pieces(
+    alloc: Global,
+    view: &View,
+    initial: bool,
+    chunk: &[u8],
+) -> Result<u64, NoMemory>
+    requires { length chunk.now < 2 ^ 32 }
+    ensures pieces { IfOk result (HasPieces view.now initial chunk.now) }
+    ensures few { IfOk result (λ count. count ≤ length chunk.now + 1) }
+{
+    let mut count = 0;
+    let mut rest = chunk;
+    while let Some(off) = next_cut(alloc, view, initial, rest)? {
+        rest = off.rest;
+        count += 1;
+    }
+    Ok(count + 1)
 }
 
 // What is cut off a chunk next, or `None` where it is one piece.

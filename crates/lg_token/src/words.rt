@@ -1,7 +1,9 @@
 //! The words of a token.
-ghost use Rattle.std.specs.Prelude.{◌≡◌, ◌↔◌, ◌++◌, true, IsTrue, IfOk};
+ghost use Rattle.std.specs.Prelude.{◌≡◌, ◌↔◌, ◌++◌, true, IsTrue, IfOk, OnOk};
 ghost use Rattle.lg_token.specs.Words.{is_capitalized, lowered, IsKnown, IsNamed, IsSpecialWord, AreWords, AreTokenWords};
+ghost use Rattle.lg_token.specs.Steps.{AreLists};
 
+use crate::lists::{Named, words_of};
 use crate::special::{first_special, is_capitalized};
 use lg_base::{NoMemory, Texts};
 use lg_dict::View;
@@ -11,17 +13,20 @@ use std::alloc::Global;
 /// first special word that applies to it and that the dictionary has. None is there where no special word is.
 ///
 /// The initial token of a sentence also has the words of its text with the first letter lowered.
-pub(crate) fn token_words(
+pub(crate) fn token_words<'a>(
     alloc: Global,
     view: &View,
+    lists: &mut Vec<Named<'a>>,
     initial: bool,
-    text: &[u8],
+    text: &'a [u8],
 ) -> Result<Texts, NoMemory>
-    ensures { IfOk result (AreTokenWords view.now initial text.now) }
+    requires { AreLists view.now lists.old.items }
+    ensures words { IfOk result (AreTokenWords view.now initial text.now) }
+    ensures lists { OnOk result (AreLists view.now lists.new.items) }
 {
-    let words = named_words(alloc, view, initial, text)?;
+    let words = named_words(alloc, view, lists, initial, text)?;
     if words.items().is_empty() {
-        special_words(alloc, view, text)
+        special_words(alloc, view, lists, text)
     } else {
         Ok(words)
     }
@@ -51,10 +56,18 @@ pub(crate) fn is_known(
 }
 
 // The words of the text. Those of the lowered text stand after the others, since they begin with a small letter.
-fn named_words(alloc: Global, view: &View, initial: bool, text: &[u8]) -> Result<Texts, NoMemory>
-    ensures { IfOk result (AreWords (IsNamed view.now initial text.now)) }
+fn named_words<'a>(
+    alloc: Global,
+    view: &View,
+    lists: &mut Vec<Named<'a>>,
+    initial: bool,
+    text: &'a [u8],
+) -> Result<Texts, NoMemory>
+    requires { AreLists view.now lists.old.items }
+    ensures words { IfOk result (AreWords (IsNamed view.now initial text.now)) }
+    ensures lists { OnOk result (AreLists view.now lists.new.items) }
 {
-    let words = view.words_of(alloc, text)?;
+    let words = words_of(alloc, view, lists, text)?;
     if !initial || !is_capitalized(text) {
         return Ok(words);
     }
@@ -80,11 +93,18 @@ fn joined(first: Texts, second: Texts) -> Result<Texts, NoMemory>
     Ok(Texts::of(items))
 }
 
-fn special_words(alloc: Global, view: &View, text: &[u8]) -> Result<Texts, NoMemory>
-    ensures { IfOk result (AreWords (IsSpecialWord view.now text.now)) }
+fn special_words(
+    alloc: Global,
+    view: &View,
+    lists: &mut Vec<Named<'_>>,
+    text: &[u8],
+) -> Result<Texts, NoMemory>
+    requires { AreLists view.now lists.old.items }
+    ensures words { IfOk result (AreWords (IsSpecialWord view.now text.now)) }
+    ensures lists { OnOk result (AreLists view.now lists.new.items) }
 {
     match first_special(view, text) {
-        Some(special) => view.words_of(alloc, special.word()),
+        Some(special) => words_of(alloc, view, lists, special.word()),
         None => Ok(Texts::of(Vec::new(alloc))),
     }
 }
