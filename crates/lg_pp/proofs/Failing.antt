@@ -12,19 +12,17 @@ use Rattle.lg_knowread.specs.declared.knowledge.Rule.{Rule}
 use Rattle.lg_knowread.specs.declared.knowledge.Rule.TheVariants.{Forbid, Demand, Bounded, Cycle}
 use Rattle.lg_pp.specs.Breaks.{IsTested}
 use Rattle.lg_pp.specs.Domains.{Begins, InDomain, IsNumber, SameGroup}
-use Rattle.lg_pp.specs.Judging.{AreFacts, FailsAtNumber, HasOther, IsBridge, IsCycle, IsGrouped, IsLabelled, IsOfDomains, MeetsOther, Overruns, class_of}
+use Rattle.lg_pp.specs.Judging.{AreFacts, FailsAtNumber, HasOther, IsBridge, IsBridgeAt, IsGrouped, IsLabelled, IsOfDomains, MeetsOther, Overruns, class_of}
 use Rattle.lg_gram.specs.Labels.{label_at}
 use Rattle.lg_pp.specs.Labels.{FitsOne, HasMatch, Matches, MatchesOne}
-use Rattle.lg_pp.specs.Reach.{AreFlags, AreRows, Collects, StartsKind}
+use Rattle.lg_pp.specs.Reach.{AreRows, Collects, IsRow, StartsKind}
 use Rattle.lg_pp.specs.Steps.{AreAlike}
 use Rattle.lg_pp.specs.declared.rules.facts.Facts.{Facts}
 use Rattle.lg_pp.proofs.Good.{no_link, begins_by_label, has_match_by_label, matches_by_label}
 use Rattle.lg_pp.proofs.Grouping.{alike_grouped, alike_itself, alike_turned, alike_through}
 use Rattle.lg_pp.proofs.Leasts.{leasts_tell}
+use Rattle.lg_pp.proofs.Picking.{any_name}
 use Rattle.lg_pp.proofs.Zipped.{zip_at, zip_length}
-
-any_name : Name
-any_name = record { caps = []; subs = [] }
 
 -- a grouped rule asks for domains
 asks_by_group : (rule : Rule) → IsGrouped rule → IsOfDomains rule
@@ -51,16 +49,13 @@ same_number g n k l one other = let e : Some k ≡ Some l = sym one ∙ other in
 
 module _ (know : Knowledge) (g : Linkage) (facts : Facts) (are : AreFacts know g facts) where
   abbrev labels : List Name
-  labels = facts.labels.items
+  labels = facts.labels
 
   abbrev groups : List ℕ
   groups = facts.groups.items
 
   pub labels_count : length labels ≡ length g.links
   labels_count = zip_length (λ l label. label_at g l ≡ Some label) g.links labels are.labels
-
-  pub bridges_count : length facts.bridges ≡ length g.links
-  bridges_count = zip_length (λ l flag. IsTrue flag ↔ (Any IsCycle know.rules × IsBridge g l)) g.links facts.bridges are.bridges
 
   -- the label of a number is that of the link of this number
   label_of_number : (n : ℕ) (l : Link) → IsNumber g n l → label_at g l ≡ Some (get_or labels n any_name)
@@ -88,15 +83,10 @@ module _ (know : Knowledge) (g : Linkage) (facts : Facts) (are : AreFacts know g
   matched_from pattern = labelled_from (Matches pattern) (HasMatch pattern g) (has_match_by_label pattern g)
 
   -- cycles
-  bridge_at : (pattern : Pattern) → Contains know.rules (Cycle pattern) → (n : ℕ) (l : Link) → IsNumber g n l → IsTrue (get_or facts.bridges n false) ↔ IsBridge g l
-  bridge_at pattern known n l at =
-      let flag = zip_at (λ l flag. IsTrue flag ↔ (Any IsCycle know.rules × IsBridge g l)) g.links facts.bridges n l false are.bridges at in
-      (λ t. (flag.0 t).1, λ bridge. flag.1 (any_rule IsCycle know.rules (Cycle pattern) known tt, bridge))
-
-  pub fails_cycle : (pattern : Pattern) → Contains know.rules (Cycle pattern) → (n : ℕ) → (IsLabelled (Matches pattern) labels n × IsTrue (get_or facts.bridges n false)) ↔ FailsAtNumber know g (Cycle pattern) n
-  fails_cycle pattern known n = (
-    λ h. let m = matched_to pattern n h.0 in (m.0, m.1, (m.2, (bridge_at pattern known n m.0 m.1).0 h.1)),
-    λ f. (matched_from pattern n f.0 f.1 f.2.0, (bridge_at pattern known n f.0 f.1).1 f.2.1),
+  pub fails_cycle : (pattern : Pattern) (n : ℕ) → (IsLabelled (Matches pattern) labels n × IsBridgeAt g n) ↔ FailsAtNumber know g (Cycle pattern) n
+  fails_cycle pattern n = (
+    λ h. let m = matched_to pattern n h.0 in (m.0, m.1, (m.2, subst (IsBridge g) (same_number g n h.1.0 m.0 h.1.1 m.1) h.1.2)),
+    λ f. (matched_from pattern n f.0 f.1 f.2.0, (f.0, f.1, f.2.1)),
   )
 
   -- bounds of domains
@@ -104,9 +94,7 @@ module _ (know : Knowledge) (g : Linkage) (facts : Facts) (are : AreFacts know g
   bounded_rows kind known = are.rows (any_rule IsOfDomains know.rules (Bounded kind) known tt)
 
   collects_at : AreRows know g facts.rows.items → (n m : ℕ) (start l : Link) → IsNumber g n start → IsNumber g m l → IsTrue (get_or (get_or facts.rows.items n []) m false) ↔ Collects know g start l
-  collects_at rows n m start l at_n at_m =
-      let row = zip_at (λ start row. AreFlags (Collects know g start) g.links row) g.links facts.rows.items n start [] rows at_n in
-      zip_at (λ l flag. IsTrue flag ↔ Collects know g start l) g.links (get_or facts.rows.items n []) m l false row at_m
+  collects_at rows n m start l at_n at_m = (zip_at (IsRow know g) g.links facts.rows.items n start [] rows at_n).exactly m l at_m
 
   in_domain_has : (start l : Link) → HasLink g start → InDomain know g start l → HasLink g l
   in_domain_has start l has inside = elim inside [ inl same ↦ subst (HasLink g) (sym same) has | inr by ↦ by.0.0 ]

@@ -1,5 +1,5 @@
 -- Links with the same flags in the rows of domains lie in the same domains.
-use Rattle.std.proofs.Common.{◌≡◌, ℕ, ◌<◌, ◌≤◌, Bool, true, false, List, [], length, get_or, Some, ◌↔◌, refl, sym, ◌∙◌, subst, ap, All, arith}
+use Rattle.std.proofs.Common.{◌≡◌, ℕ, ◌<◌, ◌≤◌, Bool, true, false, List, [], length, get_or, Some, ◌↔◌, ◌⊎◌, inl, inr, refl, sym, ◌∙◌, subst, ap, All, arith}
 use Rattle.std.specs.Prelude.{IsTrue}
 use Rattle.std.proofs.lemmas.Option.{slice_get-get_or, slice_get_within}
 use Rattle.lg_gram.specs.Linkages.{Linkage}
@@ -7,7 +7,7 @@ use Rattle.lg_gram.specs.declared.linkage.Link.{Link}
 use Rattle.lg_knowread.specs.declared.knowledge.Knowledge.{Knowledge}
 use Rattle.lg_pp.specs.Domains.{AreGroups, AreTogether, IsNumber, SameGroup}
 use Rattle.lg_pp.specs.Judging.{AreWithin}
-use Rattle.lg_pp.specs.Reach.{AreFlags, AreRows, Collects}
+use Rattle.lg_pp.specs.Reach.{AreRows, Collects, IsRow}
 use Rattle.lg_pp.specs.Steps.{AreAlike, AreClasses, AreLeasts}
 use Rattle.lg_pp.proofs.Good.{no_link}
 use Rattle.lg_pp.proofs.Leasts.{classes_all, classes_exactly, classes_in_order, classes_rise, classes_some, least_below}
@@ -36,22 +36,27 @@ alike_within rows count leasts are = record {
 }
 
 module _ (know : Knowledge) (g : Linkage) (rows : List (List Bool)) (are : AreRows know g rows) where
-  row_flags : (s : ℕ) (start : Link) (d : List Bool) → IsNumber g s start → AreFlags (Collects know g start) g.links (get_or rows s d)
-  row_flags s start d at = zip_at (λ start row. AreFlags (Collects know g start) g.links row) g.links rows s start d are at
+  row_at : (s : ℕ) (start : Link) (d : List Bool) → IsNumber g s start → IsRow know g start (get_or rows s d)
+  row_at s start d at = zip_at (IsRow know g) g.links rows s start d are at
 
   pub rows_count : length rows ≡ length g.links
-  rows_count = zip_length (λ start row. AreFlags (Collects know g start) g.links row) g.links rows are
+  rows_count = zip_length (IsRow know g) g.links rows are
 
-  pub rows_long : (links : List Link) → links ≡ g.links → All (λ row. length links ≤ length row) rows
-  rows_long links e s d less =
-      let number = slice_get-get_or g.links s no_link (let same = rows_count in omega arith) in
-      let same = zip_length (λ l flag. IsTrue flag ↔ Collects know g (get_or g.links s no_link) l) g.links (get_or rows s d) (row_flags s (get_or g.links s no_link) d number) in
-      let h : length links ≡ length g.links = ap length e in
-      omega arith
+  pub rows_whole : All (λ row. (row ≡ []) ⊎ (length row ≡ length g.links)) rows
+  rows_whole s d less = (row_at s (get_or g.links s no_link) d (slice_get-get_or g.links s no_link (let same = rows_count in omega arith))).whole
+
+  pub rows_long : (links : List Link) → links ≡ g.links → All (λ row. (row ≡ []) ⊎ (length links ≤ length row)) rows
+  rows_long links e s d less = elim (rows_whole s d less) [ inl none ↦ inl none | inr same ↦ inr (let h : length links ≡ length g.links = ap length e in omega arith) ]
+
+  pub rows_short : (links : List Link) → links ≡ g.links → All (λ row. length row ≤ length links) rows
+  rows_short links e s d less = elim (rows_whole s d less) [
+    | inl none ↦ rw none (omega arith)
+    | inr same ↦ let h : length links ≡ length g.links = ap length e in omega arith
+  ]
 
   module _ (m n : ℕ) (k l : Link) (at_m : IsNumber g m k) (at_n : IsNumber g n l) where
     flag_at : (s : ℕ) (start : Link) (d : List Bool) → IsNumber g s start → (i : ℕ) (e : Link) → IsNumber g i e → IsTrue (get_or (get_or rows s d) i false) ↔ Collects know g start e
-    flag_at s start d at i e at_i = zip_at (λ l flag. IsTrue flag ↔ Collects know g start l) g.links (get_or rows s d) i e false (row_flags s start d at) at_i
+    flag_at s start d at i e at_i = (row_at s start d at).exactly i e at_i
 
     collects_along : AreAlike rows m n → (s : ℕ) (start : Link) → IsNumber g s start → Collects know g start k ↔ Collects know g start l
     collects_along alike s start at =

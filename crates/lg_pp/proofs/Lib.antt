@@ -4,6 +4,7 @@ pub mod Rising
 pub mod Leasts
 pub mod Kept
 pub mod Good
+pub mod Picking
 pub mod Reaching
 pub mod Bridging
 pub mod Firsts
@@ -11,4 +12,5 @@ pub mod Starting
 pub mod Grouping
 pub mod Parting
 pub mod Failing
+pub mod Finding
 pub mod Breaking

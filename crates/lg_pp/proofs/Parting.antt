@@ -1,5 +1,5 @@
 -- The least numbers of classes, where one more row of flags parts the classes.
-use Rattle.std.proofs.Common.{◌≡◌, ◌≢◌, ℕ, ◌<◌, ◌≤◌, ◌+◌, Bool, true, false, List, length, get_or, set, take, replicate, ◌↔◌, refl, sym, ◌∙◌, ap, subst, inl, inr, All, min, arith}
+use Rattle.std.proofs.Common.{◌≡◌, ◌≢◌, ℕ, ◌<◌, ◌≤◌, ◌+◌, Bool, true, false, List, [], length, get_or, set, take, replicate, ◌↔◌, refl, sym, ◌∙◌, ap, subst, inl, inr, All, min, arith}
 use Rattle.std.specs.Bool.{beq}
 use Rattle.std.proofs.lemmas.Bool.{cases_lt, cases_eq}
 use Rattle.std.proofs.lemmas.List.{take_more, take-take, get_or-replicate, length-replicate, get_or-set_same, get_or-set_other}
@@ -163,3 +163,13 @@ module _ (rows : List (List Bool)) (i : ℕ) (row : List Bool) (less : i < lengt
   leasts_more parts of =
       leasts_along (AreStillAlike leasts row) (AreAlike (take (i + 1) rows)) count parts (λ n. (refl, refl)) alike_more
       (subst (λ n. AreLeasts (AreStillAlike leasts row) n parts) are.same_length of)
+
+  -- a row without flags parts none
+  pub leasts_stay : row ≡ [] → AreLeasts (AreAlike (take (i + 1) rows)) count leasts
+  leasts_stay none = leasts_along (AreAlike so_far) (AreAlike (take (i + 1) rows)) count leasts (alike_itself so_far) same are where
+    same : (m n : ℕ) → m < count → n < count → AreAlike so_far m n ↔ AreAlike (take (i + 1) rows) m n
+    same m n below_m below_n =
+        let P : List Bool → Type 0 = λ r. get_or r m false ≡ get_or r n false in (
+          λ h. All-more P rows i row less h (subst P here (subst P (sym none) refl)),
+          λ h. let t : All P (take i (take (i + 1) rows)) = All-take P i (take (i + 1) rows) h in rw (take-take i (i + 1) rows (omega arith)) at t,
+        )

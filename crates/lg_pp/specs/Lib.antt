@@ -1,4 +1,5 @@
 pub mod Labels
+pub mod Picked
 pub mod Domains
 pub mod Reach
 pub mod Steps

@@ -1,8 +1,6 @@
 //! Flags of links.
-ghost use Rattle.std.specs.Prelude.{◌≡◌, IfOk, replicate, false};
+ghost use Rattle.std.specs.Prelude.{◌≡◌};
 
-use lg_base::NoMemory;
-use std::alloc::Global;
 use std::marker::Model;
 
 /// A flag for each link of a linkage, in its order. Contracts see the list of the flags.
@@ -25,15 +23,6 @@ impl Flags {
         ensures { result ≡ items.items }
     {
         Flags { items }
-    }
-
-    /// As many flags, none set.
-    pub(crate) fn none(alloc: Global, count: usize) -> Result<Self, NoMemory>
-        ensures { IfOk result (λ flags. flags ≡ replicate count false) }
-    {
-        Ok(Flags {
-            items: vec![in alloc; false; count]?,
-        })
     }
 
     /// The flags.

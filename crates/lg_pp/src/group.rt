@@ -1,12 +1,12 @@
 //! Groups: links that lie in the same domains.
-ghost use Rattle.std.specs.Prelude.{◌≡◌, ◌<◌, ◌≤◌, ◌^◌, length, min, slice_index, slice_set, IfOk};
+ghost use Rattle.std.specs.Prelude.{◌≡◌, ◌<◌, ◌≤◌, ◌^◌, ◌⊎◌, [], length, min, slice_index, slice_set, IfOk};
 ghost use Rattle.std.specs.List.{All};
 ghost use Rattle.lg_pp.specs.Domains.{AreGroups};
 ghost use Rattle.lg_pp.specs.Labels.{IsGood};
 ghost use Rattle.lg_pp.specs.Steps.{AreAlike, AreClasses, AreHeads, AreLeasts, AreMembers, AreStillAlike};
 
 use crate::flags::Flags;
-use crate::label::labels;
+use crate::label::Labels;
 use crate::reach::rows;
 use lg_base::{NoMemory, Numbers};
 use lg_gram::Linkage;
@@ -19,20 +19,23 @@ pub fn groups(alloc: Global, know: &Knowledge, g: &Linkage) -> Result<Vec<Number
     requires good { IsGood g.now }
     ensures { IfOk result (λ groups. AreGroups know.now g.now groups.items) }
 {
-    let labels = labels(alloc, g)?;
+    let labels = Labels::of(alloc, g)?;
     let rows = rows(alloc, know, g, &labels)?;
     let leasts = leasts(alloc, &rows, g.links().len())?;
     classes(alloc, &leasts)
 }
 
-/// For each link, below this count of them, the least link with the same flag in each row. Takes links times rows steps.
+/// For each link, below this count of them, the least link with the same flag in each row, where a row has a flag for each
+/// link or none at all. Takes links times rows steps.
 pub(crate) fn leasts(alloc: Global, rows: &[Flags], count: usize) -> Result<Vec<usize>, NoMemory>
-    requires { All (λ row. count ≤ length row) rows.now }
+    requires { All (λ row. (row ≡ []) ⊎ (count ≤ length row)) rows.now }
     ensures { IfOk result (λ leasts. AreLeasts (AreAlike rows.now) count leasts.items) }
 {
     let mut leasts = vec![in alloc; 0; count]?;
     for row in rows {
-        leasts = parted(alloc, &leasts, row.items())?;
+        if !row.items().is_empty() {
+            leasts = parted(alloc, &leasts, row.items())?;
+        }
     }
     Ok(leasts)
 }

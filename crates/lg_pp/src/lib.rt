@@ -1,7 +1,7 @@
 //! Post-processing: the domains and groups of a linkage, and the first rule of a knowledge that it breaks.
 #![tactic(auto)]
 
-pub mod domain;
+mod domain;
 mod flags;
 mod group;
 mod label;

@@ -5,46 +5,40 @@ ghost use Rattle.lg_gram.specs.Limits.{LINKAGE_POSITIONS};
 ghost use Rattle.lg_gram.specs.Rules.{HasLink};
 ghost use Rattle.lg_gram.specs.declared.linkage.Link.{Link};
 ghost use Rattle.lg_walks.specs.Islands.{IsWithin};
-ghost use Rattle.lg_pp.specs.Judging.{IsBridge, IsFirst, IsLabelled};
-ghost use Rattle.lg_pp.specs.Labels.{IsGood, Matches};
-ghost use Rattle.lg_pp.specs.Reach.{AreFlags};
+ghost use Rattle.lg_pp.specs.Judging.{AreCycled, IsBridge, IsBridgeAt, IsFirst};
+ghost use Rattle.lg_pp.specs.Labels.{IsGood};
 
-use crate::flags::Flags;
-use crate::label::fits;
-use crate::rules::facts::Facts;
 use lg_base::NoMemory;
 use lg_gram::linkage::LINKAGE_POSITIONS;
 use lg_gram::{Link, Linkage};
-use lg_knowread::Pattern;
 use lg_walks::label_islands;
 use std::alloc::Global;
 
-/// The number of the first link that matches and is a bridge.
-pub(super) fn first_bridge(pattern: &Pattern, facts: &Facts) -> Option<usize>
-    requires { length facts.now.labels.items ≤ length facts.now.bridges }
-    ensures { let labels = facts.now.labels.items in
-        IsFirst (λ n. IsLabelled (Matches pattern.now) labels n × IsTrue (slice_index_or facts.now.bridges n false)) (length labels) result }
+/// The number of the first link that matches and is a bridge: no walk over the other links joins its ends. Notes the
+/// links that are none, and walks for no link that is noted; a walk takes as many steps as there are words and links.
+pub(super) fn first_bridge(
+    alloc: Global,
+    g: &Linkage,
+    matching: &[bool],
+    cycled: &mut Vec<bool>,
+) -> Result<Option<usize>, NoMemory>
+    requires good { IsGood g.now }
+    requires matching { length g.now.links ≤ length matching.now }
+    requires enough { length g.now.links ≤ length cycled.old.items }
+    requires cycled { AreCycled g.now cycled.old.items }
+    ensures first { IfOk result (IsFirst (λ n. IsTrue (slice_index_or matching.now n false) × IsBridgeAt g.now n) (length g.now.links)) }
+    ensures enough { length cycled.new.items ≡ length cycled.old.items }
+    ensures cycled { AreCycled g.now cycled.new.items }
 {
-    let labels = facts.labels.as_slice();
-    let bridges = facts.bridges.items();
-    for (n, label) in labels.iter().enumerate() {
-        if bridges[n] && fits(pattern, label) {
-            return Some(n);
+    for (n, link) in g.links().iter().enumerate() {
+        if matching[n] && !cycled[n] {
+            if is_bridge(alloc, g, link)? {
+                return Ok(Some(n));
+            }
+            cycled[n] = true;
         }
     }
-    None
-}
-
-/// Which links are bridges: no walk over the other links joins their ends.
-pub(super) fn bridges(alloc: Global, g: &Linkage) -> Result<Flags, NoMemory>
-    requires { IsGood g.now }
-    ensures { IfOk result (λ flags. AreFlags (IsBridge g.now) g.now.links flags) }
-{
-    let mut flags = Vec::new(alloc);
-    for link in g.links() {
-        flags.push(is_bridge(alloc, g, link)?)?;
-    }
-    Ok(Flags::of(flags))
+    Ok(None)
 }
 
 fn is_bridge(alloc: Global, g: &Linkage, link: &Link) -> Result<bool, NoMemory>

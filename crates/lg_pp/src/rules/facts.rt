@@ -1,30 +1,27 @@
 //! What the rules ask of the links of a linkage.
-ghost use Rattle.std.specs.Prelude.{◌≡◌, ◌↔◌, ◌≤◌, length, IsTrue, IfOk};
+ghost use Rattle.std.specs.Prelude.{◌≡◌, ◌↔◌, ◌≤◌, ◌⊎◌, [], length, IsTrue, IfOk};
 ghost use Rattle.std.specs.List.{All, Any};
-ghost use Rattle.lg_pp.specs.Judging.{AreFacts, AreWithin, IsBridge, IsCycle, IsGrouped, IsOfDomains};
+ghost use Rattle.lg_pp.specs.Judging.{AreFacts, AreWithin, IsGrouped, IsOfDomains};
 ghost use Rattle.lg_pp.specs.Labels.{IsGood, AreLabels};
-ghost use Rattle.lg_pp.specs.Reach.{AreFlags, AreRows};
+ghost use Rattle.lg_pp.specs.Reach.{AreRows};
 ghost use Rattle.lg_pp.specs.Steps.{AreAlike, AreLeasts};
 
 use crate::flags::Flags;
 use crate::group::leasts;
-use crate::label::labels;
+use crate::label::Labels;
 use crate::reach::rows;
-use crate::rules::cycle::bridges;
 use lg_base::NoMemory;
-use lg_gram::{Label, Linkage};
+use lg_gram::Linkage;
 use lg_knowread::{Knowledge, Rule};
 use std::alloc::Global;
 
 /// The labels of the links; for each link, which links lie in the domain that it starts, where some rule is bounded or
-/// grouped; the least link of each link's group, where some rule is grouped; and, where some rule is a cycle, which links
-/// have ends that no walk over the other links joins.
+/// grouped; and the least link of each link's group, where some rule is grouped.
 #[derive(Drop)]
 pub(crate) struct Facts {
-    pub(crate) labels: Vec<Label>,
+    pub(crate) labels: Labels,
     pub(crate) rows: Vec<Flags>,
     pub(crate) groups: Vec<usize>,
-    pub(crate) bridges: Flags,
 }
 
 impl Facts {
@@ -34,15 +31,13 @@ impl Facts {
         ensures { IfOk result (AreFacts know.now g.now) }
     {
         let rules = know.rules.items();
-        let labels = labels(alloc, g)?;
+        let labels = Labels::of(alloc, g)?;
         let rows = rows_if(alloc, is_any_of_domains(rules), know, g, &labels)?;
         let groups = groups_if(alloc, is_any_grouped(rules), &rows, g.links().len())?;
-        let bridges = bridges_if(alloc, is_any_cycle(rules), g)?;
         Ok(Facts {
             labels,
             rows,
             groups,
-            bridges,
         })
     }
 }
@@ -53,12 +48,12 @@ fn rows_if(
     wanted: bool,
     know: &Knowledge,
     g: &Linkage,
-    labels: &[Label],
+    labels: &Labels,
 ) -> Result<Vec<Flags>, NoMemory>
     requires good { IsGood g.now }
     requires labels { AreLabels g.now labels.now }
     ensures rows { IfOk result (λ rows. IsTrue wanted → AreRows know.now g.now rows.items) }
-    ensures long { IfOk result (λ rows. All (λ row. length g.now.links ≤ length row) rows.items) }
+    ensures long { IfOk result (λ rows. All (λ row. (row ≡ []) ⊎ (length g.now.links ≤ length row)) rows.items) }
 {
     if wanted {
         rows(alloc, know, g, labels)
@@ -74,7 +69,7 @@ fn groups_if(
     rows: &[Flags],
     count: usize,
 ) -> Result<Vec<usize>, NoMemory>
-    requires { All (λ row. count ≤ length row) rows.now }
+    requires { All (λ row. (row ≡ []) ⊎ (count ≤ length row)) rows.now }
     ensures within { IfOk result (λ groups. AreWithin count groups.items) }
     ensures groups { IfOk result (λ groups. IsTrue wanted → AreLeasts (AreAlike rows.now) count groups.items) }
 {
@@ -82,18 +77,6 @@ fn groups_if(
         leasts(alloc, rows, count)
     } else {
         leasts(alloc, &[], count)
-    }
-}
-
-// Which links are bridges, where it is wanted; else none.
-fn bridges_if(alloc: Global, wanted: bool, g: &Linkage) -> Result<Flags, NoMemory>
-    requires { IsGood g.now }
-    ensures { IfOk result (λ flags. AreFlags (λ l. IsTrue wanted × IsBridge g.now l) g.now.links flags) }
-{
-    if wanted {
-        bridges(alloc, g)
-    } else {
-        Flags::none(alloc, g.links().len())
     }
 }
 
@@ -122,16 +105,4 @@ fn is_grouped(rule: &Rule) -> bool
         Rule::Forbid { grouped, .. } | Rule::Demand { grouped, .. } => *grouped,
         Rule::Bounded { .. } | Rule::Cycle { .. } => false,
     }
-}
-
-fn is_any_cycle(rules: &[Rule]) -> bool
-    ensures { IsTrue result ↔ Any IsCycle rules.now }
-{
-    rules.iter().any(|rule| is_cycle(rule))
-}
-
-fn is_cycle(rule: &Rule) -> bool
-    ensures { IsTrue result ↔ IsCycle rule.now }
-{
-    matches!(rule, Rule::Cycle { .. })
 }

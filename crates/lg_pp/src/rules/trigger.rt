@@ -3,11 +3,9 @@ ghost use Rattle.std.specs.Prelude.{◌≡◌, ◌↔◌, ◌<◌, ◌≤◌, fa
 ghost use Rattle.lg_pp.specs.Judging.{AreHits, AreWithin, IsFirst, IsLabelled, MeetsOther, class_of};
 ghost use Rattle.lg_pp.specs.Labels.{Matches};
 
-use crate::label::{fits, fits_one};
 use crate::rules::facts::Facts;
 use lg_base::NoMemory;
-use lg_gram::Label;
-use lg_knowread::Pattern;
+use lg_knowread::{Pattern, Patterns};
 use std::alloc::Global;
 
 /// The number of the first link that matches the trigger where the links of its group, or all links, have one that
@@ -17,55 +15,49 @@ pub(super) fn first_trigger(
     facts: &Facts,
     grouped: bool,
     trigger: &Pattern,
-    others: &[Pattern],
+    others: &Patterns,
     asked: bool,
 ) -> Result<Option<usize>, NoMemory>
-    requires groups { AreWithin (length facts.now.labels.items) facts.now.groups.items }
-    ensures { let labels = facts.now.labels.items in IfOk result (IsFirst (λ n. IsLabelled (Matches trigger.now) labels n
+    requires groups { AreWithin (length facts.now.labels) facts.now.groups.items }
+    ensures { let labels = facts.now.labels in IfOk result (IsFirst (λ n. IsLabelled (Matches trigger.now) labels n
         × MeetsOther grouped facts.now.groups.items others.now labels asked n) (length labels)) }
 {
-    let labels = facts.labels.as_slice();
     let groups = facts.groups.as_slice();
-    let hits = hits(alloc, labels, groups, grouped, others)?;
-    Ok(first_of_class(labels, groups, grouped, trigger, &hits, asked))
+    let triggers = facts.labels.picked(alloc, trigger)?;
+    let met = facts.labels.picked(alloc, others)?;
+    let hits = hits(alloc, groups, grouped, met.items())?;
+    Ok(first_of_class(groups, grouped, triggers.items(), &hits, asked))
 }
 
 fn first_of_class(
-    labels: &[Label],
     groups: &[usize],
     grouped: bool,
-    trigger: &Pattern,
+    triggers: &[bool],
     hits: &[bool],
     asked: bool,
 ) -> Option<usize>
-    requires groups { AreWithin (length labels.now) groups.now }
-    requires hits { length labels.now ≤ length hits.now }
-    ensures { IsFirst (λ n. IsLabelled (Matches trigger.now) labels.now n
-        × (slice_index_or hits.now (class_of grouped groups.now n) false ≡ asked)) (length labels.now) result }
+    requires groups { AreWithin (length triggers.now) groups.now }
+    requires hits { length triggers.now ≤ length hits.now }
+    ensures { IsFirst (λ n. IsTrue (slice_index_or triggers.now n false)
+        × (slice_index_or hits.now (class_of grouped groups.now n) false ≡ asked)) (length triggers.now) result }
 {
-    for (n, label) in labels.iter().enumerate() {
-        if hits[class_of(grouped, groups, n)] == asked && fits(trigger, label) {
+    for n in 0..triggers.len() {
+        if triggers[n] && hits[class_of(grouped, groups, n)] == asked {
             return Some(n);
         }
     }
     None
 }
 
-// A flag for each class: whether one of the patterns matches the label of a link of that class.
-fn hits(
-    alloc: Global,
-    labels: &[Label],
-    groups: &[usize],
-    grouped: bool,
-    patterns: &[Pattern],
-) -> Result<Vec<bool>, NoMemory>
-    requires groups { AreWithin (length labels.now) groups.now }
-    ensures enough { IfOk result (λ hits. length hits.items ≡ length labels.now) }
-    ensures exactly { IfOk result (λ hits. AreHits grouped groups.now patterns.now labels.now hits.items) }
+// A flag for each class: whether a link of that class has its flag set.
+fn hits(alloc: Global, groups: &[usize], grouped: bool, met: &[bool]) -> Result<Vec<bool>, NoMemory>
+    requires groups { AreWithin (length met.now) groups.now }
+    ensures enough { IfOk result (λ hits. length hits.items ≡ length met.now) }
+    ensures exactly { IfOk result (λ hits. AreHits grouped groups.now met.now hits.items) }
 {
-    let mut hits = vec![in alloc; false; labels.len()]?;
-    for (n, label) in labels.iter().enumerate() {
-        if fits_one(patterns, label) {
+    let mut hits = vec![in alloc; false; met.len()]?;
+    for n in 0..met.len() {
+        if met[n] {
             hits[class_of(grouped, groups, n)] = true;
         }
     }

@@ -1,12 +1,14 @@
-use Rattle.std.proofs.Common.{◌↔◌, IsTrue, ◌<◌, length, get_or, arith}
+use Rattle.std.proofs.Common.{◌↔◌, IsTrue, false, ◌<◌, length, get_or, ap, arith}
 use Rattle.lg_pp.specs.Domains.{InDomain}
-use Rattle.lg_pp.proofs.Good.{no_link, labels_enough, label_read, has_at, ends_within}
-use Rattle.lg_pp.proofs.Reaching.{collected_by_label}
+use Rattle.lg_pp.specs.Labels.{MatchesOne}
+use Rattle.lg_pp.proofs.Picking.{flag_here}
+use Rattle.lg_pp.proofs.Good.{no_link, has_at, ends_within}
+use Rattle.lg_pp.proofs.Reaching.{collected_by_flag}
 use Rattle.lg_pp.proofs.Zipped.{zip_more}
 use Rattle.lg_pp.proofs.reach.collected.Goals as goal
 
-pub bounds-labels-n : goal.bounds-labels-n
-bounds-labels-n c = labels_enough c.args.g.now c.args.labels.now c.links-link-items.result.now c.loop-n.n c.requires.labels c.links-link-items.ensures.value c.loop-n-test.true
+pub bounds-ignored-n : goal.bounds-ignored-n
+bounds-ignored-n c = let e = ap length c.links-link-items.ensures.value in omega arith
 
 -- ends of links are positions, and each position has a label
 pub is_collected-requires-clause-start : goal.is_collected-requires-clause-start
@@ -31,20 +33,21 @@ is_collected-requires-clause-right c =
 
 -- one more flag
 pub loop-n-preserved : goal.loop-n-preserved
-loop-n-preserved c =
-    let know = c.args.know.now in
+loop-n-preserved c = λ know are tell.
     let g = c.args.g.now in
     let links = c.links-link-items.result.now in
     let n = c.loop-n.n in
+    let less = c.loop-n-test.true in
+    let e = c.links-link-items.ensures.value in
     let link = get_or links n no_link in
-    let has = has_at g links n c.links-link-items.ensures.value c.loop-n-test.true in
+    let has = has_at g links n e less in
     let within = ends_within g c.requires.good link has in
     let few = c.links-link-items.ensures.limits.few in
     let left : link.left < length c.args.islands.now = omega arith in
     let right : link.right < length c.args.islands.now = omega arith in
-    let label = label_read g c.args.labels.now links n c.requires.labels c.links-link-items.ensures.value c.loop-n-test.true c.index-labels-n.result c.index-labels-n.is in
-    let says = collected_by_label know g c.args.start.now link c.index-labels-n.result c.args.islands.now c.requires.tell left right has label in
-    let test = rw c.items-ignored.ensures at c.is_collected.ensures in
+    let flag = get_or c.args.ignored.now n false in
+    let says = collected_by_flag know g c.args.start.now link flag c.args.islands.now tell left right has (flag_here (MatchesOne know.ignored g) g c.args.ignored.now links n are e less) in
+    let test = c.is_collected.ensures in
     rw c.in_ok-push.ensures.items
     (zip_more (λ l flag. IsTrue flag ↔ InDomain know g c.args.start.now l) links c.loop-n.flags.items n no_link c.is_collected.result
-    c.loop-n-test.true c.loop-n.invariant (λ t. says.0 (test.0 t), λ h. test.1 (says.1 h)))
+    less (c.loop-n.invariant know are tell) (λ t. says.0 (test.0 t), λ h. test.1 (says.1 h)))

@@ -1,4 +1,5 @@
 use Rattle.std.proofs.Common.{arith}
+use Rattle.std.proofs.lemmas.Result.{IfOk-weaker}
 use Rattle.lg_pp.proofs.Reaching.{islands_tell}
 use Rattle.lg_pp.proofs.reach.domain.Goals as goal
 
@@ -6,7 +7,8 @@ pub label_islands-requires : goal.label_islands-requires
 label_islands-requires c = record { within = rw c.deref.ensures.value c.in_ok-links.ensures.within }
 
 -- the islands off the root tell what the start link reaches
-pub collected-requires-clause-tell : goal.collected-requires-clause-tell
-collected-requires-clause-tell c =
-    islands_tell c.args.know.now c.args.g.now c.args.start.now c.in_ok-links.links.items c.label_islands.new.labels (omega arith) c.in_ok-links.ensures.exactly
-    (rw c.deref.ensures.value at c.label_islands.ensures)
+pub returns : goal.returns
+returns c =
+    IfOk-weaker c.collected.result _ _
+    (λ flags are know ignores. are know ignores (islands_tell know c.args.g.now c.args.start.now c.in_ok-links.links.items c.label_islands.new.labels (omega arith) (c.in_ok-links.ensures.exactly know ignores)
+    (rw c.deref.ensures.value at c.label_islands.ensures))) c.collected.ensures

@@ -20,6 +20,15 @@ hold_more know g n rule at before here k other less there =
     below_more (λ k. (other : Rule) → slice_get know.rules k ≡ Some other → Holds know g other) n (λ k less other there. before k other less there)
     (λ other there. subst (Holds know g) (let e : Some rule ≡ Some other = cc in same_Some rule other e) here) k less other there
 
+-- nothing is known at first
+pub loop-n-init : goal.loop-n-init
+loop-n-init c =
+    let none = c.in_ok-found.ensures in
+    record {
+      hold = λ k rule less at. absurd (omega (arith, less));
+      found = record { bounded = λ kind is. absurd (none.bounded kind is); enough = none.enough; cycled = λ n is. absurd (none.cycled n is) };
+    }
+
 pub returns-in-Some : goal.returns-in-Some
 returns-in-Some c =
     let know = c.args.know.now in
@@ -27,9 +36,9 @@ returns-in-Some c =
     let rule = c.rule-item.result in
     let k = c.in-Some.k in
     let at = rule_at know.rules c.items-rule-items.result.now c.loop-n.n rule c.items-rule-items.ensures c.loop-n-test.true c.rule-item.is in
-    let first = rw c.in-Some.is at c.in_ok-first.ensures in
+    let first = rw c.in-Some.is at c.in_ok-first.ensures.first in
     let number : IsNumber g k (get_or c.links.result.now k no_link) = rw c.links.ensures.value (slice_get-get_or g.links k no_link first.0) in
-    broken_at know g c.requires.good c.loop-n.n rule at c.loop-n.invariant k first (get_or c.links.result.now k no_link) number _ refl refl refl
+    broken_at know g c.requires.good c.loop-n.n rule at c.loop-n.invariant.hold k first (get_or c.links.result.now k no_link) number _ refl refl refl
 
 pub loop-n-preserved : goal.loop-n-preserved
 loop-n-preserved c =
@@ -37,8 +46,11 @@ loop-n-preserved c =
     let g = c.args.g.now in
     let rule = c.rule-item.result in
     let at = rule_at know.rules c.items-rule-items.result.now c.loop-n.n rule c.items-rule-items.ensures c.loop-n-test.true c.rule-item.is in
-    hold_more know g c.loop-n.n rule at c.loop-n.invariant (holds_from_none know g rule (rw c.in_default.is at c.in_ok-first.ensures))
+    record {
+      hold = hold_more know g c.loop-n.n rule at c.loop-n.invariant.hold (holds_from_none know g rule (rw c.in_default.is at c.in_ok-first.ensures.first));
+      found = c.in_ok-first.ensures.found;
+    }
 
 pub returns : goal.returns
 returns c =
-    all_hold c.args.know.now c.args.g.now c.loop-n.n (let e = ap length c.items-rule-items.ensures in omega arith) c.loop-n.invariant
+    all_hold c.args.know.now c.args.g.now c.loop-n.n (let e = ap length c.items-rule-items.ensures in omega arith) c.loop-n.invariant.hold

@@ -2,7 +2,7 @@ use Rattle.std.proofs.Common.{◌≡◌, Some}
 use Rattle.lg_gram.specs.Labels.{label_at}
 use Rattle.lg_pp.proofs.Good.{no_link, joins_at}
 use Rattle.lg_pp.proofs.Zipped.{zip_more}
-use Rattle.lg_pp.proofs.label.labels.Goals as goal
+use Rattle.lg_pp.proofs.label.found_labels.Goals as goal
 
 -- the two places of a link of a good linkage have connectors that match
 pub label-requires : goal.label-requires

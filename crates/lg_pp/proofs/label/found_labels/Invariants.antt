@@ -1,7 +1,7 @@
 use Rattle.std.proofs.Common.{◌≡◌, Some, take}
 use Rattle.std.specs.List.{AllZip}
 use Rattle.lg_gram.specs.Labels.{label_at}
-use Rattle.lg_pp.proofs.label.labels.Given as goal
+use Rattle.lg_pp.proofs.label.found_labels.Given as goal
 
 -- the labels of the links so far
 abbrev pub invariant-loop-link : goal.invariant-loop-link
