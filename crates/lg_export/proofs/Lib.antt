@@ -1,0 +1,9 @@
+pub mod Spelled
+pub mod Keys
+pub mod Lowest
+pub mod Lexed
+pub mod ReadTexts
+pub mod Texts
+pub mod Found
+pub mod Chain
+pub mod Reach

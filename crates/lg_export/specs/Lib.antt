@@ -1,0 +1,6 @@
+pub mod Spelling
+pub mod Spots
+pub mod Exports
+pub mod Levels
+pub mod Exportable
+pub mod ReadBack

@@ -1,0 +1,11 @@
+//! The export of a dictionary: its text, which reads back to the same words and macros.
+#![tactic(auto)]
+
+mod law;
+mod level;
+mod spelling;
+mod spot;
+mod text;
+
+pub use law::{exports_read_back, levels_reach_spellings, no_spelling_is_lower};
+pub use text::{ExportError, export};

@@ -1,0 +1,4 @@
+pub mod Totals
+pub mod Shares
+pub mod Bounds
+pub mod Stored
