@@ -1,14 +1,13 @@
 -- What clap makes of words that are options.
-use Rattle.std.proofs.Common.{◌≡◌, ℕ, ◌≤◌, true, false, Bool, cond, ◌&&◌, ◌||◌, nat_eq, List, [], ◌∷◌, ◌++◌, map, codes, Option, None, Some, refl, sym, ap, subst, ◌∙◌, arith, append-nil, append_assoc, bytes_eq}
+use Rattle.std.proofs.Common.{◌≡◌, true, false, Bool, not, cond, ◌&&◌, ◌||◌, nat_eq, List, [], ◌∷◌, ◌++◌, map, codes, Option, None, Some, refl, sym, ap, subst, ◌∙◌, append-nil, append_assoc, bytes_eq}
 use Rattle.std.specs.Prelude.{fold, find, is_some, slice_get, option_and_then}
 use Rattle.std.specs.List.{AllByRecursion, list_all}
-use Rattle.std.proofs.lemmas.Bool.{ne_eqb}
 use Rattle.std.proofs.lemmas.Slice.Eq.{bytes_eq-Decides}
 use Rattle.clap.specs.Words.{App, Rule, app_of, Text, Row, first_of, found_of, is_simple, matches_of, new_app, takes, with_rule, HasMatchesOf}
 use Rattle.clap.specs.Lexer.{long_of, short_of}
 use Rattle.clap.specs.Simple.{Shape, built, filled, entered, on_top, app_of_fields}
 use Rattle.clap.specs.Takes.{turn_passes, walk_passes, settle_passes, react_passes, use_passes, entered_passes, default_passes, is_valid}
-use Rattle.clap.specs.Walk.{Held, Walk, Waiting, idle, option, walked, walk_from, nothing_held, settled, reacted, finished, used, at_row, has_row, more_values, with_default, default_rows, reading_by}
+use Rattle.clap.specs.Walk.{Held, Walk, Waiting, idle, option, walked, walk_from, nothing_held, settled, reacted, finished, used, at_row, has_row, more_values, with_default, default_rows, reading_by, arg_by_long, arg_by_id}
 use Rattle.clap.specs.declared.builder.command.Command.{Command}
 use Rattle.clap.specs.declared.builder.command.Command.TheViews.{out-Command}
 use Rattle.clap.specs.declared.builder.command.Command.TheOpen.{Command-F}
@@ -16,13 +15,12 @@ use Rattle.clap.specs.declared.parser.matches.ArgMatches.{ArgMatches}
 use Rattle.clap.specs.declared.parser.matches.ValueSource.TheVariants.{CommandLine}
 use Rattle.clap.proofs.OnLiterals.{clap_on_literals}
 use Rattle.clap.proofs.WalkLemmas.{first_value-rows}
-use Rattle.lg_answer.specs.declared.options.Nulls.{Nulls as Unlinked}
-use Rattle.lg_script.specs.Commands.{IsNumber}
-use Rattle.lg_run.specs.Words.{IsKnown, want, examine, nulls, prune, stats, diagram, workers, WritesNulls, first, passing, WritesSwitch, on, off, value_of, AreOptions, none, apart, joined}
+use Rattle.lg_run.specs.Words.{run_options, IsKnown, is_operand, value_of, AreOptions, none, apart, joined}
 use Rattle.lg_run.specs.Matched.{option_rule, TellsSettings}
-use Rattle.lg_run.specs.Settings.{name_of, option_word}
+use Rattle.lg_run.specs.Settings.{name_of, value_kind, option_word}
+use Rattle.lg_run.proofs.OptionWords.{all_settings, setting_by, value_is}
 use Rattle.lg_run.specs.declared.options.Setting.{Setting}
-use Rattle.lg_run.specs.declared.options.Setting.TheVariants.{Want, Examine, Nulls, Prune, Stats, Diagram, Workers}
+use Rattle.lg_run.specs.declared.options.Setting.TheVariants.{Want, Examine, Nulls, Prune, Stats, Diagram, Workers, Usage}
 
 abbrev Settings : Type 0
 Settings = List (Text × Text)
@@ -36,7 +34,7 @@ abbrev pub app : App
 app =
     let numbers = with_rule (with_rule bare (option_rule (codes "want"))) (option_rule (codes "examine")) in
     let switches = with_rule (with_rule (with_rule (with_rule numbers (option_rule (codes "nulls"))) (option_rule (codes "prune"))) (option_rule (codes "stats"))) (option_rule (codes "diagram")) in
-    with_rule switches (option_rule (codes "workers"))
+    with_rule (with_rule switches (option_rule (codes "workers"))) (option_rule (codes "usage"))
 
 -- a command that is called so, with these settings
 pub bare_is : (a b c : Command) → app_of a ≡ new_app (codes "options") → out-Command b ≡ record (out-Command a) { no_binary_name = true } → out-Command c ≡ record (out-Command b) { disable_help_flag = true }
@@ -85,80 +83,61 @@ awaits s h = record (settled top.rules h) { pending = Some (name_of s, []) }
 abbrev holds : Setting → Text → Held → Held
 holds s v h = record (settled top.rules h) { pending = Some (name_of s, v ∷ []) }
 
+-- what clap finds of an option's word
+record IsFound (s : Setting) : Type 0 where
+  pub by_long : arg_by_long top.rules (name_of s) ≡ Some (rule_by s)
+  pub by_id : arg_by_id top.rules (name_of s) ≡ Some (rule_by s)
+  pub alone : long_of (option_word s) ≡ Some (name_of s, None)
+  pub open_end : bytes_eq (option_word s) (45 ∷ 45 ∷ []) ≡ false
+  pub with_value : (v : Text) → long_of (option_word s ++ 61 ∷ v) ≡ Some (name_of s, Some v)
+  pub open_with : (v : Text) → bytes_eq (option_word s ++ 61 ∷ v) (45 ∷ 45 ∷ []) ≡ false
+
+found : (s : Setting) → IsFound s
+unfolding clap_on_literals
+found Want = record { by_long = refl; by_id = refl; alone = refl; open_end = refl; with_value = λ v. refl; open_with = λ v. refl }
+found Examine = record { by_long = refl; by_id = refl; alone = refl; open_end = refl; with_value = λ v. refl; open_with = λ v. refl }
+found Nulls = record { by_long = refl; by_id = refl; alone = refl; open_end = refl; with_value = λ v. refl; open_with = λ v. refl }
+found Prune = record { by_long = refl; by_id = refl; alone = refl; open_end = refl; with_value = λ v. refl; open_with = λ v. refl }
+found Stats = record { by_long = refl; by_id = refl; alone = refl; open_end = refl; with_value = λ v. refl; open_with = λ v. refl }
+found Diagram = record { by_long = refl; by_id = refl; alone = refl; open_end = refl; with_value = λ v. refl; open_with = λ v. refl }
+found Workers = record { by_long = refl; by_id = refl; alone = refl; open_end = refl; with_value = λ v. refl; open_with = λ v. refl }
+found Usage = record { by_long = refl; by_id = refl; alone = refl; open_end = refl; with_value = λ v. refl; open_with = λ v. refl }
+
 name_passes : (s : Setting) (h : Held) → settle_passes top.rules false h ≡ true → turn_passes top [] (at idle h) (option_word s) ≡ true
 unfolding clap_on_literals
-name_passes Want h p = rw p refl
-name_passes Examine h p = rw p refl
-name_passes Nulls h p = rw p refl
-name_passes Prune h p = rw p refl
-name_passes Stats h p = rw p refl
-name_passes Diagram h p = rw p refl
-name_passes Workers h p = rw p refl
+name_passes s h p = let f = found s in rw (f.open_end, f.alone, f.by_long, p) refl
 
 name_goes : (s : Setting) (h : Held) → walked top.rules [] (at idle h) (option_word s) ≡ at (option (name_of s)) (awaits s h)
 unfolding clap_on_literals
-name_goes Want h = refl
-name_goes Examine h = refl
-name_goes Nulls h = refl
-name_goes Prune h = refl
-name_goes Stats h = refl
-name_goes Diagram h = refl
-name_goes Workers h = refl
+name_goes s h = let f = found s in rw (f.open_end, f.alone, f.by_long) refl
 
 value_passes : (s : Setting) (h : Held) (v : Text) → IsValue v → turn_passes top [] (at (option (name_of s)) h) v ≡ true
 unfolding clap_on_literals
 value_passes s h v is = rw (is.0, is.1, is.2) refl
 
+same_name : (name : Text) → bytes_eq name name ≡ true
+same_name name = (bytes_eq-Decides name name).1 refl
+
 value_goes : (s : Setting) (h : Held) (v : Text) → IsValue v → walked top.rules [] (at (option (name_of s)) (awaits s h)) v ≡ at idle (holds s v h)
 unfolding clap_on_literals
-value_goes Want h v is = rw (is.0, is.1, is.2) refl
-value_goes Examine h v is = rw (is.0, is.1, is.2) refl
-value_goes Nulls h v is = rw (is.0, is.1, is.2) refl
-value_goes Prune h v is = rw (is.0, is.1, is.2) refl
-value_goes Stats h v is = rw (is.0, is.1, is.2) refl
-value_goes Diagram h v is = rw (is.0, is.1, is.2) refl
-value_goes Workers h v is = rw (is.0, is.1, is.2) refl
+value_goes s h v is = let f = found s in rw (is.0, is.1, is.2, f.by_id, same_name (name_of s)) refl
 
 joined_passes : (s : Setting) (h : Held) (v : Text) → react_passes top.rules false (rule_by s) (v ∷ []) h ≡ true → turn_passes top [] (at idle h) (option_word s ++ (codes "=" ++ v)) ≡ true
 unfolding clap_on_literals
-joined_passes Want h v p = rw p refl
-joined_passes Examine h v p = rw p refl
-joined_passes Nulls h v p = rw p refl
-joined_passes Prune h v p = rw p refl
-joined_passes Stats h v p = rw p refl
-joined_passes Diagram h v p = rw p refl
-joined_passes Workers h v p = rw p refl
+joined_passes s h v p = let f = found s in rw (f.open_with v, f.with_value v, f.by_long, p) refl
 
 joined_goes : (s : Setting) (h : Held) (v : Text) → walked top.rules [] (at idle h) (option_word s ++ (codes "=" ++ v)) ≡ at idle (reacted top.rules (rule_by s) (v ∷ []) h)
 unfolding clap_on_literals
-joined_goes Want h v = refl
-joined_goes Examine h v = refl
-joined_goes Nulls h v = refl
-joined_goes Prune h v = refl
-joined_goes Stats h v = refl
-joined_goes Diagram h v = refl
-joined_goes Workers h v = refl
+joined_goes s h v = let f = found s in rw (f.open_with v, f.with_value v, f.by_long) refl
 
 -- what is held of an option in two words
 holds_rows : (s : Setting) (h : Held) (v : Text) → (settled top.rules (holds s v h)).rows ≡ used (rule_by s) (v ∷ []) (settled top.rules h).rows
 unfolding clap_on_literals
-holds_rows Want h v = refl
-holds_rows Examine h v = refl
-holds_rows Nulls h v = refl
-holds_rows Prune h v = refl
-holds_rows Stats h v = refl
-holds_rows Diagram h v = refl
-holds_rows Workers h v = refl
+holds_rows s h v = let f = found s in rw f.by_id refl
 
 holds_passes : (s : Setting) (h : Held) (v : Text) → has_row (name_of s) (settled top.rules h).rows ≡ false → settle_passes top.rules false (holds s v h) ≡ true
 unfolding clap_on_literals
-holds_passes Want h v new = rw new refl
-holds_passes Examine h v new = rw new refl
-holds_passes Nulls h v new = rw new refl
-holds_passes Prune h v new = rw new refl
-holds_passes Stats h v new = rw new refl
-holds_passes Diagram h v new = rw new refl
-holds_passes Workers h v new = rw new refl
+holds_passes s h v new = let f = found s in rw (f.by_id, new) refl
 
 use_passes_once : (s : Setting) (v : Text) (rows : List Row) → has_row (name_of s) rows ≡ false → use_passes false (rule_by s) (v ∷ []) rows ≡ true
 use_passes_once s v rows new = rw new refl
@@ -228,26 +207,15 @@ still_new done (t ∷ settings) s new other = (rw (rows-more done s) (has_row-ap
 
 -- ---- options one after another
 
-number_value : (v : Text) (n : ℕ) → IsNumber v n → IsValue v
-number_value [] n is = absurd (is.some refl)
-number_value (b ∷ v) n is = let e : nat_eq b 45 ≡ false = ne_eqb b 45 (λ same. let low : 48 ≤ b = is.all_digits.0.0 in omega arith) in (rw e refl, rw e refl, rw e refl)
+operand_value : (v : Text) → is_operand v ≡ true → IsValue v
+operand_value [] h = (refl, refl, refl)
+operand_value (b ∷ v) h = let e : nat_eq b 45 ≡ false = dash (nat_eq b 45) h in (rw e refl, rw e refl, rw e refl) where
+  dash : (d : Bool) → not d ≡ true → d ≡ false
+  dash true h = cc
+  dash false h = refl
 
-nulls_value : (v : Text) (n : Unlinked) → WritesNulls v n → IsValue v
-nulls_value v n first = (refl, refl, refl)
-nulls_value v n passing = (refl, refl, refl)
-
-switch_value : (v : Text) (b : Bool) → WritesSwitch v b → IsValue v
-switch_value v b on = (refl, refl, refl)
-switch_value v b off = (refl, refl, refl)
-
-known_option : (name value : Text) → IsKnown name value → (s : Setting) × (name ≡ name_of s) × IsValue value
-known_option name value (want v n is) = (Want, refl, number_value v n is)
-known_option name value (examine v n is) = (Examine, refl, number_value v n is)
-known_option name value (nulls v n is) = (Nulls, refl, nulls_value v n is)
-known_option name value (prune v b is) = (Prune, refl, switch_value v b is)
-known_option name value (stats v b is) = (Stats, refl, switch_value v b is)
-known_option name value (diagram v b is) = (Diagram, refl, switch_value v b is)
-known_option name value (workers v n is) = (Workers, refl, number_value v n is.number)
+known_option : (name value : Text) → IsKnown run_options name value → (s : Setting) × (name ≡ name_of s) × IsValue value
+known_option name value known = let s = setting_by all_settings name value known in (s.0, s.1, operand_value value (value_is (value_kind s.0) value s.3))
 
 -- a walk over options ends so
 record Reaches (h : Held) (words : List Text) (done : Settings) : Type 0 where
@@ -286,7 +254,7 @@ joined_then s v words done all h f new next =
       follows = more.follows;
     }
 
-reaches : (words : List Text) (settings : Settings) → AreOptions words settings → (done : Settings) (h : Held) → Follows h done → AreNew done settings → Reaches h words (done ++ settings)
+reaches : (words : List Text) (settings : Settings) → AreOptions run_options words settings → (done : Settings) (h : Held) → Follows h done → AreNew done settings → Reaches h words (done ++ settings)
 reaches words settings none done h f new = record { end = h; goes = stays (at idle h); follows = subst (Follows h) (sym (append-nil done)) f }
 reaches words settings (apart name value more others known single rest) done h f new =
     let k = known_option name value known in
@@ -339,17 +307,17 @@ pub record Reads (words : List Text) (settings : Settings) : Type 0 where
   pub taken : takes app words ≡ true
   pub told : (name : Text) → first_of name (matches_of app words) ≡ value_of name settings
 
-pub reads : (words : List Text) (settings : Settings) → AreOptions words settings → Reads words settings
+pub reads : (words : List Text) (settings : Settings) → AreOptions run_options words settings → Reads words settings
 reads words settings are =
     let r = reaches words settings are [] nothing_held (record { rows = refl; passes = refl }) (all_new settings) in
     record {
       taken = opened words ∙ ap (λ (x : Walk). after x (walk_passes top [] (walk_from nothing_held) words)) r.goes.goes ∙ ap (after (at idle r.end)) r.goes.passes ∙ ends_well r.end r.follows.passes;
       told = λ name. ap (λ (x : Walk). first_of name (finished top.rules x.held)) r.goes.goes
-          ∙ ap (first_of name) (no_default (settled top.rules r.end).rows top.rules (refl, (refl, (refl, (refl, (refl, (refl, (refl, tt))))))) ∙ r.follows.rows) ∙ first_row name settings;
+          ∙ ap (first_of name) (no_default (settled top.rules r.end).rows top.rules (refl, (refl, (refl, (refl, (refl, (refl, (refl, (refl, tt)))))))) ∙ r.follows.rows) ∙ first_row name settings;
     }
 
 -- the matches tell the options
-pub matches_tell : (a : App) (words : List Text) (settings : Settings) (matches : ArgMatches) → a ≡ app → AreOptions words settings → HasMatchesOf a words matches → TellsSettings matches settings
+pub matches_tell : (a : App) (words : List Text) (settings : Settings) (matches : ArgMatches) → a ≡ app → AreOptions run_options words settings → HasMatchesOf a words matches → TellsSettings matches settings
 matches_tell a words settings matches same are h =
     let r = reads words settings are in
     let rows = (subst (λ (x : App). HasMatchesOf x words matches) same h refl).0 in

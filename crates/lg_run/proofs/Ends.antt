@@ -11,7 +11,7 @@ use Rattle.lg_knowread.specs.declared.fault.KnowError.{KnowError}
 use Rattle.lg_knowread.specs.declared.fault.KnowError.TheVariants as know_errors
 use Rattle.lg_script.specs.declared.script_error.ScriptError.{ScriptError}
 use Rattle.lg_script.specs.declared.script_error.ScriptError.TheVariants as script_errors
-use Rattle.lg_run.specs.Words.{Task, TaskIs, OptionsAre, AreInRange}
+use Rattle.lg_run.specs.Words.{Task, TaskIs, run_options, OptionsAre, AreInRange}
 use Rattle.lg_run.specs.Commands.{option_words, task, IsCommand}
 use Rattle.lg_run.specs.declared.command.Command.{Command}
 use Rattle.lg_run.specs.declared.setup.Setup.{Setup}
@@ -19,7 +19,7 @@ use Rattle.lg_run.specs.Inputs.{Found, Reading, accepted, refused, IsOne, Given,
 use Rattle.lg_run.specs.Lines.{memory_line, dict_line, know_line, script_line}
 use Rattle.lg_run.specs.Stops.{dict_status, know_status, script_status, stop_status, stop_line, EndsAs, EndsWithLine}
 use Rattle.lg_run.specs.Reads.{Comes, TellsStop, IsFaultOf, IsAbout}
-use Rattle.lg_run.specs.Answers.{WhereTold, IsNoTask, Caused, Told, AnswersRefused, AnswersAccepted, names_of, IsRefusal, HasLine, WritesLine, Finishes, last_line, IsStopped}
+use Rattle.lg_run.specs.Answers.{WhereTold, IsNoTask, Unwritten, Caused, Told, AnswersRefused, AnswersAccepted, names_of, IsRefusal, HasLine, WritesLine, Finishes, last_line, IsStopped}
 use Rattle.lg_run.specs.declared.stop.Stop.{Stop}
 use Rattle.lg_run.specs.declared.stop.Stop.TheVariants.{Memory, Unreadable, TooLong, Dictionary, Knowledge, Script, TooManyEdits}
 use Rattle.lg_run.specs.declared.status.Status.{Status}
@@ -49,9 +49,9 @@ told_map (Some known) words Holds More leads h = λ t is. leads known t (h t is)
 
 -- ---- the options that were read
 
-module _ (words texts : List (List ℕ)) (command : Command) (setup : Setup) (is : IsCommand words command) (same : texts ≡ option_words command) (read : (o : Setup) → OptionsAre texts o → setup ≡ o) where
+module _ (words texts : List (List ℕ)) (command : Command) (setup : Setup) (is : IsCommand words command) (same : texts ≡ option_words command) (read : (o : Setup) → OptionsAre run_options texts o → setup ≡ o) where
   are_read : setup ≡ is.setup
-  are_read = read is.setup (subst (λ (w : List (List ℕ)). OptionsAre w is.setup) (sym same) is.are_options)
+  are_read = read is.setup (subst (λ (w : List (List ℕ)). OptionsAre run_options w is.setup) (sym same) is.are_options)
 
   pub range_read : AreInRange setup
   range_read = subst AreInRange (sym are_read) is.range
@@ -77,6 +77,15 @@ caused_so g NoMemory before after files_before files_now out_before out_now f ro
 caused_so g ReadFault before after files_before files_now out_before out_now f rose = absurd f
 caused_so g BadInput before after files_before files_now out_before out_now f rose = tt
 caused_so g Usage before after files_before files_now out_before out_now f rose = tt
+
+-- with its inputs in hand a command ends by no status that writes nothing
+pub unwritten_so : (g : Given) (status : Status) (before after : Option (List ℕ)) → Finishes g status before after → Unwritten status before after
+unwritten_so g Done before after f = tt
+unwritten_so g WriteFault before after f = tt
+unwritten_so g NoMemory before after f = tt
+unwritten_so g ReadFault before after f = absurd f
+unwritten_so g BadInput before after f = absurd f
+unwritten_so g Usage before after f = absurd f
 
 module _ (inputs : Reading Given) (old new : List (List ℕ)) (before after : Option (List ℕ)) where
   -- a command that has its inputs in hand finishes so

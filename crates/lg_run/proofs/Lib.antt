@@ -11,6 +11,8 @@ pub mod ScriptLists
 pub mod Verdicts
 pub mod Told
 pub mod Writing
+pub mod Shares
+pub mod JournalLines
 pub mod Printed
 pub mod Turned
 pub mod Shown

@@ -30,8 +30,8 @@ use Rattle.lg_script.specs.EditNumbers.{edit_counts}
 use Rattle.lg_script.specs.Histories.{numbered, is_published, published_by}
 use Rattle.lg_session.specs.Engines.{Progress}
 use Rattle.lg_session.specs.Legal.{Run, Holding, AnswerIs, published, refused, version, listed, beyond, more, no_more, Answered, so_far, next, IsLegal, AnswersAll}
-use Rattle.lg_run.specs.Documents.{listings, no_knowledge, IsShown}
-use Rattle.lg_run.specs.MadeRuns.{items_of, sums_text, IsMadeDocument}
+use Rattle.lg_run.specs.Documents.{listings, no_knowledge, IsShown, items_of}
+use Rattle.lg_run.specs.MadeRuns.{sums_text, IsMadeDocument}
 use Rattle.lg_run.specs.Sums.{AreMade, EndsWithin, IsSmall}
 use Rattle.lg_run.proofs.Turned.{no_more_than}
 use Rattle.lg_run.proofs.Numbers.{from_all, in_each, place_in}

@@ -12,47 +12,29 @@ use Rattle.lg_forest.specs.Forests.{AreWorkers}
 use Rattle.lg_run.specs.declared.setup.Setup.{Setup}
 use Rattle.lg_script.specs.Bounds.{IsCount}
 use Rattle.lg_script.specs.Commands.{IsNumber, written_number}
-use Rattle.lg_run.specs.Words.{Task, One, Run, Gen, IsKnown, want, examine, nulls, prune, stats, diagram, workers, WritesNulls, first, passing, WritesSwitch, on, off, WritesWorkers, value_of, AreOptions, none, apart, joined, GivesNumber, GivesNulls, GivesSwitch, GivesWorkers, Gives, default_look, OptionsAre, is_operand, SENTENCE, SCRIPTS, Writes, IsSeed, IsMadeCount, TaskIs, one, run, gen, AreInRange}
-use Rattle.lg_run.specs.Settings.{name_of, operand, IsCut}
+use Rattle.lg_run.specs.Words.{Task, One, Run, Gen, HasForm, one_options, run_options, IsKnown, WritesNulls, first, passing, WritesSwitch, on, off, WritesWorkers, value_of, AreOptions, none, apart, joined, GivesNumber, GivesNulls, GivesSwitch, GivesWorkers, Gives, default_look, OptionsAre, is_operand, SENTENCE, SCRIPTS, WritesNumber, IsSeed, IsMadeCount, TaskIs, one, run, gen, AreInRange}
+use Rattle.lg_run.specs.Settings.{name_of, value_kind, named, operand, IsCut}
+use Rattle.lg_run.specs.declared.options.Kind.{Kind}
 use Rattle.lg_run.specs.declared.options.Setting.{Setting}
-use Rattle.lg_run.specs.declared.options.Setting.TheVariants.{Want, Examine, Nulls, Prune, Stats, Diagram, Workers}
+use Rattle.lg_run.specs.declared.options.Setting.TheVariants.{Want, Examine, Nulls, Prune, Stats, Diagram, Workers, Usage}
 use Rattle.lg_run.specs.Commands.{option_words, task, IsCommand}
 use Rattle.lg_run.specs.declared.command.Command.{Command}
-use Rattle.lg_run.proofs.OptionWords.{Settings, same_setting, same_cut}
+use Rattle.lg_run.proofs.OptionWords.{Settings, one_settings, all_settings, more_known, setting_by, same_setting, same_cut}
 
 -- ---- what options give
 
--- the form of an option's value
-abbrev FormOf : Setting → List ℕ → Type 0
-FormOf Want value = (n : ℕ) × IsNumber value n
-FormOf Examine value = (n : ℕ) × IsNumber value n
-FormOf Nulls value = (n : Unlinked) × WritesNulls value n
-FormOf Prune value = (b : Bool) × WritesSwitch value b
-FormOf Stats value = (b : Bool) × WritesSwitch value b
-FormOf Diagram value = (b : Bool) × WritesSwitch value b
-FormOf Workers value = (n : ℕ) × WritesWorkers value n
-
-form_by : (name value : List ℕ) → IsKnown name value → (s : Setting) × (name ≡ name_of s) × FormOf s value
-form_by name value (want v n is) = (Want, refl, (n, is))
-form_by name value (examine v n is) = (Examine, refl, (n, is))
-form_by name value (nulls v n is) = (Nulls, refl, (n, is))
-form_by name value (prune v b is) = (Prune, refl, (b, is))
-form_by name value (stats v b is) = (Stats, refl, (b, is))
-form_by name value (diagram v b is) = (Diagram, refl, (b, is))
-form_by name value (workers v n is) = (Workers, refl, (n, is))
-
 -- the value that is given to an option is in its form
-form_first : (s : Setting) (b : Bool) (name value : List ℕ) (o : Option (List ℕ)) → bytes_eq name (name_of s) ≡ b → IsKnown name value → IfSome o (FormOf s) → IfSome (cond b (Some value) o) (FormOf s)
-form_first s true name value o e known more =
-    let f = form_by name value known in
+form_first : (known : List Setting) (s : Setting) (b : Bool) (name value : List ℕ) (o : Option (List ℕ)) → bytes_eq name (name_of s) ≡ b → IsKnown (named known) name value → IfSome o (HasForm (value_kind s)) → IfSome (cond b (Some value) o) (HasForm (value_kind s))
+form_first known s true name value o e is more =
+    let f = setting_by known name value is in
     let same : name_of f.0 ≡ name_of s = sym f.1 ∙ (bytes_eq-Decides name (name_of s)).0 e in
-    subst (λ (t : Setting). FormOf t value) (same_setting f.0 s (ap (λ (n : List ℕ). codes "--" ++ n) same)) f.2
-form_first s false name value o e known more = more
+    subst (λ (t : Setting). HasForm (value_kind t) value) (same_setting f.0 s (ap (λ (n : List ℕ). codes "--" ++ n) same)) f.3
+form_first known s false name value o e is more = more
 
-form_given : (s : Setting) (words : List (List ℕ)) (settings : Settings) → AreOptions words settings → IfSome (value_of (name_of s) settings) (FormOf s)
-form_given s words settings none = tt
-form_given s words settings (apart other value more others known new read) = form_first s (bytes_eq other (name_of s)) other value (value_of (name_of s) others) refl known (form_given s more others read)
-form_given s words settings (joined other value more others known new read) = form_first s (bytes_eq other (name_of s)) other value (value_of (name_of s) others) refl known (form_given s more others read)
+form_given : (known : List Setting) (s : Setting) (words : List (List ℕ)) (settings : Settings) → AreOptions (named known) words settings → IfSome (value_of (name_of s) settings) (HasForm (value_kind s))
+form_given known s words settings none = tt
+form_given known s words settings (apart other value more others is new read) = form_first known s (bytes_eq other (name_of s)) other value (value_of (name_of s) others) refl is (form_given known s more others read)
+form_given known s words settings (joined other value more others is new read) = form_first known s (bytes_eq other (name_of s)) other value (value_of (name_of s) others) refl is (form_given known s more others read)
 
 -- a number from 1 to 1,000,000
 number_given : (o : Option (List ℕ)) (usual : ℕ) → IsCount usual → IfSome o (λ value. (n : ℕ) × IsNumber value n) → (n : ℕ) × GivesNumber o usual n × IsCount n
@@ -72,17 +54,18 @@ workers_given : (o : Option (List ℕ)) (usual : ℕ) → AreWorkers usual → I
 workers_given None usual u h = (usual, refl, u)
 workers_given (Some value) usual u h = (h.0, h.1, h.1.few)
 
-gives_some : (words : List (List ℕ)) (settings : Settings) → AreOptions words settings → (setup : Setup) × Gives settings setup × AreInRange setup
-gives_some words settings read =
-    let w = number_given (value_of (codes "want") settings) default_options.want (omega arith, omega arith) (form_given Want words settings read) in
-    let x = number_given (value_of (codes "examine") settings) default_options.examine (omega arith, omega arith) (form_given Examine words settings read) in
-    let v = nulls_given (value_of (codes "nulls") settings) default_options.nulls (form_given Nulls words settings read) in
-    let p = switch_given (value_of (codes "prune") settings) default_options.prune (form_given Prune words settings read) in
-    let s = switch_given (value_of (codes "stats") settings) default_look.stats (form_given Stats words settings read) in
-    let d = switch_given (value_of (codes "diagram") settings) default_look.diagram (form_given Diagram words settings read) in
-    let k = workers_given (value_of (codes "workers") settings) default_options.workers (omega arith, omega arith) (form_given Workers words settings read) in (
-      record { listing = record { want = w.0; examine = x.0; nulls = v.0; prune = p.0; count = s.0; workers = k.0 }; look = record { diagram = d.0; stats = s.0 } },
-      record { want = w.1; examine = x.1; nulls = v.1; prune = p.1; stats = s.1; diagram = d.1; workers = k.1; count = refl },
+gives_some : (known : List Setting) (words : List (List ℕ)) (settings : Settings) → AreOptions (named known) words settings → (setup : Setup) × Gives settings setup × AreInRange setup
+gives_some known words settings read =
+    let w = number_given (value_of (codes "want") settings) default_options.want (omega arith, omega arith) (form_given known Want words settings read) in
+    let x = number_given (value_of (codes "examine") settings) default_options.examine (omega arith, omega arith) (form_given known Examine words settings read) in
+    let v = nulls_given (value_of (codes "nulls") settings) default_options.nulls (form_given known Nulls words settings read) in
+    let p = switch_given (value_of (codes "prune") settings) default_options.prune (form_given known Prune words settings read) in
+    let s = switch_given (value_of (codes "stats") settings) default_look.stats (form_given known Stats words settings read) in
+    let d = switch_given (value_of (codes "diagram") settings) default_look.diagram (form_given known Diagram words settings read) in
+    let u = switch_given (value_of (codes "usage") settings) false (form_given known Usage words settings read) in
+    let k = workers_given (value_of (codes "workers") settings) default_options.workers (omega arith, omega arith) (form_given known Workers words settings read) in (
+      record { listing = record { want = w.0; examine = x.0; nulls = v.0; prune = p.0; count = s.0; workers = k.0 }; look = record { diagram = d.0; stats = s.0 }; usage = u.0 },
+      record { want = w.1; examine = x.1; nulls = v.1; prune = p.1; stats = s.1; diagram = d.1; workers = k.1; usage = u.1; count = refl },
       record { want = w.2; examine = x.2; workers = k.2 },
     )
 
@@ -120,10 +103,11 @@ one_workers (Some value) usual n m h k = h.number.value ∙ sym k.number.value
 
 -- setups with the same values
 pub same_values : (x y : Setup) → x.listing.want ≡ y.listing.want → x.listing.examine ≡ y.listing.examine → x.listing.nulls ≡ y.listing.nulls → x.listing.prune ≡ y.listing.prune
-    → x.listing.count ≡ y.listing.count → x.listing.workers ≡ y.listing.workers → x.look.diagram ≡ y.look.diagram → x.look.stats ≡ y.look.stats → x ≡ y
-same_values x y w e n p c k d s = λ i. record {
+    → x.listing.count ≡ y.listing.count → x.listing.workers ≡ y.listing.workers → x.look.diagram ≡ y.look.diagram → x.look.stats ≡ y.look.stats → x.usage ≡ y.usage → x ≡ y
+same_values x y w e n p c k d s u = λ i. record {
   listing = record { want = w i; examine = e i; nulls = n i; prune = p i; count = c i; workers = k i };
   look = record { diagram = d i; stats = s i };
+  usage = u i;
 }
 
 pub same_gives : (settings : Settings) (x y : Setup) → Gives settings x → Gives settings y → x ≡ y
@@ -132,7 +116,7 @@ same_gives settings x y h k =
     same_values x y (one_number _ _ x.listing.want y.listing.want h.want k.want) (one_number _ _ x.listing.examine y.listing.examine h.examine k.examine)
     (one_nulls _ _ x.listing.nulls y.listing.nulls h.nulls k.nulls) (one_switch _ _ x.listing.prune y.listing.prune h.prune k.prune)
     (h.count ∙ stats ∙ sym k.count) (one_workers _ _ x.listing.workers y.listing.workers h.workers k.workers)
-    (one_switch _ _ x.look.diagram y.look.diagram h.diagram k.diagram) stats
+    (one_switch _ _ x.look.diagram y.look.diagram h.diagram k.diagram) stats (one_switch _ _ x.usage y.usage h.usage k.usage)
 
 -- ---- the task
 
@@ -148,7 +132,7 @@ pub record IsOneOf (words : List (List ℕ)) (task : Task) : Type 0 where
   pub sentence : List ℕ
   pub same : task ≡ One setup dictionary sentence
   pub split : words ≡ front ++ dictionary ∷ sentence ∷ []
-  pub are : OptionsAre front setup
+  pub are : OptionsAre one_options front setup
   pub dictionary_is : IsTrue (is_operand dictionary)
   pub sentence_is : IsTrue (is_operand sentence)
   pub short : length sentence ≤ SENTENCE
@@ -162,7 +146,7 @@ pub record IsRunOf (words : List (List ℕ)) (task : Task) : Type 0 where
   pub scripts : List (List ℕ)
   pub same : task ≡ Run setup dictionary knowledge scripts
   pub split : words ≡ front ++ dictionary ∷ knowledge ∷ scripts
-  pub are : OptionsAre front setup
+  pub are : OptionsAre run_options front setup
   pub operands : AreOperands (dictionary ∷ knowledge ∷ scripts)
   pub some : 1 ≤ length scripts
   pub few : length scripts ≤ SCRIPTS
@@ -243,39 +227,40 @@ is_gen words task (run front setup dictionary knowledge scripts are operands som
 first_operand : (word : List ℕ) (words : List (List ℕ)) → AreOperands (word ∷ words) → IsTrue (is_operand word)
 first_operand word words operands = operands 0 [] (omega arith)
 
-one_cut : (words : List (List ℕ)) (task : Task) → (is : IsOneOf words task) → IsCut words is.front (is.dictionary ∷ is.sentence ∷ [])
+one_cut : (words : List (List ℕ)) (task : Task) → (is : IsOneOf words task) → IsCut one_options words is.front (is.dictionary ∷ is.sentence ∷ [])
 one_cut words task is = record { settings = is.are.settings; split = is.split; read = is.are.read; ends = operand is.dictionary (is.sentence ∷ []) is.dictionary_is }
 
-run_cut : (words : List (List ℕ)) (task : Task) → (is : IsRunOf words task) → IsCut words is.front (is.dictionary ∷ is.knowledge ∷ is.scripts)
+run_cut : (words : List (List ℕ)) (task : Task) → (is : IsRunOf words task) → IsCut run_options words is.front (is.dictionary ∷ is.knowledge ∷ is.scripts)
 run_cut words task is = record { settings = is.are.settings; split = is.split; read = is.are.read; ends = operand is.dictionary (is.knowledge ∷ is.scripts) (first_operand is.dictionary (is.knowledge ∷ is.scripts) is.operands) }
 
-cut_once : (words front other behind rest : List (List ℕ)) → (x : IsCut words front behind) → (y : IsCut words other rest) → (x.settings ≡ y.settings) × (behind ≡ rest)
-cut_once words front other behind rest x y = same_cut front x.settings x.read behind x.ends other y.settings y.read rest y.ends (sym x.split ∙ y.split)
+cut_once : (known : List Setting) (words front other behind rest : List (List ℕ)) → (x : IsCut (named known) words front behind) → (y : IsCut (named known) words other rest) → (x.settings ≡ y.settings) × (behind ≡ rest)
+cut_once known words front other behind rest x y = same_cut known front x.settings x.read behind x.ends other y.settings y.read rest y.ends (sym x.split ∙ y.split)
 
 -- ---- words that are no task
 
 pub not_both : (b : Bool) → false ≡ b → IsTrue b → ⊥
 not_both b e h = let clash : false ≡ true = e ∙ h in cc
 
-pub no_cut_one : (words : List (List ℕ)) → ((front behind : List (List ℕ)) → IsCut words front behind → ⊥) → (task : Task) → TaskIs (codes "one" ∷ words) task → ⊥
+pub no_cut_one : (words : List (List ℕ)) → ((front behind : List (List ℕ)) → IsCut one_options words front behind → ⊥) → (task : Task) → TaskIs (codes "one" ∷ words) task → ⊥
 no_cut_one words never task h = let is = is_one (codes "one" ∷ words) task h words refl in never is.front _ (one_cut words task is)
 
-pub no_cut_run : (words : List (List ℕ)) → ((front behind : List (List ℕ)) → IsCut words front behind → ⊥) → (task : Task) → TaskIs (codes "run" ∷ words) task → ⊥
+pub no_cut_run : (words : List (List ℕ)) → ((front behind : List (List ℕ)) → IsCut run_options words front behind → ⊥) → (task : Task) → TaskIs (codes "run" ∷ words) task → ⊥
 no_cut_run words never task h = let is = is_run (codes "run" ∷ words) task h words refl in never is.front _ (run_cut words task is)
 
 -- words with these operands
-module _ (words front behind : List (List ℕ)) (cut : IsCut words front behind) where
+module _ (words front behind : List (List ℕ)) (cut : IsCut one_options words front behind) where
   pub no_one : ((dictionary sentence : List ℕ) → behind ≡ dictionary ∷ sentence ∷ [] → IsTrue (is_operand dictionary) → IsTrue (is_operand sentence) → length sentence ≤ SENTENCE → ⊥)
       → (task : Task) → TaskIs (codes "one" ∷ words) task → ⊥
   no_one nowhere task h =
       let is = is_one (codes "one" ∷ words) task h words refl in
-      nowhere is.dictionary is.sentence (cut_once words front is.front behind _ cut (one_cut words task is)).1 is.dictionary_is is.sentence_is is.short
+      nowhere is.dictionary is.sentence (cut_once one_settings words front is.front behind _ cut (one_cut words task is)).1 is.dictionary_is is.sentence_is is.short
 
+module _ (words front behind : List (List ℕ)) (cut : IsCut run_options words front behind) where
   pub no_run : ((dictionary knowledge : List ℕ) (scripts : List (List ℕ)) → behind ≡ dictionary ∷ knowledge ∷ scripts → AreOperands (dictionary ∷ knowledge ∷ scripts) → 1 ≤ length scripts → length scripts ≤ SCRIPTS → ⊥)
       → (task : Task) → TaskIs (codes "run" ∷ words) task → ⊥
   no_run nowhere task h =
       let is = is_run (codes "run" ∷ words) task h words refl in
-      nowhere is.dictionary is.knowledge is.scripts (cut_once words front is.front behind _ cut (run_cut words task is)).1 is.operands is.some is.few
+      nowhere is.dictionary is.knowledge is.scripts (cut_once all_settings words front is.front behind _ cut (run_cut words task is)).1 is.operands is.some is.few
 
 -- words that are no three numbers in form
 pub no_gen : (words : List (List ℕ)) → ((a b c : List ℕ) (seed n m : ℕ) → words ≡ a ∷ b ∷ c ∷ [] → IsSeed a seed → IsMadeCount b n → IsMadeCount c m → ⊥) → (task : Task) → TaskIs (codes "gen" ∷ words) task → ⊥
@@ -309,24 +294,30 @@ module _ {A : Type 0} (text : A → List ℕ) (words : List A) where
 
 -- ---- a command
 
+-- `run` knows the options of `one`
+known_to_run : (words : List (List ℕ)) (settings : Settings) → AreOptions one_options words settings → AreOptions run_options words settings
+known_to_run words settings none = none
+known_to_run words settings (apart name value more others is new read) = apart name value more others (more_known name value is) new (known_to_run more others read)
+known_to_run words settings (joined name value more others is new read) = joined name value more others (more_known name value is) new (known_to_run more others read)
+
 pub is_one_command : (words : List (List ℕ)) (command : Command) (dictionary sentence : List ℕ) → ((setup : Setup) → task setup command ≡ One setup dictionary sentence)
-    → IsCut words (option_words command) (dictionary ∷ sentence ∷ []) → IsTrue (is_operand dictionary) → IsTrue (is_operand sentence) → length sentence ≤ SENTENCE → IsCommand (codes "one" ∷ words) command
+    → IsCut one_options words (option_words command) (dictionary ∷ sentence ∷ []) → IsTrue (is_operand dictionary) → IsTrue (is_operand sentence) → length sentence ≤ SENTENCE → IsCommand (codes "one" ∷ words) command
 is_one_command words command dictionary sentence task_is cut d s short =
-    let g = gives_some (option_words command) cut.settings cut.read in
-    let are : OptionsAre (option_words command) g.0 = record { settings = cut.settings; read = cut.read; given = g.1 } in
+    let g = gives_some one_settings (option_words command) cut.settings cut.read in
+    let are : OptionsAre one_options (option_words command) g.0 = record { settings = cut.settings; read = cut.read; given = g.1 } in
     record {
       setup = g.0;
-      are_options = are;
+      are_options = record { settings = cut.settings; read = known_to_run (option_words command) cut.settings cut.read; given = g.1 };
       is_task = rw (task_is g.0, cut.split) (one (option_words command) g.0 dictionary sentence are d s short);
       range = g.2;
       short = rw (task_is g.0) short;
     }
 
 pub is_run_command : (words : List (List ℕ)) (command : Command) (dictionary knowledge : List ℕ) (scripts : List (List ℕ)) → ((setup : Setup) → task setup command ≡ Run setup dictionary knowledge scripts)
-    → IsCut words (option_words command) (dictionary ∷ knowledge ∷ scripts) → AreOperands (dictionary ∷ knowledge ∷ scripts) → 1 ≤ length scripts → length scripts ≤ SCRIPTS → IsCommand (codes "run" ∷ words) command
+    → IsCut run_options words (option_words command) (dictionary ∷ knowledge ∷ scripts) → AreOperands (dictionary ∷ knowledge ∷ scripts) → 1 ≤ length scripts → length scripts ≤ SCRIPTS → IsCommand (codes "run" ∷ words) command
 is_run_command words command dictionary knowledge scripts task_is cut operands some few =
-    let g = gives_some (option_words command) cut.settings cut.read in
-    let are : OptionsAre (option_words command) g.0 = record { settings = cut.settings; read = cut.read; given = g.1 } in
+    let g = gives_some all_settings (option_words command) cut.settings cut.read in
+    let are : OptionsAre run_options (option_words command) g.0 = record { settings = cut.settings; read = cut.read; given = g.1 } in
     record {
       setup = g.0;
       are_options = are;
@@ -338,7 +329,7 @@ is_run_command words command dictionary knowledge scripts task_is cut operands s
 pub is_gen_command : (words : List (List ℕ)) (command : Command) (a b c : List ℕ) (seed n m : ℕ) → ((setup : Setup) → task setup command ≡ Gen seed n m) → option_words command ≡ []
     → words ≡ a ∷ b ∷ c ∷ [] → IsSeed a seed → IsMadeCount b n → IsMadeCount c m → IsCommand (codes "gen" ∷ words) command
 is_gen_command words command a b c seed n m task_is no_options split is_seed is_n is_m =
-    let g = gives_some [] [] none in
+    let g = gives_some all_settings [] [] none in
     record {
       setup = g.0;
       are_options = rw no_options (record { settings = []; read = none; given = g.1 });
@@ -350,15 +341,15 @@ is_gen_command words command a b c seed n m task_is no_options split is_seed is_
 -- ---- a task is the only one
 
 -- digits write one number
-one_writes : (most : ℕ) (a b : List ℕ) (n m : ℕ) → a ≡ b → Writes most a n → Writes most b m → n ≡ m
+one_writes : (most : ℕ) (a b : List ℕ) (n m : ℕ) → a ≡ b → WritesNumber most a n → WritesNumber most b m → n ≡ m
 one_writes most a b n m e h k = h.value ∙ ap (written_number 0) e ∙ sym k.value
 
 same_gen : (a b c d e f : ℕ) → a ≡ d → b ≡ e → c ≡ f → Gen a b c ≡ Gen d e f
 same_gen a b c d e f g h i = rw (g, h, i) refl
 
 -- options are given in one way
-same_setup : (front other : List (List ℕ)) (x y : Setup) → (h : OptionsAre front x) → (k : OptionsAre other y) → h.settings ≡ k.settings → x ≡ y
-same_setup front other x y h k e = same_gives h.settings x y h.given (rw e k.given)
+same_setup : (known : List (List ℕ × Kind)) (front other : List (List ℕ)) (x y : Setup) → (h : OptionsAre known front x) → (k : OptionsAre known other y) → h.settings ≡ k.settings → x ≡ y
+same_setup known front other x y h k e = same_gives h.settings x y h.given (rw e k.given)
 
 same_one : (x y : Setup) (d e s t : List ℕ) → x ≡ y → d ≡ e → s ≡ t → One x d s ≡ One y e t
 same_one x y d e s t f g h = rw (f, g, h) refl
@@ -369,20 +360,20 @@ same_run x y d e k l s t f g h i = rw (f, g, h, i) refl
 pub one_task : (words : List (List ℕ)) (x y : Task) → TaskIs words x → TaskIs words y → x ≡ y
 one_task words x y (one front setup dictionary sentence are d s short) k =
     let rest = front ++ dictionary ∷ sentence ∷ [] in
-    let own : IsCut rest front (dictionary ∷ sentence ∷ []) = record { settings = are.settings; split = refl; read = are.read; ends = operand dictionary (sentence ∷ []) d } in
+    let own : IsCut one_options rest front (dictionary ∷ sentence ∷ []) = record { settings = are.settings; split = refl; read = are.read; ends = operand dictionary (sentence ∷ []) d } in
     let is = is_one words y k rest refl in
-    let that : IsCut rest is.front (is.dictionary ∷ is.sentence ∷ []) = record { settings = is.are.settings; split = is.split; read = is.are.read; ends = operand is.dictionary (is.sentence ∷ []) is.dictionary_is } in
-    let cut = cut_once rest front is.front _ _ own that in
+    let that : IsCut one_options rest is.front (is.dictionary ∷ is.sentence ∷ []) = record { settings = is.are.settings; split = is.split; read = is.are.read; ends = operand is.dictionary (is.sentence ∷ []) is.dictionary_is } in
+    let cut = cut_once one_settings rest front is.front _ _ own that in
     let words_same = first_two _ _ _ _ cut.1 in
-    same_one setup is.setup dictionary is.dictionary sentence is.sentence (same_setup front is.front setup is.setup are is.are cut.0) words_same.0 words_same.1 ∙ sym is.same
+    same_one setup is.setup dictionary is.dictionary sentence is.sentence (same_setup _ front is.front setup is.setup are is.are cut.0) words_same.0 words_same.1 ∙ sym is.same
 one_task words x y (run front setup dictionary knowledge scripts are operands some few) k =
     let rest = front ++ dictionary ∷ knowledge ∷ scripts in
-    let own : IsCut rest front (dictionary ∷ knowledge ∷ scripts) = record { settings = are.settings; split = refl; read = are.read; ends = operand dictionary (knowledge ∷ scripts) (first_operand dictionary (knowledge ∷ scripts) operands) } in
+    let own : IsCut run_options rest front (dictionary ∷ knowledge ∷ scripts) = record { settings = are.settings; split = refl; read = are.read; ends = operand dictionary (knowledge ∷ scripts) (first_operand dictionary (knowledge ∷ scripts) operands) } in
     let is = is_run words y k rest refl in
-    let that : IsCut rest is.front (is.dictionary ∷ is.knowledge ∷ is.scripts) = record { settings = is.are.settings; split = is.split; read = is.are.read; ends = operand is.dictionary (is.knowledge ∷ is.scripts) (first_operand is.dictionary (is.knowledge ∷ is.scripts) is.operands) } in
-    let cut = cut_once rest front is.front _ _ own that in
+    let that : IsCut run_options rest is.front (is.dictionary ∷ is.knowledge ∷ is.scripts) = record { settings = is.are.settings; split = is.split; read = is.are.read; ends = operand is.dictionary (is.knowledge ∷ is.scripts) (first_operand is.dictionary (is.knowledge ∷ is.scripts) is.operands) } in
+    let cut = cut_once all_settings rest front is.front _ _ own that in
     let words_same = first_and_rest _ _ _ _ _ _ cut.1 in
-    same_run setup is.setup dictionary is.dictionary knowledge is.knowledge scripts is.scripts (same_setup front is.front setup is.setup are is.are cut.0) words_same.0 words_same.1 words_same.2 ∙ sym is.same
+    same_run setup is.setup dictionary is.dictionary knowledge is.knowledge scripts is.scripts (same_setup _ front is.front setup is.setup are is.are cut.0) words_same.0 words_same.1 words_same.2 ∙ sym is.same
 one_task words x y (gen a b c seed n m is_seed is_n is_m) k =
     let is = is_gen words y k (a ∷ b ∷ c ∷ []) refl in
     let same = first_three _ _ _ _ _ _ is.split in

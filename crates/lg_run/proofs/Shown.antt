@@ -28,7 +28,7 @@ of_sessions look session (commands ∷ scripts) (rs ∷ replies) =
     ∙ (λ i. of_session look session 1 commands rs i ++ of_sessions look (session + 1) scripts replies i)
     ∙ sym (flat_map-append (answer_text look) (placed session 1 commands rs) (all_placed (session + 1) scripts replies))
 
-document_is : (look : Look) (scripts : List (List CommandView)) (replies : List (List Reply)) (journal : List Place) → outcome_text look scripts replies journal ≡ document_text look (all_placed 1 scripts replies) journal
+document_is : (look : Look) (scripts : List (List CommandView)) (replies : List (List Reply)) (journal : List Place) → outcome_text look scripts replies journal [] ≡ document_text look (all_placed 1 scripts replies) journal
 document_is look scripts replies journal = ap (λ (l : List ℕ). l ++ journal_text journal) (of_sessions look 1 scripts replies)
 
 pub outcomes_are_shown : DocumentsShow → OutcomesAreShown

@@ -1,6 +1,6 @@
 -- A command as a task.
 use Rattle.std.specs.Prelude.{ℕ, List, [], map, string_bytes}
-use Rattle.lg_run.specs.Words.{Task, One, Run, Gen, TaskIs, OptionsAre, IsShort, AreInRange}
+use Rattle.lg_run.specs.Words.{Task, One, Run, Gen, TaskIs, run_options, OptionsAre, IsShort, AreInRange}
 use Rattle.lg_run.specs.declared.setup.Setup.{Setup}
 use Rattle.lg_run.specs.declared.command.Command.{Command}
 use Rattle.lg_run.specs.declared.command.Command.TheVariants as command
@@ -17,10 +17,10 @@ task setup (command.One options dictionary sentence) = One setup dictionary.now 
 task setup (command.Run options dictionary knowledge scripts) = Run setup dictionary.now knowledge.now (map string_bytes scripts.now)
 task setup (command.Gen seed words sentences) = Gen seed words sentences
 
--- the command that the words are
+-- the command that the words are; each command knows no other options than `run`
 pub record IsCommand (words : List (List ℕ)) (c : Command) : Type 0 where
   pub setup : Setup
-  pub are_options : OptionsAre (option_words c) setup
+  pub are_options : OptionsAre run_options (option_words c) setup
   pub is_task : TaskIs words (task setup c)
   pub range : AreInRange setup
   pub short : IsShort (task setup c)

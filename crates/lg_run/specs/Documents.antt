@@ -1,12 +1,19 @@
 -- What is written for one sentence, and for a session.
-use Rattle.std.specs.Prelude.{◌≡◌, ℕ, ◌+◌, true, List, [], ◌∷◌, ◌++◌, All, Option, Some, None}
+use Rattle.std.specs.Prelude.{◌≡◌, ℕ, ◌+◌, Bool, true, false, List, [], ◌∷◌, ◌++◌, All, Option, Some, None, is_none, codes, length, if◌then◌else◌}
+use Rattle.std.specs.Fmt.{decimal}
+use Rattle.std.specs.List.{flat_map, enumerate_from}
+use Rattle.lg_gram.specs.Linkages.{Linkage}
 use Rattle.lg_gram.specs.declared.disjunct.Disjunct.{Disjunct}
 use Rattle.lg_gram.specs.declared.listing.Bound.{Bound}
 use Rattle.lg_gram.specs.declared.listing.Page.{Page}
+use Rattle.lg_gram.specs.declared.listing.PageItem.{PageItem}
 use Rattle.lg_gram.specs.declared.listing.Stats.{Stats}
 use Rattle.lg_gram.specs.declared.listing.Token.{Token}
+use Rattle.lg_gram.specs.declared.reply.CommandKind.{CommandKind}
+use Rattle.lg_gram.specs.declared.reply.CommandKind.TheVariants as kinds
 use Rattle.lg_gram.specs.declared.reply.Place.{Place}
 use Rattle.lg_gram.specs.declared.reply.Reply.{Reply}
+use Rattle.lg_gram.specs.declared.reply.Reply.TheVariants.{Listed}
 use Rattle.lg_dict.specs.Dictionary.{Dictionary}
 use Rattle.lg_knowread.specs.declared.knowledge.Knowledge.{Knowledge}
 use Rattle.lg_token.specs.Bounds.{IsBeyond}
@@ -18,9 +25,10 @@ use Rattle.lg_script.specs.Kinds.{kind_of}
 use Rattle.lg_session.specs.Engines.{Meaning, Progress}
 use Rattle.lg_session.specs.Legal.{IsLegal, AnswersAll}
 use Rattle.lg_text.specs.Pages.{listing_text}
-use Rattle.lg_text.specs.Replies.{reply_text, journal_text}
-use Rattle.lg_text.specs.Texts.{bound_line}
+use Rattle.lg_text.specs.Replies.{reply_text, edit_line}
+use Rattle.lg_text.specs.Texts.{bound_line, line_of}
 use Rattle.lg_text.specs.declared.look.Look.{Look}
+use Rattle.lg_usage.specs.Totals.{Totals, AreTotals, usage_text}
 use Rattle.lg_run.specs.Lines.{joined}
 use Rattle.lg_run.specs.declared.setup.Setup.{Setup}
 
@@ -80,15 +88,57 @@ session_texts look session (commands ∷ scripts) (rs ∷ replies) = reply_texts
 session_texts look session scripts [] = []
 session_texts look session [] replies = []
 
--- and then the journal
-abbrev pub outcome_text : Look → List (List CommandView) → List (List Reply) → List Place → List ℕ
-outcome_text look scripts replies journal = joined (session_texts look 1 scripts replies) ++ journal_text journal
+-- the journal, with these lines before its last one
+abbrev pub journal_with : List ℕ → List Place → List ℕ
+journal_with lines journal =
+    line_of (codes "journal" ∷ decimal (length journal) ∷ []) ++ (flat_map edit_line (enumerate_from 1 journal) ++ (lines ++ line_of (codes "done" ∷ [])))
 
--- The document of a run: the text of a journal and of answers to all commands that are legal. Its lines show the journal and the
--- version of each answer.
+-- and then the journal, with the lines of usage
+abbrev pub outcome_text : Look → List (List CommandView) → List (List Reply) → List Place → List ℕ → List ℕ
+outcome_text look scripts replies journal lines = joined (session_texts look 1 scripts replies) ++ journal_with lines journal
+
+-- ---- usage
+
+-- the linkage of the first candidate that passes, if there is one
+abbrev pub first_passing : List PageItem → List Linkage
+first_passing [] = []
+first_passing (item ∷ items) = if is_none item.broken then item.linkage ∷ [] else first_passing items
+
+-- the candidates that a page shows, where the answer is a page
+abbrev pub items_of : Reply → List PageItem
+items_of (Listed version tokens page stats) = page.items
+items_of _ = []
+
+-- the first linkage of an answer to `parse` or `list`; pages of `more` do not count
+abbrev pub first_linkage : CommandKind → Reply → List Linkage
+first_linkage kinds.Parse r = first_passing (items_of r)
+first_linkage kinds.List r = first_passing (items_of r)
+first_linkage _ r = []
+
+-- the first linkages of a session's answers
+abbrev pub first_linkages : List CommandView → List Reply → List Linkage
+first_linkages (command ∷ commands) (r ∷ rs) = first_linkage (kind_of command) r ++ first_linkages commands rs
+first_linkages commands [] = []
+first_linkages [] rs = []
+
+-- and those of all sessions
+abbrev pub all_first_linkages : List (List CommandView) → List (List Reply) → List Linkage
+all_first_linkages (commands ∷ scripts) (rs ∷ replies) = first_linkages commands rs ++ all_first_linkages scripts replies
+all_first_linkages scripts [] = []
+all_first_linkages [] replies = []
+
+-- the lines of the totals of these linkages, if they are asked for
+abbrev pub AreUsageLines : Bool → List Linkage → List ℕ → Type 0
+AreUsageLines false gs lines = lines ≡ []
+AreUsageLines true gs lines = (totals : Totals) × AreTotals gs totals × (lines ≡ usage_text totals)
+
+-- The document of a run: the text of a journal and of answers to all commands that are legal, with the totals of the first linkages of
+-- those answers if they are asked for. Its lines show the journal and the version of each answer.
 pub record IsOutcome (setup : Setup) (dict : Dictionary) (know : Knowledge) (scripts : List (List CommandView)) (document : List ℕ) : Type 0 where
   pub journal : List Place
   pub replies : List (List Reply)
+  pub lines : List ℕ
   pub legal : IsLegal (record { meaning = listings know setup.listing; scripts = scripts; base = dict; journal = journal }) replies
   pub whole : AnswersAll scripts replies
-  pub is : document ≡ outcome_text setup.look scripts replies journal
+  pub counted : AreUsageLines setup.usage (all_first_linkages scripts replies) lines
+  pub is : document ≡ outcome_text setup.look scripts replies journal lines

@@ -15,3 +15,4 @@ pub mod Shown
 pub mod Answers
 pub mod Listers
 pub mod Written
+pub mod Counted

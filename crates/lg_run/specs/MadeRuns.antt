@@ -5,7 +5,6 @@ use Rattle.std.specs.Fmt.{decimal}
 use Rattle.lg_gram.specs.Linkages.{Linkage, unlinked, total_length}
 use Rattle.lg_gram.specs.declared.listing.PageItem.{PageItem}
 use Rattle.lg_gram.specs.declared.reply.Reply.{Reply}
-use Rattle.lg_gram.specs.declared.reply.Reply.TheVariants.{Listed}
 use Rattle.lg_answer.specs.Pages.{default_options}
 use Rattle.lg_dictread.specs.Texts.{Meaning, DictionaryGives, stands}
 use Rattle.lg_gen.specs.Made.{made_dictionary, made_script}
@@ -14,13 +13,8 @@ use Rattle.lg_script.specs.Scripts.{ScriptIs}
 use Rattle.lg_session.specs.Legal.{IsLegal, AnswersAll}
 use Rattle.lg_text.specs.Pages.{shown}
 use Rattle.lg_text.specs.Texts.{line_of}
-use Rattle.lg_run.specs.Documents.{listings, no_knowledge}
+use Rattle.lg_run.specs.Documents.{listings, no_knowledge, items_of}
 use Rattle.lg_run.specs.Inputs.{dictionary_from}
-
--- the candidates that a page shows, where the answer is a page
-abbrev pub items_of : Reply → List PageItem
-items_of (Listed version tokens page stats) = page.items
-items_of _ = []
 
 -- what a measure gives for the first linkage that passes, or 0 where none does
 abbrev pub first_of : (Linkage → ℕ) → List PageItem → ℕ

@@ -1,10 +1,11 @@
 -- What calls that read the form of options promise.
-use Rattle.std.specs.Prelude.{◌≡◌, ◌≢◌, ℕ, Bool, true, false, List, [], ◌∷◌, ◌++◌, codes, None}
-use Rattle.std.specs.List.{AllByRecursion}
-use Rattle.lg_run.specs.Words.{IsKnown, AreOptions, value_of, is_operand}
+use Rattle.std.specs.Prelude.{◌≡◌, ◌≢◌, ℕ, Bool, true, List, [], ◌∷◌, ◌++◌, Contains, bytes_eq, codes, map, nat_eq, None, if◌then◌else◌}
+use Rattle.std.specs.List.{AllByRecursion, list_any}
+use Rattle.lg_run.specs.Words.{HasForm, Known, AreOptions, value_of, is_operand}
+use Rattle.lg_run.specs.declared.options.Kind.{Kind}
+use Rattle.lg_run.specs.declared.options.Kind.TheVariants as kinds
 use Rattle.lg_run.specs.declared.options.Setting.{Setting}
-use Rattle.lg_run.specs.declared.options.Setting.TheVariants.{Want, Examine, Nulls, Prune, Stats, Diagram, Workers}
-use Rattle.lg_run.specs.declared.options.Given.{Given}
+use Rattle.lg_run.specs.declared.options.Setting.TheVariants.{Want, Examine, Nulls, Prune, Stats, Diagram, Workers, Usage}
 
 -- the name of an option
 abbrev pub name_of : Setting → List ℕ
@@ -15,6 +16,22 @@ name_of Prune = codes "prune"
 name_of Stats = codes "stats"
 name_of Diagram = codes "diagram"
 name_of Workers = codes "workers"
+name_of Usage = codes "usage"
+
+-- how its value is written
+abbrev pub value_kind : Setting → Kind
+value_kind Want = kinds.Number
+value_kind Examine = kinds.Number
+value_kind Nulls = kinds.Nulls
+value_kind Prune = kinds.Switch
+value_kind Stats = kinds.Switch
+value_kind Diagram = kinds.Switch
+value_kind Workers = kinds.Workers
+value_kind Usage = kinds.Switch
+
+-- options by their names
+abbrev pub named : List Setting → Known
+named settings = map (λ (s : Setting). (name_of s, value_kind s)) settings
 
 -- the word that begins an option
 abbrev pub option_word : Setting → List ℕ
@@ -29,45 +46,36 @@ pub data Begins (word value : List ℕ) (behind : List (List ℕ)) : List (List 
   apart : IsPlain word → Begins word value behind (word ∷ value ∷ behind)
   joined : IsPlain word → Begins word value behind ((word ++ 61 ∷ value) ∷ behind)
 
--- words that begin with an option
-pub record BeginsWith (words : List (List ℕ)) (setting : Setting) (value : List ℕ) (behind : List (List ℕ)) : Type 0 where
-  pub known : IsKnown (name_of setting) value
+-- words that begin with an option that is known
+pub record BeginsWith (known : List Setting) (words : List (List ℕ)) (setting : Setting) (value : List ℕ) (behind : List (List ℕ)) : Type 0 where
+  pub there : Contains known setting
+  pub form : HasForm (value_kind setting) value
   pub begins : Begins (option_word setting) value behind words
 
--- it is set already
-abbrev pub is_set : Setting → Given → Bool
-is_set Want given = given.want
-is_set Examine given = given.examine
-is_set Nulls given = given.nulls
-is_set Prune given = given.prune
-is_set Stats given = given.stats
-is_set Diagram given = given.diagram
-is_set Workers given = given.workers
+-- what stands in a word before its first equals sign, or all of it
+abbrev pub front_of : List ℕ → List ℕ
+front_of [] = []
+front_of (b ∷ bs) = if nat_eq b 61 then [] else b ∷ front_of bs
 
-abbrev pub with_setting : Setting → Given → Given
-with_setting Want given = record given { want = true }
-with_setting Examine given = record given { examine = true }
-with_setting Nulls given = record given { nulls = true }
-with_setting Prune given = record given { prune = true }
-with_setting Stats given = record given { stats = true }
-with_setting Diagram given = record given { diagram = true }
-with_setting Workers given = record given { workers = true }
+-- one of the words begins the option that begins with this word
+abbrev pub is_given : List ℕ → List (List ℕ) → Bool
+is_given word done = list_any (λ (other : List ℕ). bytes_eq (front_of other) word) done
 
 -- no option begins here, nor any other word with a dash
 pub data Ends : List (List ℕ) → Type 0 where
   nothing : Ends []
   operand : (word : List ℕ) (words : List (List ℕ)) → is_operand word ≡ true → Ends (word ∷ words)
 
--- words that are options, which give what is not set yet, and behind them no option
-pub record Cuts (given : Given) (words front : List (List ℕ)) (settings : List (List ℕ × List ℕ)) (behind : List (List ℕ)) : Type 0 where
+-- words that are options, which give what the words before them do not, and behind them no option
+pub record Cuts (known : List Setting) (done words front : List (List ℕ)) (settings : List (List ℕ × List ℕ)) (behind : List (List ℕ)) : Type 0 where
   pub split : words ≡ front ++ behind
-  pub read : AreOptions front settings
+  pub read : AreOptions (named known) front settings
   pub ends : Ends behind
-  pub new : (setting : Setting) → is_set setting given ≡ true → value_of (name_of setting) settings ≡ None
+  pub new : (setting : Setting) → is_given (option_word setting) done ≡ true → value_of (name_of setting) settings ≡ None
 
 -- words cut into options and what stands behind them
-pub record IsCut (words front behind : List (List ℕ)) : Type 0 where
+pub record IsCut (known : Known) (words front behind : List (List ℕ)) : Type 0 where
   pub settings : List (List ℕ × List ℕ)
   pub split : words ≡ front ++ behind
-  pub read : AreOptions front settings
+  pub read : AreOptions known front settings
   pub ends : Ends behind

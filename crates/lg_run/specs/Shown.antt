@@ -1,5 +1,5 @@
 -- What the document of a run shows: the journal, and of each answer its place, its kind and its version.
-use Rattle.std.specs.Prelude.{◌≡◌, ℕ, ◌+◌, ◌<◌, ◌≤◌, ◌^◌, List, [], ◌∷◌, ◌++◌, length, map}
+use Rattle.std.specs.Prelude.{◌≡◌, false, ℕ, ◌+◌, ◌<◌, ◌≤◌, ◌^◌, List, [], ◌∷◌, ◌++◌, length, map}
 use Rattle.std.specs.List.{AllByRecursion}
 use Rattle.lg_gram.specs.declared.reply.Place.{Place}
 use Rattle.lg_gram.specs.declared.reply.Reply.{Reply}
@@ -33,7 +33,7 @@ pub record ArePlain (scripts : List (List CommandView)) (replies : List (List Re
 abbrev pub OutcomesAreShown : Type 0
 OutcomesAreShown =
     (look look' : Look) (scripts others : List (List CommandView)) (replies answers : List (List Reply)) (journal edits : List Place) → ArePlain scripts replies journal → ArePlain others answers edits
-    → outcome_text look scripts replies journal ≡ outcome_text look' others answers edits
+    → outcome_text look scripts replies journal [] ≡ outcome_text look' others answers edits []
     → (map shown_of (all_placed 1 scripts replies) ≡ map shown_of (all_placed 1 others answers)) × (journal ≡ edits)
 
 -- fewer than 2^32 scripts, with fewer than 2^32 commands each
@@ -45,10 +45,11 @@ pub record HasShortScripts (scripts : List (List CommandView)) : Type 0 where
 abbrev pub HasPlainTexts : List (List Reply) → Type 0
 HasPlainTexts replies = AllByRecursion (λ rs. AllByRecursion IsPlainReply rs) replies
 
--- A document that is that of two runs shows of both the same journal and, of each answer in order, the same place, kind and version.
+-- A document that is that of two runs, without totals of usage, shows of both the same journal and, of each answer in order, the same
+-- place, kind and version.
 abbrev pub RunsAreShown : Type 0
 RunsAreShown =
     (setup setup' : Setup) (dict dict' : Dictionary) (know know' : Knowledge) (scripts scripts' : List (List CommandView)) (document : List ℕ)
     (one : IsOutcome setup dict know scripts document) (other : IsOutcome setup' dict' know' scripts' document)
-    → HasShortScripts scripts → HasShortScripts scripts' → HasPlainTexts one.replies → HasPlainTexts other.replies
+    → setup.usage ≡ false → setup'.usage ≡ false → HasShortScripts scripts → HasShortScripts scripts' → HasPlainTexts one.replies → HasPlainTexts other.replies
     → (map shown_of (all_placed 1 scripts one.replies) ≡ map shown_of (all_placed 1 scripts' other.replies)) × (one.journal ≡ other.journal)

@@ -13,7 +13,8 @@ use Rattle.lg_script.specs.Commands.{CommandView}
 use Rattle.lg_script.specs.Scripts.{ScriptIs}
 use Rattle.lg_text.specs.Pages.{shown}
 use Rattle.lg_run.specs.Inputs.{dictionary_from}
-use Rattle.lg_run.specs.MadeRuns.{items_of, first_of, number_line}
+use Rattle.lg_run.specs.Documents.{items_of}
+use Rattle.lg_run.specs.MadeRuns.{first_of, number_line}
 use Rattle.lg_run.specs.declared.made.Sums.{Sums}
 
 -- what is made of a seed: the dictionary and the script, as the readers take them

@@ -1,5 +1,5 @@
 -- The form of the words of the command line: `one` or `run`, then options, then operands; or `gen` and three numbers.
-use Rattle.std.specs.Prelude.{◌≡◌, ◌≢◌, ℕ, ◌<◌, ◌≤◌, ◌^◌, Bool, true, false, not, IsTrue, List, [], ◌∷◌, ◌++◌, codes, nat_eq, bytes_eq, length, All, Option, None, Some, if◌then◌else◌}
+use Rattle.std.specs.Prelude.{◌≡◌, ◌≢◌, ℕ, ◌<◌, ◌≤◌, ◌^◌, Bool, true, false, not, IsTrue, List, [], ◌∷◌, ◌++◌, codes, nat_eq, bytes_eq, length, All, Contains, Option, None, Some, if◌then◌else◌}
 use Rattle.lg_answer.specs.Pages.{default_options}
 use Rattle.lg_answer.specs.declared.options.Nulls.{Nulls}
 use Rattle.lg_answer.specs.declared.options.Options.{Options}
@@ -10,6 +10,8 @@ use Rattle.lg_gen.specs.Accepted.{IsMade}
 use Rattle.lg_script.specs.Bounds.{IsCount}
 use Rattle.lg_script.specs.Commands.{IsNumber, IsDigit, written_number}
 use Rattle.lg_text.specs.declared.look.Look.{Look}
+use Rattle.lg_run.specs.declared.options.Kind.{Kind}
+use Rattle.lg_run.specs.declared.options.Kind.TheVariants as kinds
 use Rattle.lg_run.specs.declared.setup.Setup.{Setup}
 
 -- what the words ask for
@@ -38,29 +40,45 @@ pub record WritesWorkers (value : List ℕ) (n : ℕ) : Type 0 where
   pub number : IsNumber value n
   pub few : AreWorkers n
 
--- the options that are known, each with the form of its value
-pub data IsKnown : (name value : List ℕ) → Type 0 where
-  want : (value : List ℕ) (n : ℕ) → IsNumber value n → IsKnown (codes "want") value
-  examine : (value : List ℕ) (n : ℕ) → IsNumber value n → IsKnown (codes "examine") value
-  nulls : (value : List ℕ) (n : Nulls) → WritesNulls value n → IsKnown (codes "nulls") value
-  prune : (value : List ℕ) (b : Bool) → WritesSwitch value b → IsKnown (codes "prune") value
-  stats : (value : List ℕ) (b : Bool) → WritesSwitch value b → IsKnown (codes "stats") value
-  diagram : (value : List ℕ) (b : Bool) → WritesSwitch value b → IsKnown (codes "diagram") value
-  workers : (value : List ℕ) (n : ℕ) → WritesWorkers value n → IsKnown (codes "workers") value
+-- a value of each kind
+abbrev pub HasForm : Kind → List ℕ → Type 0
+HasForm kinds.Number value = (n : ℕ) × IsNumber value n
+HasForm kinds.Nulls value = (n : Nulls) × WritesNulls value n
+HasForm kinds.Switch value = (b : Bool) × WritesSwitch value b
+HasForm kinds.Workers value = (n : ℕ) × WritesWorkers value n
+
+-- names of options, each with the kind of its value
+abbrev pub Known : Type 0
+Known = List (List ℕ × Kind)
+
+-- the options of `one`, and those of `run`, which has one more
+abbrev pub one_options : Known
+one_options =
+    (codes "want", kinds.Number) ∷ (codes "examine", kinds.Number) ∷ (codes "nulls", kinds.Nulls) ∷ (codes "prune", kinds.Switch)
+    ∷ (codes "stats", kinds.Switch) ∷ (codes "diagram", kinds.Switch) ∷ (codes "workers", kinds.Workers) ∷ []
+
+abbrev pub run_options : Known
+run_options = one_options ++ (codes "usage", kinds.Switch) ∷ []
+
+-- an option that is known, with a value of its kind
+pub record IsKnown (known : Known) (name value : List ℕ) : Type 0 where
+  pub kind : Kind
+  pub listed : Contains known (name, kind)
+  pub form : HasForm kind value
 
 -- the value that options give to a name
 abbrev pub value_of : List ℕ → List (List ℕ × List ℕ) → Option (List ℕ)
 value_of name [] = None
 value_of name (setting ∷ settings) = if bytes_eq setting.0 name then Some setting.1 else value_of name settings
 
--- options one after another, each in two words or in one, `--NAME VALUE` or `--NAME=VALUE`, with their names and values; no
+-- known options one after another, each in two words or in one, `--NAME VALUE` or `--NAME=VALUE`, with their names and values; no
 -- name is given twice
-pub data AreOptions : List (List ℕ) → List (List ℕ × List ℕ) → Type 0 where
-  none : AreOptions [] []
-  apart : (name value : List ℕ) (words : List (List ℕ)) (settings : List (List ℕ × List ℕ)) → IsKnown name value → value_of name settings ≡ None
-      → AreOptions words settings → AreOptions ((codes "--" ++ name) ∷ value ∷ words) ((name, value) ∷ settings)
-  joined : (name value : List ℕ) (words : List (List ℕ)) (settings : List (List ℕ × List ℕ)) → IsKnown name value → value_of name settings ≡ None
-      → AreOptions words settings → AreOptions ((codes "--" ++ (name ++ (codes "=" ++ value))) ∷ words) ((name, value) ∷ settings)
+pub data AreOptions (known : Known) : List (List ℕ) → List (List ℕ × List ℕ) → Type 0 where
+  none : AreOptions known [] []
+  apart : (name value : List ℕ) (words : List (List ℕ)) (settings : List (List ℕ × List ℕ)) → IsKnown known name value → value_of name settings ≡ None
+      → AreOptions known words settings → AreOptions known ((codes "--" ++ name) ∷ value ∷ words) ((name, value) ∷ settings)
+  joined : (name value : List ℕ) (words : List (List ℕ)) (settings : List (List ℕ × List ℕ)) → IsKnown known name value → value_of name settings ≡ None
+      → AreOptions known words settings → AreOptions known ((codes "--" ++ (name ++ (codes "=" ++ value))) ∷ words) ((name, value) ∷ settings)
 
 -- a number that an option gives, or the usual one
 abbrev pub GivesNumber : Option (List ℕ) → ℕ → ℕ → Type 0
@@ -87,7 +105,7 @@ abbrev pub default_look : Look
 default_look = record { diagram = false; stats = false }
 
 abbrev pub default_setup : Setup
-default_setup = record { listing = default_options; look = default_look }
+default_setup = record { listing = default_options; look = default_look; usage = false }
 
 -- what options come to; disjuncts are counted where their numbers are printed
 pub record Gives (settings : List (List ℕ × List ℕ)) (setup : Setup) : Type 0 where
@@ -98,12 +116,13 @@ pub record Gives (settings : List (List ℕ × List ℕ)) (setup : Setup) : Type
   pub stats : GivesSwitch (value_of (codes "stats") settings) default_look.stats setup.look.stats
   pub diagram : GivesSwitch (value_of (codes "diagram") settings) default_look.diagram setup.look.diagram
   pub workers : GivesWorkers (value_of (codes "workers") settings) default_options.workers setup.listing.workers
+  pub usage : GivesSwitch (value_of (codes "usage") settings) false setup.usage
   pub count : setup.listing.count ≡ setup.look.stats
 
--- the options of a command
-pub record OptionsAre (words : List (List ℕ)) (setup : Setup) : Type 0 where
+-- the options of a command that knows these
+pub record OptionsAre (known : Known) (words : List (List ℕ)) (setup : Setup) : Type 0 where
   pub settings : List (List ℕ × List ℕ)
-  pub read : AreOptions words settings
+  pub read : AreOptions known words settings
   pub given : Gives settings setup
 
 -- ---- operands
@@ -126,7 +145,7 @@ SCRIPTS = 64
 -- ---- numbers of made input
 
 -- at most so many digits, and at least one, that write a number
-pub record Writes (most : ℕ) (digits : List ℕ) (n : ℕ) : Type 0 where
+pub record WritesNumber (most : ℕ) (digits : List ℕ) (n : ℕ) : Type 0 where
   pub some : digits ≢ []
   pub few : length digits ≤ most
   pub all_digits : AllByRecursion IsDigit digits
@@ -134,22 +153,22 @@ pub record Writes (most : ℕ) (digits : List ℕ) (n : ℕ) : Type 0 where
 
 -- a seed: up to ten digits that write a number below 2^32
 pub record IsSeed (digits : List ℕ) (n : ℕ) : Type 0 where
-  pub writes : Writes 10 digits n
+  pub writes : WritesNumber 10 digits n
   pub small : n < 2 ^ 32
 
 -- how many words or sentences are made: up to six digits that write a number from 1 to 100,000
 pub record IsMadeCount (digits : List ℕ) (n : ℕ) : Type 0 where
-  pub writes : Writes 6 digits n
+  pub writes : WritesNumber 6 digits n
   pub made : IsMade n
 
 -- ---- commands
 
 -- `one OPTIONS DICT SENTENCE`, `run OPTIONS DICT KNOWLEDGE SCRIPT..` with 1 to 64 scripts, and `gen SEED WORDS SENTENCES`
 pub data TaskIs : List (List ℕ) → Task → Type 0 where
-  one : (front : List (List ℕ)) (setup : Setup) (dictionary sentence : List ℕ) → OptionsAre front setup
+  one : (front : List (List ℕ)) (setup : Setup) (dictionary sentence : List ℕ) → OptionsAre one_options front setup
       → IsTrue (is_operand dictionary) → IsTrue (is_operand sentence) → length sentence ≤ SENTENCE
       → TaskIs (codes "one" ∷ (front ++ dictionary ∷ sentence ∷ [])) (One setup dictionary sentence)
-  run : (front : List (List ℕ)) (setup : Setup) (dictionary knowledge : List ℕ) (scripts : List (List ℕ)) → OptionsAre front setup
+  run : (front : List (List ℕ)) (setup : Setup) (dictionary knowledge : List ℕ) (scripts : List (List ℕ)) → OptionsAre run_options front setup
       → All (λ word. IsTrue (is_operand word)) (dictionary ∷ knowledge ∷ scripts) → 1 ≤ length scripts → length scripts ≤ SCRIPTS
       → TaskIs (codes "run" ∷ (front ++ dictionary ∷ knowledge ∷ scripts)) (Run setup dictionary knowledge scripts)
   gen : (a b c : List ℕ) (seed words sentences : ℕ) → IsSeed a seed → IsMadeCount b words → IsMadeCount c sentences

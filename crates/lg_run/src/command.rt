@@ -5,7 +5,7 @@ ghost use Rattle.lg_run.specs.Words.{Task, TaskIs, is_operand};
 ghost use Rattle.lg_run.specs.Commands.{option_words, IsCommand};
 
 use crate::number::{made_count_of, seed_of};
-use crate::options::{cut_options, is_operand};
+use crate::options::{ONE, RUN, cut_options, is_operand};
 use lg_dictread::FILE;
 
 /// What the words ask for, with the words that are its options.
@@ -55,8 +55,8 @@ const SCRIPTS: usize = 64;
 /// The first word is `one`, `run` or `gen`. Behind the first two stand options, each at most once and in any order, in two words or
 /// joined by `=`: `--want N` and `--examine N`, where N is one to seven digits that write a number from 1 to 1,000,000,
 /// `--nulls first` or `--nulls passing`, `--prune`, `--stats` and `--diagram`, each with `on` or `off`, and `--workers N`, where N is
-/// such a number from 1 to 16. Where an option is left out, want is 10, examine is 1000, nulls is first, prune is on, stats and diagram
-/// are off, and workers is 1. Operands are last, and none of them begins with `-`: `one` has two, DICT and SENTENCE, of which the
+/// such a number from 1 to 16; and behind `run` alone `--usage` with `on` or `off`. Where an option is left out, want is 10, examine is
+/// 1000, nulls is first, prune is on, stats, diagram and usage are off, and workers is 1. Operands are last, and none of them begins with `-`: `one` has two, DICT and SENTENCE, of which the
 /// second has at most 67,108,864 bytes, and `run` has DICT, KNOWLEDGE and 1 to 64 scripts. Behind `gen` stand three words of digits
 /// alone: a seed of up to ten digits that write a number below 2^32, and the numbers of words and of sentences, each of up to six
 /// digits that write a number from 1 to 100,000.
@@ -79,7 +79,7 @@ fn one_of(words: &[String]) -> Option<Command<'_>>
         ((t : Task) → TaskIs (codes "one" ∷ map string_bytes words.now) t → ⊥)
         (IsCommand (codes "one" ∷ map string_bytes words.now)) }
 {
-    let cut = cut_options(words)?;
+    let cut = cut_options(&ONE, words)?;
     let (dictionary, sentence) = two_of(cut.behind)?;
     if !is_operand(dictionary) || !is_operand(sentence) || sentence.len() > SENTENCE {
         return None;
@@ -96,7 +96,7 @@ fn run_of(words: &[String]) -> Option<Command<'_>>
         ((t : Task) → TaskIs (codes "run" ∷ map string_bytes words.now) t → ⊥)
         (IsCommand (codes "run" ∷ map string_bytes words.now)) }
 {
-    let cut = cut_options(words)?;
+    let cut = cut_options(&RUN, words)?;
     let (dictionary, knowledge, scripts) = two_and_more(cut.behind)?;
     if scripts.is_empty() || scripts.len() > SCRIPTS || !are_operands(cut.behind) {
         return None;

@@ -26,8 +26,8 @@ pub fn words_have_one_task()
 {}
 
 /// The document of a run determines the journal and, of each answer in order, its place, its kind and its version, where no text
-/// of an answer has a line feed: `outcomes` for any answers whose numbers are of their types, `runs` for two runs of scripts that
-/// write the same document. The function does nothing: a caller whose proof needs the fact calls it.
+/// of an answer has a line feed: `outcomes` for any answers whose numbers are of their types, `runs` for two runs of scripts,
+/// without totals of usage, that write the same document. The function does nothing: a caller whose proof needs the fact calls it.
 pub fn documents_show()
     ensures outcomes { OutcomesAreShown }
     ensures runs { RunsAreShown }

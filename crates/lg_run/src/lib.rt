@@ -18,6 +18,7 @@ mod setup;
 mod status;
 mod stop;
 mod top;
+mod usage;
 
 pub use law::{documents_show, inputs_have_one_verdict, words_have_one_task};
 pub use status::Status;

@@ -12,9 +12,9 @@ ghost use Rattle.lg_session.specs.Legal.{IsLegal, AnswersAll, run_of};
 ghost use Rattle.lg_text.specs.Texts.{line_of};
 ghost use Rattle.lg_answer.specs.Pages.{default_options};
 ghost use Rattle.lg_run.specs.Answers.{Documents};
-ghost use Rattle.lg_run.specs.Documents.{listings, no_knowledge};
+ghost use Rattle.lg_run.specs.Documents.{listings, no_knowledge, items_of};
 ghost use Rattle.lg_run.specs.Inputs.{GenGiven, dictionary_from};
-ghost use Rattle.lg_run.specs.MadeRuns.{items_of, first_of, sums_text, IsMadeDocument};
+ghost use Rattle.lg_run.specs.MadeRuns.{first_of, sums_text, IsMadeDocument};
 ghost use Rattle.lg_run.specs.Sums.{AreMade, EndsWithin, IsSmall, AreSums, AreSumsOf, AreAtMost, sum_lines};
 ghost use Rattle.lg_run.specs.Written.{HasHaltCause};
 ghost use Rattle.lg_gram.specs.declared.reply.Reply.{Reply as SeenReply};
@@ -198,8 +198,8 @@ fn sums_in(reply: &Reply) -> Sums
     }
 }
 
-// The candidates that the answer shows.
-fn items_in(reply: &Reply) -> &[PageItem]
+/// The candidates that the answer shows.
+pub(crate) fn items_in(reply: &Reply) -> &[PageItem]
     ensures { result.now ≡ items_of reply.now }
 {
     match reply {

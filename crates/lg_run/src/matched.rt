@@ -3,7 +3,7 @@ ghost use Rattle.std.specs.Prelude.{◌≡◌, ℕ, Bool, List, false, codes, If
 ghost use Rattle.clap.specs.Words.{kind_of, rule_of};
 ghost use Rattle.lg_answer.specs.declared.options.Nulls.{Nulls as SeenNulls};
 ghost use Rattle.lg_run.specs.declared.setup.Setup.{Setup};
-ghost use Rattle.lg_run.specs.Words.{AreOptions, GivesNumber, GivesNulls, GivesSwitch, GivesWorkers, Gives, OptionsAre};
+ghost use Rattle.lg_run.specs.Words.{run_options, AreOptions, GivesNumber, GivesNulls, GivesSwitch, GivesWorkers, Gives, OptionsAre};
 ghost use Rattle.lg_run.specs.Matched.{TellsSettings, option_rule};
 
 use crate::options::{nulls_of, switch_of, workers_of};
@@ -18,8 +18,8 @@ use std::alloc::Global;
 
 /// What the options in the words set. The words are options in form, so that only out of memory is an error.
 pub(crate) fn read_setup(alloc: Global, words: &[String]) -> Result<Setup, NoMemory>
-    requires { (setup : Setup) × OptionsAre (map string_bytes words.now) setup }
-    ensures { (setup : Setup) → OptionsAre (map string_bytes words.now) setup → IfOk result (λ s. s ≡ setup) }
+    requires { (setup : Setup) × OptionsAre run_options (map string_bytes words.now) setup }
+    ensures { (setup : Setup) → OptionsAre run_options (map string_bytes words.now) setup → IfOk result (λ s. s ≡ setup) }
 {
     match matches_of(alloc, words) {
         Ok(matches) => Ok(setup_in(&matches)),
@@ -29,8 +29,8 @@ pub(crate) fn read_setup(alloc: Global, words: &[String]) -> Result<Setup, NoMem
 
 // What clap finds in the words, which it refuses only where memory runs out.
 fn matches_of(alloc: Global, words: &[String]) -> Result<ArgMatches<'_>, Error>
-    requires { (settings : List (List ℕ × List ℕ)) × AreOptions (map string_bytes words.now) settings }
-    ensures ok { (settings : List (List ℕ × List ℕ)) → AreOptions (map string_bytes words.now) settings → IfOk result (λ matches. TellsSettings matches settings) }
+    requires { (settings : List (List ℕ × List ℕ)) × AreOptions run_options (map string_bytes words.now) settings }
+    ensures ok { (settings : List (List ℕ × List ℕ)) → AreOptions run_options (map string_bytes words.now) settings → IfOk result (λ matches. TellsSettings matches settings) }
     ensures err { IfErr result (λ error. kind_of error ≡ ErrorKind.OutOfMemory) }
 {
     let command = Command::new(alloc, "options")
@@ -42,7 +42,8 @@ fn matches_of(alloc: Global, words: &[String]) -> Result<ArgMatches<'_>, Error>
         .arg(option(alloc, "prune"))?
         .arg(option(alloc, "stats"))?
         .arg(option(alloc, "diagram"))?
-        .arg(option(alloc, "workers"))?;
+        .arg(option(alloc, "workers"))?
+        .arg(option(alloc, "usage"))?;
     command.try_get_matches_from(words)
 }
 
@@ -72,6 +73,7 @@ fn setup_in(matches: &ArgMatches<'_>) -> Setup
             diagram: switch_or(matches.get_str("diagram"), usual.look.diagram),
             stats,
         },
+        usage: switch_or(matches.get_str("usage"), usual.usage),
     }
 }
 

@@ -1,6 +1,6 @@
 //! The numbers of made input.
 ghost use Rattle.std.specs.Prelude.{◌≤◌, ℕ, MatchOption};
-ghost use Rattle.lg_run.specs.Words.{Writes, IsSeed, IsMadeCount};
+ghost use Rattle.lg_run.specs.Words.{WritesNumber, IsSeed, IsMadeCount};
 
 use lg_script::decimal;
 
@@ -29,7 +29,7 @@ pub(crate) fn made_count_of(text: &str) -> Option<u32>
 // The number that the digits write, where there is at least one and they are no more than this.
 fn written(digits: &[u8], most: usize) -> Option<u64>
     requires { most ≤ 10 }
-    ensures { MatchOption result ((n : ℕ) → Writes most digits.now n → ⊥) (λ n. Writes most digits.now n) }
+    ensures { MatchOption result ((n : ℕ) → WritesNumber most digits.now n → ⊥) (λ n. WritesNumber most digits.now n) }
 {
     if digits.is_empty() || digits.len() > most {
         return None;

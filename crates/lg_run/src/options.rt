@@ -1,9 +1,10 @@
 //! The form of a command's options.
-ghost use Rattle.std.specs.Prelude.{◌≡◌, true, false, ℕ, Bool, List, MatchOption, map, string_bytes};
+ghost use Rattle.std.specs.Prelude.{◌≡◌, true, false, ℕ, Bool, List, Contains, MatchOption, map, string_bytes, bytes_eq};
+ghost use Rattle.std.specs.List.{list_any};
 ghost use Rattle.lg_script.specs.Commands.{IsNumber};
 ghost use Rattle.lg_answer.specs.declared.options.Nulls.{Nulls as SeenNulls};
-ghost use Rattle.lg_run.specs.Words.{IsKnown, WritesNulls, WritesSwitch, WritesWorkers, is_operand};
-ghost use Rattle.lg_run.specs.Settings.{name_of, option_word, Begins, BeginsWith, is_set, with_setting, Ends, IsCut};
+ghost use Rattle.lg_run.specs.Words.{HasForm, WritesNulls, WritesSwitch, WritesWorkers, is_operand};
+ghost use Rattle.lg_run.specs.Settings.{value_kind, named, option_word, Begins, BeginsWith, front_of, is_given, Ends, IsCut};
 
 use lg_answer::Nulls;
 use lg_script::number_of;
@@ -18,25 +19,47 @@ pub(crate) enum Setting {
     Stats,
     Diagram,
     Workers,
+    Usage,
 }
 
-/// An option that some words begin with, and the words behind it.
+/// How the value of an option is written.
+#[derive(Clone, Copy, Debug, PartialEq, Eq)]
+pub(crate) enum Kind {
+    Number,
+    Nulls,
+    Switch,
+    Workers,
+}
+
+/// The options of `one`.
+pub(crate) const ONE: [Setting; 7] = [
+    Setting::Want,
+    Setting::Examine,
+    Setting::Nulls,
+    Setting::Prune,
+    Setting::Stats,
+    Setting::Diagram,
+    Setting::Workers,
+];
+
+/// The options of `run`.
+pub(crate) const RUN: [Setting; 8] = [
+    Setting::Want,
+    Setting::Examine,
+    Setting::Nulls,
+    Setting::Prune,
+    Setting::Stats,
+    Setting::Diagram,
+    Setting::Workers,
+    Setting::Usage,
+];
+
+/// An option that some words begin with, its word, and the words behind it.
 #[derive(Clone, Copy)]
 struct First<'a> {
+    word: &'a str,
     setting: Setting,
     behind: &'a [String],
-}
-
-/// What options have set so far.
-#[derive(Clone, Copy)]
-pub(crate) struct Given {
-    want: bool,
-    examine: bool,
-    nulls: bool,
-    prune: bool,
-    stats: bool,
-    diagram: bool,
-    workers: bool,
 }
 
 /// Words cut in two.
@@ -46,30 +69,45 @@ pub(crate) struct Cut<'a> {
     pub behind: &'a [String],
 }
 
-/// The options that the words begin with, each at most once, and the words behind them, of which the first begins with no
-/// dash. None where the words begin in no such way. Takes no memory.
-pub(crate) fn cut_options(words: &[String]) -> Option<Cut<'_>>
+/// The options that the words begin with, each known and at most once, and the words behind them, of which the first begins
+/// with no dash. None where the words begin in no such way. Takes no memory.
+pub(crate) fn cut_options<'a>(known: &[Setting], words: &'a [String]) -> Option<Cut<'a>>
     ensures { MatchOption result
-        ((front behind : List (List ℕ)) → IsCut (map string_bytes words.now) front behind → ⊥)
-        (λ cut. IsCut (map string_bytes words.now) (map string_bytes cut.options.now) (map string_bytes cut.behind.now)) }
+        ((front behind : List (List ℕ)) → IsCut (named known.now) (map string_bytes words.entry.now) front behind → ⊥)
+        (λ cut. IsCut (named known.now) (map string_bytes words.entry.now) (map string_bytes cut.options.now) (map string_bytes cut.behind.now)) }
 {
-    let mut given = Given {
-        want: false,
-        examine: false,
-        nulls: false,
-        prune: false,
-        stats: false,
-        diagram: false,
-        workers: false,
-    };
+    let mut done = &words[..0];
     let mut rest = words;
     while begins_with_dash(rest) {
-        let option = first_option(rest)?;
-        given = given.with(option.setting)?;
-        rest = option.behind;
+        let option = first_option(known, rest)?;
+        if is_given(option.word, done) {
+            return None;
+        }
+        let cut = words.split_at(words.len() - option.behind.len());
+        done = cut.0;
+        rest = cut.1;
     }
-    let (options, behind) = words.split_at(words.len() - rest.len());
-    Some(Cut { options, behind })
+    Some(Cut {
+        options: done,
+        behind: rest,
+    })
+}
+
+// Whether one of the words begins the option that begins with this word.
+fn is_given(word: &str, done: &[String]) -> bool
+    ensures { result ≡ list_any (λ other. bytes_eq (front_of (string_bytes other)) word.now) done.now }
+{
+    done.iter().any(|other| front_of(other) == word)
+}
+
+// What stands in a word before its first equals sign, or all of it.
+fn front_of(word: &str) -> &str
+    ensures { result.now ≡ front_of word.now }
+{
+    match word.split_once('=') {
+        Some((name, _)) => name,
+        None => word,
+    }
 }
 
 // Whether there is a first word, and it begins with a dash.
@@ -93,53 +131,22 @@ pub(crate) fn is_operand(word: &str) -> bool
     }
 }
 
-impl Given {
-    /// With one more. None where it is set already.
-    fn with(self, setting: Setting) -> Option<Self>
-        ensures { MatchOption result
-            (is_set setting self ≡ true)
-            (λ more. (is_set setting self ≡ false) × (more ≡ with_setting setting self)) }
-    {
-        match setting {
-            Setting::Want if !self.want => Some(Given { want: true, ..self }),
-            Setting::Examine if !self.examine => Some(Given {
-                examine: true,
-                ..self
-            }),
-            Setting::Nulls if !self.nulls => Some(Given {
-                nulls: true,
-                ..self
-            }),
-            Setting::Prune if !self.prune => Some(Given {
-                prune: true,
-                ..self
-            }),
-            Setting::Stats if !self.stats => Some(Given {
-                stats: true,
-                ..self
-            }),
-            Setting::Diagram if !self.diagram => Some(Given {
-                diagram: true,
-                ..self
-            }),
-            Setting::Workers if !self.workers => Some(Given {
-                workers: true,
-                ..self
-            }),
-            _ => None,
-        }
-    }
-}
-
-// The option that the words begin with.
-fn first_option(words: &[String]) -> Option<First<'_>>
+// The option that the words begin with, where it is known.
+fn first_option<'a>(known: &[Setting], words: &'a [String]) -> Option<First<'a>>
     ensures { MatchOption result
-        ((setting : Setting) (value : List ℕ) (behind : List (List ℕ)) → BeginsWith (map string_bytes words.now) setting value behind → ⊥)
-        (λ first. (value : List ℕ) × BeginsWith (map string_bytes words.now) first.setting value (map string_bytes first.behind.now)) }
+        ((setting : Setting) (value : List ℕ) (behind : List (List ℕ)) → BeginsWith known.now (map string_bytes words.entry.now) setting value behind → ⊥)
+        (λ first. (first.word.now ≡ option_word first.setting) × ((value : List ℕ) × BeginsWith known.now (map string_bytes words.entry.now) first.setting value (map string_bytes first.behind.now))) }
 {
     let (word, value, behind) = word_and_value(words)?;
-    let setting = setting_of(word, value)?;
-    Some(First { setting, behind })
+    let setting = setting_of(known, word)?;
+    if !setting.kind().is_form_of(value) {
+        return None;
+    }
+    Some(First {
+        word,
+        setting,
+        behind,
+    })
 }
 
 // The word and the value that the words begin with, in two words or in one, and the words behind them.
@@ -158,21 +165,63 @@ fn word_and_value(words: &[String]) -> Option<(&str, &str, &[String])>
     }
 }
 
-// The known options: the word of each, and the form of its value.
-fn setting_of(word: &str, value: &str) -> Option<Setting>
+// The option that begins with this word, where it is known.
+fn setting_of(known: &[Setting], word: &str) -> Option<Setting>
     ensures { MatchOption result
-        ((setting : Setting) → word.now ≡ option_word setting → IsKnown (name_of setting) value.now → ⊥)
-        (λ setting. (word.now ≡ option_word setting) × IsKnown (name_of setting) value.now) }
+        ((setting : Setting) → word.now ≡ option_word setting → Contains known.now setting → ⊥)
+        (λ setting. (word.now ≡ option_word setting) × Contains known.now setting) }
+{
+    let setting = setting_by(word)?;
+    if !known.contains(&setting) {
+        return None;
+    }
+    Some(setting)
+}
+
+// The option that begins with this word.
+fn setting_by(word: &str) -> Option<Setting>
+    ensures { MatchOption result
+        ((setting : Setting) → word.now ≡ option_word setting → ⊥)
+        (λ setting. word.now ≡ option_word setting) }
 {
     match word {
-        "--want" if is_number(value) => Some(Setting::Want),
-        "--examine" if is_number(value) => Some(Setting::Examine),
-        "--nulls" if nulls_of(value).is_some() => Some(Setting::Nulls),
-        "--prune" if switch_of(value).is_some() => Some(Setting::Prune),
-        "--stats" if switch_of(value).is_some() => Some(Setting::Stats),
-        "--diagram" if switch_of(value).is_some() => Some(Setting::Diagram),
-        "--workers" if workers_of(value).is_some() => Some(Setting::Workers),
+        "--want" => Some(Setting::Want),
+        "--examine" => Some(Setting::Examine),
+        "--nulls" => Some(Setting::Nulls),
+        "--prune" => Some(Setting::Prune),
+        "--stats" => Some(Setting::Stats),
+        "--diagram" => Some(Setting::Diagram),
+        "--workers" => Some(Setting::Workers),
+        "--usage" => Some(Setting::Usage),
         _ => None,
+    }
+}
+
+impl Setting {
+    fn kind(self) -> Kind
+        ensures { result ≡ value_kind self }
+    {
+        match self {
+            Setting::Want | Setting::Examine => Kind::Number,
+            Setting::Nulls => Kind::Nulls,
+            Setting::Prune | Setting::Stats | Setting::Diagram | Setting::Usage => Kind::Switch,
+            Setting::Workers => Kind::Workers,
+        }
+    }
+}
+
+impl Kind {
+    // Whether the text is a value of this kind.
+    fn is_form_of(self, value: &str) -> bool
+        ensures yes { result ≡ true → HasForm self value.now }
+        ensures no { result ≡ false → HasForm self value.now → ⊥ }
+    {
+        match self {
+            Kind::Number => is_number(value),
+            Kind::Nulls => nulls_of(value).is_some(),
+            Kind::Switch => switch_of(value).is_some(),
+            Kind::Workers => workers_of(value).is_some(),
+        }
     }
 }
 

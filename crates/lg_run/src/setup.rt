@@ -9,6 +9,8 @@ use lg_text::Look;
 pub struct Setup {
     pub listing: Options,
     pub look: Look,
+    /// Whether the first linkages are counted by words and labels; `run` alone does so.
+    pub usage: bool,
 }
 
 impl Default for Setup {
@@ -23,6 +25,7 @@ impl Default for Setup {
                 diagram: false,
                 stats: false,
             },
+            usage: false,
         }
     }
 }

@@ -23,6 +23,7 @@ use crate::sentence::document;
 use crate::setup::Setup;
 use crate::status::Status;
 use crate::stop::Stop;
+use crate::usage::usage_lines;
 use lg_base::{Files, NoMemory, Sink, SinkFault};
 use lg_dict::Dict;
 use lg_dictread::{DictError, WordFileError};
@@ -158,7 +159,7 @@ fn write_sentence<R: Threads + Sync, O: Sink>(
     }
 }
 
-// Runs the sessions, and writes what they are answered.
+// Runs the sessions, and writes what they are answered, with the totals of usage if they are asked for.
 fn write_sessions<R: Threads + Sync, O: Sink, G: Gate>(
     rt: &R,
     alloc: Global,
@@ -174,8 +175,11 @@ fn write_sessions<R: Threads + Sync, O: Sink, G: Gate>(
     ensures cause { HasHaltCause (O.faults out.old) (O.faults out.new) result }
 {
     let lister = Lister::new(know, setup.listing);
-    match run_sessions(rt, alloc, dict, scripts, &lister, gate) {
-        Ok(outcome) => write_outcome(alloc, scripts, &outcome, setup.look, out),
+    let Ok(outcome) = run_sessions(rt, alloc, dict, scripts, &lister, gate) else {
+        return Err(Halt::Memory);
+    };
+    match usage_lines(alloc, setup.usage, scripts, outcome.replies.items()) {
+        Ok(lines) => write_outcome(alloc, scripts, &outcome, setup.look, &lines, out),
         Err(NoMemory) => Err(Halt::Memory),
     }
 }

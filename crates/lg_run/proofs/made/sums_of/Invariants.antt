@@ -2,7 +2,8 @@ use Rattle.std.proofs.Common.{◌≡◌, ◌≤◌, ◌*◌, ◌^◌, length, ta
 use Rattle.std.specs.List.{sum_by}
 use Rattle.lg_gram.specs.Linkages.{unlinked, total_length}
 use Rattle.lg_text.specs.Pages.{shown}
-use Rattle.lg_run.specs.MadeRuns.{items_of, first_of}
+use Rattle.lg_run.specs.Documents.{items_of}
+use Rattle.lg_run.specs.MadeRuns.{first_of}
 use Rattle.lg_run.proofs.made.sums_of.Given as goal
 
 -- the sums over the answers so far

@@ -14,7 +14,8 @@ command_is c =
     let prunes = c.in_ok-arg-4.ensures.shape c.option-4.ensures.local ∙ ap₂ with_rule linked c.option-4.ensures.rule in
     let counts = c.in_ok-arg-5.ensures.shape c.option-5.ensures.local ∙ ap₂ with_rule prunes c.option-5.ensures.rule in
     let drawn = c.in_ok-arg-6.ensures.shape c.option-6.ensures.local ∙ ap₂ with_rule counts c.option-6.ensures.rule in
-    c.in_ok-command.ensures.shape c.option-7.ensures.local ∙ ap₂ with_rule drawn c.option-7.ensures.rule
+    let works = c.in_ok-arg-7.ensures.shape c.option-7.ensures.local ∙ ap₂ with_rule drawn c.option-7.ensures.rule in
+    c.in_ok-command.ensures.shape c.option-8.ensures.local ∙ ap₂ with_rule works c.option-8.ensures.rule
 
 pub returns-clause-ok : goal.returns-clause-ok
 returns-clause-ok c = λ settings are.

@@ -13,4 +13,5 @@ returns c = λ settings setup told given.
     let prune = c.switch_or.ensures setup.listing.prune (rw (c.get_str-5.ensures, told (codes "prune"), usual) given.prune) in
     let workers = c.workers_or.ensures setup.listing.workers (rw (c.get_str-6.ensures, told (codes "workers"), usual) given.workers) in
     let diagram = c.switch_or-2.ensures setup.look.diagram (rw (c.get_str-7.ensures, told (codes "diagram"), usual) given.diagram) in
-    same_values _ setup want examine nulls prune (stats ∙ sym given.count) workers diagram stats
+    let usage = c.switch_or-3.ensures setup.usage (rw (c.get_str-8.ensures, told (codes "usage"), usual) given.usage) in
+    same_values _ setup want examine nulls prune (stats ∙ sym given.count) workers diagram stats usage

@@ -8,7 +8,7 @@ use Rattle.std.specs.Slice.Iter.{iter_rest}
 use Rattle.lg_gram.specs.declared.reply.Place.{Place}
 use Rattle.lg_script.specs.declared.command.Command.{Command}
 use Rattle.lg_script.specs.Commands.{CommandView, command_view, script_views}
-use Rattle.lg_text.specs.Replies.{journal_text}
+use Rattle.lg_run.specs.Documents.{journal_with}
 use Rattle.lg_run.specs.Written.{AreAllPrintable}
 use Rattle.lg_run.proofs.Writing.{written_more, written_last, written_front, written_so_far, no_sessions, next_session}
 use Rattle.lg_run.proofs.outcome.write_outcome.Goals as goal
@@ -36,7 +36,7 @@ loop-commands-preserved g c =
       few = omega (arith, w.few, ap length more.0);
       commands = All-drop (λ (script : List CommandView). length script < 2 ^ 32) 1 scripts commands;
       printable = printable.1;
-      written = written_more (g.O.Sink.written c.write_session.new.out) _ _ w.written (next_session c.args.look (c.loop-commands.session + 1) c.items-in-loop-commands.result.now c.items-in-loop-commands-2.result.now (journal_text c.args.outcome.now.journal) more.0 more.1 c.items-in-loop-commands.ensures c.items-in-loop-commands-2.ensures) c.in_ok-write_session.ensures.written;
+      written = written_more (g.O.Sink.written c.write_session.new.out) _ _ w.written (next_session c.args.look (c.loop-commands.session + 1) c.items-in-loop-commands.result.now c.items-in-loop-commands-2.result.now (journal_with c.args.lines.now c.args.outcome.now.journal) more.0 more.1 c.items-in-loop-commands.ensures c.items-in-loop-commands-2.ensures) c.in_ok-write_session.ensures.written;
       later = omega (arith, c.write_session.ensures.cause.later, w.later);
     }
 
@@ -45,15 +45,15 @@ pub returns-in_err-write_session-clause-written : goal.returns-in_err-write_sess
 returns-in_err-write_session-clause-written g c =
     let more = c.in-Some.ensures.steps in
     rw (err_from_is_err_and c.from_residual.result c.from_residual.ensures.1).1
-    (written_front (g.O.Sink.written c.write_session.new.out) _ _ c.loop-commands.invariant.written (next_session c.args.look (c.loop-commands.session + 1) c.items-in-loop-commands.result.now c.items-in-loop-commands-2.result.now (journal_text c.args.outcome.now.journal) more.0 more.1 c.items-in-loop-commands.ensures c.items-in-loop-commands-2.ensures) c.in_err-write_session.ensures.written)
+    (written_front (g.O.Sink.written c.write_session.new.out) _ _ c.loop-commands.invariant.written (next_session c.args.look (c.loop-commands.session + 1) c.items-in-loop-commands.result.now c.items-in-loop-commands-2.result.now (journal_with c.args.lines.now c.args.outcome.now.journal) more.0 more.1 c.items-in-loop-commands.ensures c.items-in-loop-commands-2.ensures) c.in_err-write_session.ensures.written)
 
 -- the answers, and as much of the journal as is written
 pub returns-in-Ok-clause-written : goal.returns-in-Ok-clause-written
 returns-in-Ok-clause-written g c =
     let it = c.loop-commands.commands-iterator in
     let none = no_sessions c.args.look (c.loop-commands.session + 1) (iter_rest (zip_first it)) (iter_rest (zip_second it)) (either_empty_from_Zip it c.next.new.self c.next.result c.in-None.is c.next.ensures.steps) in
-    let text = subst (λ (l : List Place). c.in-Ok.text.items ≡ journal_text l) c.items-3.ensures c.in-Ok.ensures in
-    written_last (g.O.Sink.written c.put.new.out) c.deref.result.now c.put.result c.loop-commands.invariant.written (ap (λ (l : List ℕ). l ++ journal_text c.args.outcome.now.journal) none ∙ sym text ∙ sym c.deref.ensures.value) c.put.ensures.written
+    let text = subst (λ (l : List Place). c.in-Ok.text.items ≡ journal_with c.args.lines.now l) c.items-3.ensures c.in-Ok.ensures in
+    written_last (g.O.Sink.written c.put.new.out) c.deref.result.now c.put.result c.loop-commands.invariant.written (ap (λ (l : List ℕ). l ++ journal_with c.args.lines.now c.args.outcome.now.journal) none ∙ sym text ∙ sym c.deref.ensures.value) c.put.ensures.written
 
 -- the answers
 pub returns-in-Err-clause-written : goal.returns-in-Err-clause-written

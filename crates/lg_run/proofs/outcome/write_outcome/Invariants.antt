@@ -2,8 +2,7 @@ use Rattle.std.proofs.Common.{◌≡◌, ◌≤◌, ◌<◌, ◌^◌, ◌+◌, �
 use Rattle.std.specs.Iterator.Adapters.{zip_first, zip_second}
 use Rattle.std.specs.Slice.Iter.{iter_rest}
 use Rattle.lg_script.specs.Commands.{script_views}
-use Rattle.lg_text.specs.Replies.{journal_text}
-use Rattle.lg_run.specs.Documents.{session_texts, outcome_text}
+use Rattle.lg_run.specs.Documents.{session_texts, journal_with, outcome_text}
 use Rattle.lg_run.specs.Lines.{joined}
 use Rattle.lg_run.specs.Written.{AreAllPrintable}
 use Rattle.lg_run.proofs.Writing.{WrittenTo}
@@ -17,7 +16,7 @@ invariant-loop-commands g l = record {
   few : l.session + length (iter_rest (zip_first l.commands-iterator)) ≡ length l.scripts;
   commands : All (λ commands. length commands < 2 ^ 32) (script_views (iter_rest (zip_first l.commands-iterator)));
   printable : AreAllPrintable (script_views (iter_rest (zip_first l.commands-iterator))) (iter_rest (zip_second l.commands-iterator));
-  written : WrittenTo (g.O.Sink.written l.fn.out) (g.O.Sink.written l.out) (outcome_text l.look (script_views l.scripts) l.outcome.replies l.outcome.journal)
-      (joined (session_texts l.look (l.session + 1) (script_views (iter_rest (zip_first l.commands-iterator))) (iter_rest (zip_second l.commands-iterator))) ++ journal_text l.outcome.journal);
+  written : WrittenTo (g.O.Sink.written l.fn.out) (g.O.Sink.written l.out) (outcome_text l.look (script_views l.scripts) l.outcome.replies l.outcome.journal l.lines)
+      (joined (session_texts l.look (l.session + 1) (script_views (iter_rest (zip_first l.commands-iterator))) (iter_rest (zip_second l.commands-iterator))) ++ journal_with l.lines l.outcome.journal);
   later : g.O.Sink.faults l.fn.out ≤ g.O.Sink.faults l.out;
 }

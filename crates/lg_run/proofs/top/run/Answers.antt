@@ -7,7 +7,7 @@ use Rattle.lg_run.specs.Inputs.{InputsAre}
 use Rattle.lg_run.specs.Reads.{AsksInOrder, given_in, TellsStop}
 use Rattle.lg_run.specs.Stops.{stop_status, stop_line}
 use Rattle.lg_run.specs.Answers.{Told, AnswersRefused, AnswersAccepted}
-use Rattle.lg_run.proofs.Ends.{told_read, about_read, range_read, finished, told_stop, caused_so, stop_written, last_written}
+use Rattle.lg_run.proofs.Ends.{told_read, about_read, range_read, finished, told_stop, caused_so, unwritten_so, answers_refused, answers_accepted, stop_written, last_written}
 use Rattle.lg_run.proofs.top.run.Goals as goal
 
 -- the options are those of the command
@@ -29,21 +29,49 @@ returns-in-Ok-read_inputs-clause-told g c =
     (IfSome_then (g.F.Files.contents c.args.files.now) c.in-Ok-read_inputs.ensures.told
     (λ known h. finished (InputsAre known (task c.in-Ok.setup c.in-Some.command)) old new before after (given_in c.in-Ok-read_inputs.inputs) c.finish.result h c.finish.ensures.told))
 
+pub returns-in-Ok-read_inputs-clause-caused : goal.returns-in-Ok-read_inputs-clause-caused
+returns-in-Ok-read_inputs-clause-caused g c =
+    caused_so (given_in c.in-Ok-read_inputs.inputs) c.finish.result (g.O.Sink.written c.args.out.now) (g.O.Sink.written c.finish.new.out) (g.F.Files.faults c.args.files.now) (g.F.Files.faults c.read_inputs.new.files)
+    (g.O.Sink.faults c.args.out.now) (g.O.Sink.faults c.finish.new.out) c.finish.ensures.told c.finish.ensures.caused
+
+pub returns-in-Ok-read_inputs-clause-unwritten : goal.returns-in-Ok-read_inputs-clause-unwritten
+returns-in-Ok-read_inputs-clause-unwritten g c =
+    unwritten_so (given_in c.in-Ok-read_inputs.inputs) c.finish.result (g.O.Sink.written c.args.out.now) (g.O.Sink.written c.finish.new.out) c.finish.ensures.told
+
 pub returns-in-Ok-read_inputs-clause-refused : goal.returns-in-Ok-read_inputs-clause-refused
 returns-in-Ok-read_inputs-clause-refused g c =
+    let old = g.F.Files.asked c.args.files.now in
+    let new = g.F.Files.asked c.read_inputs.new.files in
+    let before = g.O.Sink.written c.args.out.now in
+    let after = g.O.Sink.written c.finish.new.out in
     let calm = Rose (g.F.Files.faults c.args.files.now) (g.F.Files.faults c.read_inputs.new.files) → ⊥ in
-    told_read _ _ _ _ c.in-Some.ensures c.options.ensures c.in-Ok.ensures c.words_have_one_task.ensures (g.F.Files.contents c.args.files.now) (λ inputs. AnswersRefused inputs calm c.finish.result) (search rules)
+    told_read _ _ _ _ c.in-Some.ensures c.options.ensures c.in-Ok.ensures c.words_have_one_task.ensures (g.F.Files.contents c.args.files.now) (λ inputs. AnswersRefused inputs calm c.finish.result)
+    (IfSome_then (g.F.Files.contents c.args.files.now) c.in-Ok-read_inputs.ensures.told
+    (λ known h. let inputs = InputsAre known (task c.in-Ok.setup c.in-Some.command) in
+    answers_refused inputs old new before after (c.inputs_have_one_verdict.ensures.one known (task c.in-Ok.setup c.in-Some.command)) (g.F.Files.faults c.args.files.now) (g.F.Files.faults c.read_inputs.new.files)
+    (g.O.Sink.faults c.args.out.now) (g.O.Sink.faults c.finish.new.out) c.finish.result
+    (finished inputs old new before after (given_in c.in-Ok-read_inputs.inputs) c.finish.result h c.finish.ensures.told) (returns-in-Ok-read_inputs-clause-caused g c)))
+
+pub returns-in-Ok-read_inputs-clause-complete : goal.returns-in-Ok-read_inputs-clause-complete
+returns-in-Ok-read_inputs-clause-complete g c =
+    let old = g.F.Files.asked c.args.files.now in
+    let new = g.F.Files.asked c.read_inputs.new.files in
+    let before = g.O.Sink.written c.args.out.now in
+    let after = g.O.Sink.written c.finish.new.out in
+    let calm = Rose (g.F.Files.faults c.args.files.now) (g.F.Files.faults c.read_inputs.new.files) → ⊥ in
+    let quiet = Rose (g.O.Sink.faults c.args.out.now) (g.O.Sink.faults c.finish.new.out) → ⊥ in
+    told_read _ _ _ _ c.in-Some.ensures c.options.ensures c.in-Ok.ensures c.words_have_one_task.ensures (g.F.Files.contents c.args.files.now) (λ inputs. AnswersAccepted inputs calm quiet c.finish.result)
+    (IfSome_then (g.F.Files.contents c.args.files.now) c.in-Ok-read_inputs.ensures.told
+    (λ known h. let inputs = InputsAre known (task c.in-Ok.setup c.in-Some.command) in
+    answers_accepted inputs old new before after (c.inputs_have_one_verdict.ensures.one known (task c.in-Ok.setup c.in-Some.command)) (g.F.Files.faults c.args.files.now) (g.F.Files.faults c.read_inputs.new.files)
+    (g.O.Sink.faults c.args.out.now) (g.O.Sink.faults c.finish.new.out) c.finish.result
+    (finished inputs old new before after (given_in c.in-Ok-read_inputs.inputs) c.finish.result h c.finish.ensures.told) (returns-in-Ok-read_inputs-clause-caused g c)))
 
 pub returns-in-Ok-read_inputs-clause-line : goal.returns-in-Ok-read_inputs-clause-line
 returns-in-Ok-read_inputs-clause-line g c =
     λ calm. last_written (g.F.Files.contents c.args.files.now) _ (g.F.Files.asked c.args.files.now) (g.F.Files.asked c.read_inputs.new.files) (g.F.Files.faults c.args.files.now) (g.F.Files.faults c.read_inputs.new.files)
     (given_in c.in-Ok-read_inputs.inputs) c.finish.result (g.O.Sink.written c.args.out.now) (g.O.Sink.written c.finish.new.out) (g.E.Sink.written c.args.err.now) (g.E.Sink.written c.finish.new.err)
     c.finish.ensures.told (c.finish.ensures.line calm)
-
-pub returns-in-Ok-read_inputs-clause-caused : goal.returns-in-Ok-read_inputs-clause-caused
-returns-in-Ok-read_inputs-clause-caused g c =
-    caused_so (given_in c.in-Ok-read_inputs.inputs) c.finish.result (g.O.Sink.written c.args.out.now) (g.O.Sink.written c.finish.new.out) (g.F.Files.faults c.args.files.now) (g.F.Files.faults c.read_inputs.new.files)
-    (g.O.Sink.faults c.args.out.now) (g.O.Sink.faults c.finish.new.out) c.finish.ensures.told c.finish.ensures.caused
 
 -- and they are not
 pub returns-in-Err-clause-names : goal.returns-in-Err-clause-names
