@@ -233,7 +233,7 @@ fn a_read_fails(rt: HostRuntime) -> Result<(), Fail> {
 fn one_entry_is_read(rt: HostRuntime) {
     match read_entry(
         rt.alloc(),
-        b"\xEF\xBB\xBF% c\n\"<q>\" <m> /w / :\n((<n>));%",
+        b"% c\n\"<q>\" <m> /w / :\n((<n>));%",
     ) {
         Ok(entry) => {
             let kinds = [
@@ -249,6 +249,21 @@ fn one_entry_is_read(rt: HostRuntime) {
             assert_eq!(rt; entry.items.items()[2].text.bytes(), b"w".as_slice());
             assert_eq!(rt; (entry.level, entry.line), (2, 2));
             assert!(rt; matches!(entry.expr, RawExpr::Named(_, 2)));
+        }
+        Err(error) => panic!(rt; "{error}"),
+    }
+}
+
+// A mark is passed over at the front of a file alone, and an entry is no file.
+#[test]
+fn a_mark_is_part_of_an_entrys_first_token(rt: HostRuntime) {
+    match read_entry(rt.alloc(), b"\xEF\xBB\xBFx y: A+;") {
+        Ok(entry) => {
+            let names = [b"\xEF\xBB\xBFx".as_slice(), b"y"];
+            assert_eq!(rt; entry.items.items().len(), names.len());
+            for (item, name) in entry.items.items().iter().zip(names) {
+                assert_eq!(rt; item.text.bytes(), name);
+            }
         }
         Err(error) => panic!(rt; "{error}"),
     }

@@ -75,6 +75,8 @@ fn options_that_are_none(rt: HostRuntime) -> Result<(), Fail> {
         "one|--nulls|second|d|x",
         "one|--nulls=First|d|x",
         "one|--nulls=first|--nulls=passing|d|x",
+        "one|--usage=on|d|x",
+        "run|--usage|maybe|d|k|s",
         "one|--help|d|x",
         "--help",
         "--version",

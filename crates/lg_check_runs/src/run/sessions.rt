@@ -141,6 +141,59 @@ done
     )
 }
 
+// Wants this document of the script with the totals of usage.
+fn counts<R: Abort + Threads + Sync>(
+    rt: &R,
+    alloc: Global,
+    dictionary: &str,
+    script: &str,
+    document: &str,
+) -> Result<(), Fail> {
+    let files = files_of(alloc, dictionary, "", script.as_bytes())?;
+    let words = words_of(alloc, "run|--usage|on|d|k|s1")?;
+    expect(rt, alloc, files, &words, Status::Done, document, "")
+}
+
+#[test]
+fn usage_totals_of_two_listings(rt: HostRuntime) -> Result<(), Fail> {
+    let last = "\
+1.4 more version 1
+page shown 0 examined 0 next 2 end
+journal 1
+edit 1 1.2
+usage word x 2
+usage word y 2
+usage label A 1
+usage label B 1
+done
+";
+    let alloc = rt.alloc();
+    let parts = [
+        "1.1 parse version 0\n",
+        OF_B,
+        "1.2 set version 1\n1.3 parse version 1\n",
+        OF_A,
+        last,
+    ];
+    let document = all(alloc, &parts)?;
+    let script = "parse x y\nset x: A+;\nparse x y\nmore\n";
+    counts(&rt, alloc, "x: B+; y: A- or B-;", script, document.as_str())
+}
+
+#[test]
+fn usage_without_a_listing(rt: HostRuntime) -> Result<(), Fail> {
+    let document = "\
+1.1 set refused at 0: unknown macro <none>
+1.2 del refused at 0: no such word
+1.3 more nothing held
+1.4 version 0
+journal 0
+done
+";
+    let script = "set x: <none>;\ndel absent\nmore\nversion\n";
+    counts(&rt, rt.alloc(), "x: A+;", script, document)
+}
+
 #[test]
 fn more_keeps_its_version_after_an_edit(rt: HostRuntime) -> Result<(), Fail> {
     let document = "\
