@@ -7,7 +7,6 @@ ghost use Rattle.lg_base.specs.Costs.{IsWithinCosts, cost_text, thousandths_text
 use crate::memory::NoMemory;
 use crate::printing::write_bytes;
 use itoa::write_digits;
-use std::alloc::Global;
 use std::marker::Model;
 
 /// A cost in thousandths, at most 10^16 of them from zero. Contracts see it as a signed number.
@@ -73,7 +72,7 @@ impl Cost {
 }
 
 /// Appends the printed cost: a `-` where it is below zero, the whole part, a point, and three digits.
-pub fn write_cost(_alloc: Global, out: &mut Vec<u8>, cost: Cost) -> Result<(), NoMemory>
+pub fn write_cost(out: &mut Vec<u8>, cost: Cost) -> Result<(), NoMemory>
     ensures ok { OnOk result (out.new.items ≡ out.old.items ++ cost_text cost) }
     ensures err { OnErr result (out.new.items ≡ out.old.items) }
 {

@@ -3,7 +3,6 @@ ghost use Rattle.std.specs.Prelude.{◌≡◌, ◌++◌, OnOk, OnErr, decimal};
 
 use crate::memory::NoMemory;
 use itoa::Buffer;
-use std::alloc::Global;
 
 /// Appends these bytes.
 pub fn write_bytes(out: &mut Vec<u8>, bytes: &[u8]) -> Result<(), NoMemory>
@@ -15,7 +14,7 @@ pub fn write_bytes(out: &mut Vec<u8>, bytes: &[u8]) -> Result<(), NoMemory>
 }
 
 /// Appends the number in decimal, with no leading zeros.
-pub fn write_number(_alloc: Global, out: &mut Vec<u8>, number: u64) -> Result<(), NoMemory>
+pub fn write_number(out: &mut Vec<u8>, number: u64) -> Result<(), NoMemory>
     ensures ok { OnOk result (out.new.items ≡ out.old.items ++ decimal number) }
     ensures err { OnErr result (out.new.items ≡ out.old.items) }
 {

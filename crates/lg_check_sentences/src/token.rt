@@ -76,15 +76,15 @@ fn is_new(words: &[Text], text: &[u8]) -> bool
 fn shown(alloc: Global, tokens: &Tokens) -> Result<Vec<u8>, Fail> {
     let mut out = Vec::new(alloc);
     for token in tokens.items() {
-        show(alloc, &mut out, token)?;
+        show(&mut out, token)?;
     }
     Ok(out)
 }
 
-fn show(alloc: Global, out: &mut Vec<u8>, token: &Token) -> Result<(), Fail> {
-    write_number(alloc, out, u64::from(token.from))?;
+fn show(out: &mut Vec<u8>, token: &Token) -> Result<(), Fail> {
+    write_number(out, u64::from(token.from))?;
     write_bytes(out, b"-")?;
-    write_number(alloc, out, u64::from(token.to))?;
+    write_number(out, u64::from(token.to))?;
     write_bytes(out, b" ")?;
     write_bytes(out, token.text.bytes())?;
     for word in token.words.items() {

@@ -78,12 +78,12 @@ fn printed(rt: HostRuntime) -> Result<(), Fail> {
         (-10_000_000_000_000_000, "-10000000000000.000"),
     ] {
         let mut text = Vec::new(alloc);
-        write_cost(alloc, &mut text, Cost::of(cost))?;
+        write_cost(&mut text, Cost::of(cost))?;
         assert_eq!(rt; text.as_slice(), want.as_bytes());
     }
     let mut text = Vec::new(alloc);
     write_bytes(&mut text, b"page ")?;
-    write_number(alloc, &mut text, 18_446_744_073_709_551_615)?;
+    write_number(&mut text, 18_446_744_073_709_551_615)?;
     assert_eq!(rt; text.as_slice(), b"page 18446744073709551615".as_slice());
     Ok(())
 }

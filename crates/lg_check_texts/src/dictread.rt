@@ -231,10 +231,7 @@ fn a_read_fails(rt: HostRuntime) -> Result<(), Fail> {
 
 #[test]
 fn one_entry_is_read(rt: HostRuntime) {
-    match read_entry(
-        rt.alloc(),
-        b"% c\n\"<q>\" <m> /w / :\n((<n>));%",
-    ) {
+    match read_entry(rt.alloc(), b"% c\n\"<q>\" <m> /w / :\n((<n>));%") {
         Ok(entry) => {
             let kinds = [
                 ItemKind::Word,

@@ -28,7 +28,7 @@ pub(crate) fn write_expr(
             write_bytes(out, b"[")?;
             write_expr(alloc, out, Spot::Top, inner)?;
             write_bytes(out, b"]")?;
-            write_cost(alloc, out, *cost)
+            write_cost(out, *cost)
         }
     }
 }

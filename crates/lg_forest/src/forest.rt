@@ -88,7 +88,8 @@ impl Forest {
 ///
 /// From 1 to 16 workers look for it; where there are more than one, they first share what they find in a memo. Then the caller walks
 /// alone, and what is not in the memo it finds itself: those are its steps. So they are at most the demanded keys: those of the whole
-/// sentence with no unlinked word, with one, and so on up to that number. With one worker each demanded key is one step.
+/// sentence with no unlinked word, with one, and so on up to that number. With one worker each demanded key is one step. The only
+/// error is running out of memory: the steps up to it are counted still.
 pub fn solve<R: Threads + Sync, L>(
     rt: &R,
     alloc: Global,
@@ -101,6 +102,7 @@ pub fn solve<R: Threads + Sync, L>(
     ensures forest { IfOk result (IsForest problem.now 0) }
     ensures fewest { IfOk result (λ forest. IsFewest problem.now forest.unused) }
     ensures steps { IfOk result (λ forest. (lists : List (List Connector)) → AreListsOf problem.now lists → (n : ℕ) × CountsKeys (IsDemanded problem.now lists 0 forest.unused) n × HasStepped workers steps.old steps.new n) }
+    ensures later { steps.old ≤ steps.new }
 {
     keys_are_decided();
     let last = problem.positions().len() as u32;
@@ -113,7 +115,8 @@ pub fn solve<R: Threads + Sync, L>(
     Ok(Forest::of(unused, table))
 }
 
-/// The forest of a problem with exactly so many unlinked words. Each demanded key is one step.
+/// The forest of a problem with exactly so many unlinked words. Each demanded key is one step. The only error is running out of
+/// memory: the steps up to it are counted still.
 pub fn solve_at<L>(
     alloc: Global,
     problem: &Problem,
@@ -125,6 +128,7 @@ pub fn solve_at<L>(
     ensures forest { IfOk result (IsForest problem.now nulls) }
     ensures unused { IfOk result (λ forest. forest.unused ≡ nulls) }
     ensures steps { IfOk result (λ forest. (lists : List (List Connector)) → AreListsOf problem.now lists → (n : ℕ) × CountsKeys (IsDemanded problem.now lists nulls nulls) n × (steps.new ≡ steps.old + n)) }
+    ensures later { steps.old ≤ steps.new }
 {
     // the call tells that there are few positions
     let _positions = problem.positions();
@@ -135,7 +139,7 @@ pub fn solve_at<L>(
 }
 
 /// The same as `solve_at`, where from 1 to 16 workers first share what they find, as in `solve`: with more than one the steps are at
-/// most the demanded keys.
+/// most the demanded keys. The only error is the same.
 pub fn solve_at_by<R: Threads + Sync, L>(
     rt: &R,
     alloc: Global,
@@ -150,6 +154,7 @@ pub fn solve_at_by<R: Threads + Sync, L>(
     ensures forest { IfOk result (IsForest problem.now nulls) }
     ensures unused { IfOk result (λ forest. forest.unused ≡ nulls) }
     ensures steps { IfOk result (λ forest. (lists : List (List Connector)) → AreListsOf problem.now lists → (n : ℕ) × CountsKeys (IsDemanded problem.now lists nulls nulls) n × HasStepped workers steps.old steps.new n) }
+    ensures later { steps.old ≤ steps.new }
 {
     // the call tells that there are few positions
     let _positions = problem.positions();
@@ -179,6 +184,7 @@ fn forest_at<L>(
     ensures forest { IfOk result (IsForest problem.now nulls) }
     ensures unused { IfOk result (λ forest. forest.unused ≡ nulls) }
     ensures steps { IfOk result (λ forest. (numbers : List (List Connector)) → AreListsOf problem.now numbers → (n : ℕ) × CountsKeys (IsDemanded problem.now numbers nulls nulls) n × (steps.new ≤ steps.old + n) × (known ≡ [] → steps.new ≡ steps.old + n)) }
+    ensures later { steps.old ≤ steps.new }
 {
     keys_are_decided();
     lists.are_numbered();
@@ -210,6 +216,7 @@ fn fewest<L>(
     ensures asked { let n = lists.entry.now in IfOk result (λ nulls. Asked n (IsWholeFrom 0 (suc nulls)) table.old table.new) }
     ensures left { OnOk result (IsLeft lists.entry.now table.new memory.old memory.new) }
     ensures steps { OnOk result (IsCounted 0 (steps.old + length memory.new.known) table.old (steps.new + length memory.old.known) table.new) }
+    ensures later { steps.old ≤ steps.new }
 {
     for nulls in 0..last {
         if visit(alloc, lists, table, memory, Key::Whole { nulls }, steps)? {

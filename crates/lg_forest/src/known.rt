@@ -1,5 +1,5 @@
 //! The alternatives that workers found.
-ghost use Rattle.std.specs.Prelude.{◌≡◌, ◌+◌, [], ◌⊎◌, MatchOption, OnOk, List, length};
+ghost use Rattle.std.specs.Prelude.{◌≡◌, ◌+◌, [], ◌⊎◌, MatchOption, OnErr, OnOk, List, length};
 ghost use Rattle.std.specs.List.{Contains};
 ghost use Rattle.lg_region.specs.declared.key.Key.{Key};
 ghost use Rattle.lg_region.specs.declared.alternative.Alt.{Alt};
@@ -49,9 +49,11 @@ impl Known {
         self.found.swap_remove(key)
     }
 
-    /// Adds the alternatives of a key, in place of those that it has.
+    /// Adds the alternatives of a key, in place of those that it has. The only error is running out of memory, and then nothing
+    /// has changed.
     pub fn add(&mut self, key: Key, alts: Alts) -> Result<(), NoMemory>
-        ensures { OnOk result ((k : Key) (a : List Alt) → Contains self.new (k, a) → Contains self.old (k, a) ⊎ ((k ≡ key) × (a ≡ alts))) }
+        ensures added { OnOk result ((k : Key) (a : List Alt) → Contains self.new (k, a) → Contains self.old (k, a) ⊎ ((k ≡ key) × (a ≡ alts))) }
+        ensures unchanged { OnErr result (self.new ≡ self.old) }
     {
         self.found.insert(key, alts)?;
         Ok(())

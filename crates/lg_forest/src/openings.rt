@@ -1,5 +1,5 @@
 //! What is known of the regions that begin at one position with one list: the ways to begin whose left key has a linkage.
-ghost use Rattle.std.specs.Prelude.{◌≡◌, ◌⊎◌, [], List, IfSome, OnOk};
+ghost use Rattle.std.specs.Prelude.{◌≡◌, ◌⊎◌, [], List, IfSome, OnErr, OnOk};
 ghost use Rattle.std.specs.List.{Contains};
 
 use indexmap::IndexMap;
@@ -63,9 +63,11 @@ impl Openings {
         self.found.swap_remove(origin)
     }
 
-    /// Puts an opening in, in place of the one that is there.
+    /// Puts an opening in, in place of the one that is there. The only error is running out of memory, and then nothing has
+    /// changed.
     pub(crate) fn put(&mut self, origin: Origin, opening: Opening) -> Result<(), NoMemory>
-        ensures { OnOk result ((o : Origin) (x : Opening) → Contains self.new (o, x) → Contains self.old (o, x) ⊎ ((o ≡ origin) × (x ≡ opening))) }
+        ensures put { OnOk result ((o : Origin) (x : Opening) → Contains self.new (o, x) → Contains self.old (o, x) ⊎ ((o ≡ origin) × (x ≡ opening))) }
+        ensures unchanged { OnErr result (self.new ≡ self.old) }
     {
         self.found.insert(origin, opening)?;
         Ok(())

@@ -48,6 +48,7 @@ pub(crate) fn visit<L>(
     ensures asked { OnOk result (Asked lists.entry.now (λ k. k ≡ key) table.old table.new) }
     ensures left { OnOk result (IsLeft lists.entry.now table.new memory.old memory.new) }
     ensures steps { OnOk result (IsCounted 0 (steps.old + length memory.new.known) table.old (steps.new + length memory.old.known) table.new) }
+    ensures later { steps.old ≤ steps.new }
 {
     if let Some(alts) = table.get(&key) {
         return Ok(!alts.is_empty());
@@ -77,6 +78,7 @@ fn explore<L>(
     ensures asked { let n = lists.entry.now in OnOk result (Asked n (AsksNext n.positions n.lists key) table.old table.new) }
     ensures left { OnOk result (IsLeft lists.entry.now table.new memory.old memory.new) }
     ensures steps { OnOk result (IsCounted 1 (steps.old + length memory.new.known) table.old (steps.new + length memory.old.known) table.new) }
+    ensures later { steps.old ≤ steps.new }
 {
     // the call tells that the table is short
     let _size = table.len();
@@ -114,6 +116,7 @@ fn explore_gap<L>(
     ensures asked { let n = lists.entry.now in OnOk result (Asked n (AsksNext n.positions n.lists key) table.old table.new) }
     ensures left { OnOk result (IsLeft lists.entry.now table.new memory.old memory.new) }
     ensures steps { OnOk result (IsCounted 0 (steps.old + length memory.new.known) table.old (steps.new + length memory.old.known) table.new) }
+    ensures later { steps.old ≤ steps.new }
 {
     if gap.llist != 0 && gap.nulls == 0 {
         return explore_opening(alloc, lists, table, memory, key, &gap, steps);
@@ -144,6 +147,7 @@ fn explore_opening<L>(
     ensures asked { let n = lists.entry.now in OnOk result (Asked n (AsksNext n.positions n.lists key) table.old table.new) }
     ensures left { OnOk result (IsLeft lists.entry.now table.new memory.old memory.new) }
     ensures steps { OnOk result (IsCounted 0 (steps.old + length memory.new.known) table.old (steps.new + length memory.old.known) table.new) }
+    ensures later { steps.old ≤ steps.new }
 {
     alternatives_are_small();
     regions_begin_alike();
@@ -190,6 +194,7 @@ fn explore_start<L>(
     ensures asked { OnOk result (Asked lists.entry.now (AsksAmong lists.entry.now key (StartsSo gap.now start.now)) table.old table.new) }
     ensures left { OnOk result (IsLeft lists.entry.now table.new memory.old memory.new) }
     ensures steps { OnOk result (IsCounted 0 (steps.old + length memory.new.known) table.old (steps.new + length memory.old.known) table.new) }
+    ensures later { steps.old ≤ steps.new }
 {
     regions_begin_alike();
     lists.are_numbered();
@@ -233,6 +238,7 @@ fn open<L>(
     ensures asked { OnOk result (Asked lists.entry.now (AsksLeft lists.entry.now key IsAny) table.old table.new) }
     ensures left { OnOk result (IsLeft lists.entry.now table.new memory.old memory.new) }
     ensures steps { OnOk result (IsCounted 0 (steps.old + length memory.new.known) table.old (steps.new + length memory.old.known) table.new) }
+    ensures later { steps.old ≤ steps.new }
 {
     regions_begin_alike();
     lists.are_numbered();
@@ -288,6 +294,7 @@ fn open_word<L>(
     ensures asked { OnOk result (Asked lists.entry.now (AsksLeft lists.entry.now key (StandsAt word)) table.old table.new) }
     ensures left { OnOk result (IsLeft lists.entry.now table.new memory.old memory.new) }
     ensures steps { OnOk result (IsCounted 0 (steps.old + length memory.new.known) table.old (steps.new + length memory.old.known) table.new) }
+    ensures later { steps.old ≤ steps.new }
 {
     let groups = groups_at(alloc, lists, gap, word)?;
     for index in 0..groups.len() {
@@ -333,6 +340,7 @@ fn open_group<L>(
     ensures asked { OnOk result (Asked lists.entry.now (AsksLeft lists.entry.now key (StandsIn group.now.word group.now.from group.now.to)) table.old table.new) }
     ensures left { OnOk result (IsLeft lists.entry.now table.new memory.old memory.new) }
     ensures steps { OnOk result (IsCounted 0 (steps.old + length memory.new.known) table.old (steps.new + length memory.old.known) table.new) }
+    ensures later { steps.old ≤ steps.new }
 {
     let found = beginnings(alloc, lists, gap, group)?;
     let begins = found.as_slice();
@@ -368,6 +376,7 @@ fn explore_all<L>(
     ensures asked { let n = lists.entry.now in OnOk result (Asked n (AsksNext n.positions n.lists key) table.old table.new) }
     ensures left { OnOk result (IsLeft lists.entry.now table.new memory.old memory.new) }
     ensures steps { OnOk result (IsCounted 1 (steps.old + length memory.new.known) table.old (steps.new + length memory.old.known) table.new) }
+    ensures later { steps.old ≤ steps.new }
 {
     // the call tells that the table is short
     let _size = table.len();
@@ -413,6 +422,7 @@ fn explore_groups<L>(
     ensures asked { let n = lists.entry.now in OnOk result (Asked n (AsksNext n.positions n.lists key) table.old table.new) }
     ensures left { OnOk result (IsLeft lists.entry.now table.new memory.old memory.new) }
     ensures steps { OnOk result (IsCounted 0 (steps.old + length memory.new.known) table.old (steps.new + length memory.old.known) table.new) }
+    ensures later { steps.old ≤ steps.new }
 {
     alternatives_are_small();
     lists.are_numbered();
@@ -460,6 +470,7 @@ fn explore_group<L>(
     ensures asked { OnOk result (Asked lists.entry.now (AsksAmong lists.entry.now key (StandsIn group.now.word group.now.from group.now.to)) table.old table.new) }
     ensures left { OnOk result (IsLeft lists.entry.now table.new memory.old memory.new) }
     ensures steps { OnOk result (IsCounted 0 (steps.old + length memory.new.known) table.old (steps.new + length memory.old.known) table.new) }
+    ensures later { steps.old ≤ steps.new }
 {
     let found = beginnings(alloc, lists, gap, group)?;
     let begins = found.as_slice();
@@ -499,6 +510,7 @@ fn explore_beginning<L>(
     ensures asked { OnOk result (Asked lists.entry.now (AsksAmong lists.entry.now key (IsEnding gap.now group.now begin.now)) table.old table.new) }
     ensures left { OnOk result (IsLeft lists.entry.now table.new memory.old memory.new) }
     ensures steps { OnOk result (IsCounted 0 (steps.old + length memory.new.known) table.old (steps.new + length memory.old.known) table.new) }
+    ensures later { steps.old ≤ steps.new }
 {
     let lkey = begin.key(gap, group);
     if !visit(alloc, lists, table, memory, lkey, steps)? {
@@ -534,6 +546,7 @@ fn alts_of<L>(
     ensures kept { AreKnown lists.entry.now known.new }
     ensures fewer { length known.new ≤ length known.old }
     ensures steps { steps.new + length known.old ≡ 1 + steps.old + length known.new }
+    ensures later { steps.old ≤ steps.new }
 {
     if let Some(alts) = known.take(&key) {
         return Ok(alts);
@@ -563,6 +576,7 @@ fn is_live<L>(
     ensures last { OnOk result (IsLast lists.entry.now table.new last.new) }
     ensures left { OnOk result (IsLeft lists.entry.now table.new memory.old memory.new) }
     ensures steps { OnOk result (IsCounted 0 (steps.old + length memory.new.known) table.old (steps.new + length memory.old.known) table.new) }
+    ensures later { steps.old ≤ steps.new }
 {
     match alt {
         Alt::AllNull => Ok(true),
@@ -598,6 +612,7 @@ fn visit_left<L>(
     ensures last { OnOk result (IsLast lists.entry.now table.new last.new) }
     ensures left { OnOk result (IsLeft lists.entry.now table.new memory.old memory.new) }
     ensures steps { OnOk result (IsCounted 0 (steps.old + length memory.new.known) table.old (steps.new + length memory.old.known) table.new) }
+    ensures later { steps.old ≤ steps.new }
 {
     if last.key == key {
         return Ok(last.live);
@@ -626,6 +641,7 @@ fn visit_part<L>(
     ensures asked { OnOk result (Asked lists.entry.now (λ k. key ≡ Some k) table.old table.new) }
     ensures left { OnOk result (IsLeft lists.entry.now table.new memory.old memory.new) }
     ensures steps { OnOk result (IsCounted 0 (steps.old + length memory.new.known) table.old (steps.new + length memory.old.known) table.new) }
+    ensures later { steps.old ≤ steps.new }
 {
     match key {
         None => Ok(true),

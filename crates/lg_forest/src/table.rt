@@ -1,5 +1,5 @@
 //! The keys that were asked for, each with its live alternatives.
-ghost use Rattle.std.specs.Prelude.{◌≡◌, ◌≢◌, ◌↔◌, ◌<◌, ◌^◌, [], ◌∷◌, ◌++◌, IsTrue, MatchOption, OnOk, List, length};
+ghost use Rattle.std.specs.Prelude.{◌≡◌, ◌≢◌, ◌↔◌, ◌<◌, ◌^◌, [], ◌∷◌, ◌++◌, IsTrue, MatchOption, OnErr, OnOk, List, length};
 ghost use Rattle.std.specs.List.{Contains};
 ghost use Rattle.std.specs.Map.{keys_of};
 ghost use Rattle.lg_region.specs.Fronts.{AreOnce};
@@ -54,10 +54,11 @@ impl Table {
         self.found.get(key)
     }
 
-    /// Adds a key that is not there.
+    /// Adds a key that is not there. The only error is running out of memory, and then nothing has changed.
     pub fn add(&mut self, key: Key, alts: Alts) -> Result<(), NoMemory>
         requires { Contains (keys_of self.old) key → ⊥ }
-        ensures { OnOk result (self.new ≡ self.old ++ (key, alts) ∷ []) }
+        ensures added { OnOk result (self.new ≡ self.old ++ (key, alts) ∷ []) }
+        ensures unchanged { OnErr result (self.new ≡ self.old) }
     {
         self.found.insert(key, alts)?;
         Ok(())

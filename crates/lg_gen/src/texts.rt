@@ -32,28 +32,28 @@ pub fn generate(alloc: Global, seed: u32, words: u32, sentences: u32) -> Result<
     ensures script { IfOk result (λ made. made.script ≡ made_script seed words sentences) }
 {
     let mut dict = Vec::new(alloc);
-    write_dictionary(alloc, &mut dict, words)?;
+    write_dictionary(&mut dict, words)?;
     let mut script = Vec::new(alloc);
-    write_script(alloc, &mut script, seed, words, sentences)?;
+    write_script(&mut script, seed, words, sentences)?;
     Ok(Generated {
         dict: Text::of(alloc, &dict)?,
         script: Text::of(alloc, &script)?,
     })
 }
 
-fn write_dictionary(alloc: Global, out: &mut Vec<u8>, words: u32) -> Result<(), NoMemory>
+fn write_dictionary(out: &mut Vec<u8>, words: u32) -> Result<(), NoMemory>
     ensures { OnOk result (out.new.items ≡ out.old.items ++ made_dictionary words) }
 {
     for number in 0..words {
-        write_entry(alloc, out, number)?;
+        write_entry(out, number)?;
     }
     Ok(())
 }
 
-fn write_entry(alloc: Global, out: &mut Vec<u8>, number: u32) -> Result<(), NoMemory>
+fn write_entry(out: &mut Vec<u8>, number: u32) -> Result<(), NoMemory>
     ensures { OnOk result (out.new.items ≡ out.old.items ++ entry_line number) }
 {
-    write_word(alloc, out, number)?;
+    write_word(out, number)?;
     write_bytes(out, b": ")?;
     write_bytes(out, expression_of(number % 4))?;
     write_bytes(out, b";\n")
@@ -70,76 +70,54 @@ fn expression_of(remainder: u32) -> &'static [u8]
     }
 }
 
-fn write_word(alloc: Global, out: &mut Vec<u8>, number: u32) -> Result<(), NoMemory>
+fn write_word(out: &mut Vec<u8>, number: u32) -> Result<(), NoMemory>
     ensures { OnOk result (out.new.items ≡ out.old.items ++ word number) }
 {
     write_bytes(out, b"w")?;
-    write_number(alloc, out, u64::from(number))
+    write_number(out, u64::from(number))
 }
 
-fn write_script(
-    alloc: Global,
-    out: &mut Vec<u8>,
-    seed: u32,
-    words: u32,
-    sentences: u32,
-) -> Result<(), NoMemory>
+fn write_script(out: &mut Vec<u8>, seed: u32, words: u32, sentences: u32) -> Result<(), NoMemory>
     requires { 0 < words }
     ensures { OnOk result (out.new.items ≡ out.old.items ++ made_script seed words sentences) }
 {
     let mut draws = Draws { state: seed };
     for _ in 0..sentences {
-        write_sentence(alloc, out, words, &mut draws)?;
+        write_sentence(out, words, &mut draws)?;
     }
     Ok(())
 }
 
-fn write_sentence(
-    alloc: Global,
-    out: &mut Vec<u8>,
-    words: u32,
-    draws: &mut Draws,
-) -> Result<(), NoMemory>
+fn write_sentence(out: &mut Vec<u8>, words: u32, draws: &mut Draws) -> Result<(), NoMemory>
     requires { 0 < words }
     ensures text { OnOk result (out.new.items ≡ out.old.items ++ sentence_line words draws.old.state) }
     ensures state { OnOk result (draws.new.state ≡ behind_sentence draws.old.state) }
 {
     write_bytes(out, b"parse")?;
     let count = 2 + draws.below(7);
-    write_drawn(alloc, out, words, draws, count)?;
+    write_drawn(out, words, draws, count)?;
     write_bytes(out, b"\n")
 }
 
 // So many words are drawn, and each is written behind a space.
-fn write_drawn(
-    alloc: Global,
-    out: &mut Vec<u8>,
-    words: u32,
-    draws: &mut Draws,
-    count: u32,
-) -> Result<(), NoMemory>
+fn write_drawn(out: &mut Vec<u8>, words: u32, draws: &mut Draws, count: u32) -> Result<(), NoMemory>
     requires { 0 < words }
     ensures text { OnOk result (out.new.items ≡ out.old.items ++ drawn_words words count draws.old.state) }
     ensures state { OnOk result (draws.new.state ≡ after count draws.old.state) }
 {
     for _ in 0..count {
-        write_one_drawn(alloc, out, words, draws)?;
+        write_one_drawn(out, words, draws)?;
     }
     Ok(())
 }
 
-fn write_one_drawn(
-    alloc: Global,
-    out: &mut Vec<u8>,
-    words: u32,
-    draws: &mut Draws,
-) -> Result<(), NoMemory>
+fn write_one_drawn(out: &mut Vec<u8>, words: u32, draws: &mut Draws) -> Result<(), NoMemory>
     requires { 0 < words }
     ensures text { OnOk result (out.new.items ≡ out.old.items ++ (codes " " ++ word (drawn words (next draws.old.state)))) }
     ensures state { OnOk result (draws.new.state ≡ next draws.old.state) }
 {
     write_bytes(out, b" ")?;
-    write_word(alloc, out, draws.below(words))
+    write_word(out, draws.below(words))
 }
 
 /// Numbers that are drawn one after another, each from a state that the one before left.

@@ -11,7 +11,10 @@ use Rattle.lg_member.specs.Members.{seen_of, IsSideAt, IsKnown, Grows, AddsMembe
 use Rattle.lg_member.specs.declared.side.Side.{Side}
 use Rattle.lg_member.specs.declared.member.Member.{Member}
 
-grows_more : (a b c : List Side) → Grows a b → Grows b c → Grows a c
+pub grows_none : (a : List Side) → Grows a a
+grows_none a = record { more = []; added = sym (append-nil a) }
+
+pub grows_more : (a b c : List Side) → Grows a b → Grows b c → Grows a c
 grows_more a b c g h = record { more = g.more ++ h.more; added = h.added ∙ ap (λ z. z ++ h.more) g.added ∙ append_assoc a g.more h.more }
 
 get_still : (a b : List Side) (k : ℕ) (s : Side) → slice_get a k ≡ Some s → slice_get (a ++ b) k ≡ Some s

@@ -28,7 +28,8 @@ impl Member<'_> {
 }
 
 /// All disjuncts of the positions, in order, each with the numbers of its lists among `lefts` and `rights`, which get them. There are at most
-/// 252 positions. The only error is running out of memory.
+/// 252 positions. The only error is running out of memory: what the two lists had stands in front still, and some that were
+/// added may stand behind it.
 pub fn members_of<'a>(
     alloc: Global,
     positions: &'a [Disjuncts],
@@ -36,7 +37,9 @@ pub fn members_of<'a>(
     rights: &mut Vec<Side<'a>>,
 ) -> Result<Vec<Member<'a>>, NoMemory>
     requires { length positions.now ≤ POSITIONS }
-    ensures { IfOk result (λ members. AreMembers positions.now lefts.new.items rights.new.items members.items) }
+    ensures lefts { Grows lefts.old.items lefts.new.items }
+    ensures rights { Grows rights.old.items rights.new.items }
+    ensures members { IfOk result (λ members. AreMembers positions.now lefts.new.items rights.new.items members.items) }
 {
     let mut left_hints = Hints::new(alloc);
     let mut right_hints = Hints::new(alloc);
@@ -64,7 +67,9 @@ fn push_members<'a>(
     right_hints: &mut Hints<'a>,
     members: &mut Vec<Member<'a>>,
 ) -> Result<(), NoMemory>
-    ensures { OnOk result (AddsMembers position disjuncts.now lefts.old.items rights.old.items lefts.new.items rights.new.items members.old.items members.new.items) }
+    ensures lefts { Grows lefts.old.items lefts.new.items }
+    ensures rights { Grows rights.old.items rights.new.items }
+    ensures added { OnOk result (AddsMembers position disjuncts.now lefts.old.items rights.old.items lefts.new.items rights.new.items members.old.items members.new.items) }
 {
     for disjunct in disjuncts {
         let left = number_of(lefts, left_hints, position, disjunct.left.items())?;
@@ -86,7 +91,7 @@ fn number_of<'a>(
     position: u32,
     list: &'a [Connector],
 ) -> Result<usize, NoMemory>
-    ensures grows { OnOk result (Grows sides.old.items sides.new.items) }
+    ensures grows { Grows sides.old.items sides.new.items }
     ensures number { IfOk result (λ k. IsSideAt sides.new.items k position list.now) }
 {
     if let Some(number) = known(sides, hints, position, list) {

@@ -21,6 +21,11 @@ pub record AddsExactly {A : Type 0} (old new : List A) (P : A → Type 0) : Type
   pub added : new ≡ old ++ more
   pub exactly : AreExactly more P
 
+-- what a list had stands in front still
+pub record KeepsFront {A : Type 0} (old new : List A) : Type 0 where
+  pub more : List A
+  pub added : new ≡ old ++ more
+
 -- what is kept of the end of a list
 pub record IsEndOf (lists : List (List Connector)) (number : ℕ) (e : End) : Type 0 where
   pub itself : e.id ≡ number

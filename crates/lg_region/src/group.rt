@@ -1,6 +1,6 @@
 //! The alternatives of a region that cut it at one word, by disjuncts with the same left list.
 ghost use Rattle.std.specs.Prelude.{◌≡◌, ◌≤◌, ◌++◌, map, IfOk, OnOk};
-ghost use Rattle.lg_region.specs.Ways.{AreExactly};
+ghost use Rattle.lg_region.specs.Ways.{AreExactly, KeepsFront};
 ghost use Rattle.lg_region.specs.Groups.{AddsIn, IsGroup, IsKnownGap, IsRightOf, right_of, split_of, splits_with};
 
 use crate::alternative::Alt;
@@ -136,7 +136,8 @@ pub(crate) fn push_with_left(
     out: &mut Vec<Alt>,
 ) -> Result<(), NoMemory>
     requires { nulls ≤ gap.now.nulls }
-    ensures { OnOk result (out.new.items ≡ out.old.items ++ map (split_of gap.now word nulls left.now) rights.now) }
+    ensures kept { KeepsFront out.old.items out.new.items }
+    ensures added { OnOk result (out.new.items ≡ out.old.items ++ map (split_of gap.now word nulls left.now) rights.now) }
 {
     let lkey = Key::Region {
         left: gap.left,

@@ -4,7 +4,7 @@ ghost use Rattle.lg_region.specs.Openings.{AreBeginnings, AreGroups, BeginsSo, G
 ghost use Rattle.lg_region.specs.Groups.{IsGroup, IsKnownGap, StandsIn, region_of_gap};
 ghost use Rattle.lg_region.specs.Keys.{IsAltOfRegion, IsValidKey};
 ghost use Rattle.lg_region.specs.declared.group.Gap.{Gap as SeenGap};
-ghost use Rattle.lg_region.specs.Ways.{AddsExactly};
+ghost use Rattle.lg_region.specs.Ways.{AddsExactly, KeepsFront};
 
 use crate::alternative::Alt;
 use crate::expand::{lead_of, run_end};
@@ -199,7 +199,8 @@ fn has_right(lists: &Lists<'_>, gap: &Gap, group: &Group) -> bool
     false
 }
 
-/// Adds the alternatives of a group that begin so.
+/// Adds the alternatives of a group that begin so. The only error is running out of memory: what the list had stands in front
+/// still, and some that were added may stand behind it.
 pub fn push_endings(
     alloc: Global,
     lists: &Lists<'_>,
@@ -211,7 +212,8 @@ pub fn push_endings(
     requires gap { IsKnownGap lists.now gap.now }
     requires group { IsGroup lists.now gap.now group.now }
     requires begins { (a : _) × IsAltOfRegion lists.now.positions lists.now.lists (region_of_gap lists.now.lists gap.now) a × StandsIn group.now.word group.now.from group.now.to a × BeginsSo gap.now group.now begin.now a }
-    ensures { OnOk result (AddsExactly out.old.items out.new.items (λ a. IsAltOfRegion lists.entry.now.positions lists.entry.now.lists (region_of_gap lists.entry.now.lists gap.now) a × StandsIn group.now.word group.now.from group.now.to a × BeginsSo gap.now group.now begin.now a)) }
+    ensures kept { KeepsFront out.old.items out.new.items }
+    ensures endings { OnOk result (AddsExactly out.old.items out.new.items (λ a. IsAltOfRegion lists.entry.now.positions lists.entry.now.lists (region_of_gap lists.entry.now.lists gap.now) a × StandsIn group.now.word group.now.from group.now.to a × BeginsSo gap.now group.now begin.now a)) }
 {
     lists.are_numbered();
     let rights = rights(alloc, lists, gap, group)?;

@@ -206,25 +206,25 @@ fn refusal(alloc: Global, name: &[u8], why: &[Piece<'_>]) -> Result<Vec<u8>, NoM
     ensures { IfOk result (λ line. line.items ≡ refusal_line name.now (map piece_text why.now)) }
 {
     let mut line = about(alloc, b"lgparse: ", name, b": ")?;
-    write_pieces(alloc, &mut line, why)?;
+    write_pieces(&mut line, why)?;
     write_bytes(&mut line, b"\n")?;
     Ok(line)
 }
 
-fn write_pieces(alloc: Global, out: &mut Vec<u8>, pieces: &[Piece<'_>]) -> Result<(), NoMemory>
+fn write_pieces(out: &mut Vec<u8>, pieces: &[Piece<'_>]) -> Result<(), NoMemory>
     ensures { OnOk result (out.new.items ≡ out.old.items ++ flat_map piece_text pieces.now) }
 {
     for piece in pieces {
-        write_piece(alloc, out, piece)?;
+        write_piece(out, piece)?;
     }
     Ok(())
 }
 
-fn write_piece(alloc: Global, out: &mut Vec<u8>, piece: &Piece<'_>) -> Result<(), NoMemory>
+fn write_piece(out: &mut Vec<u8>, piece: &Piece<'_>) -> Result<(), NoMemory>
     ensures { OnOk result (out.new.items ≡ out.old.items ++ piece_text piece.now) }
 {
     match piece {
         Piece::Text(bytes) => write_bytes(out, bytes),
-        Piece::Number(number) => write_number(alloc, out, *number),
+        Piece::Number(number) => write_number(out, *number),
     }
 }

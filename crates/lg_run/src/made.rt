@@ -246,45 +246,40 @@ fn text_of(
 {
     let asked = [u64::from(seed), u64::from(words), u64::from(sentences)];
     let mut out = Vec::new(alloc);
-    write_line(alloc, &mut out, b"gen", &asked)?;
-    write_line(alloc, &mut out, b"sentences", &[u64::from(sentences)])?;
-    write_sums(alloc, &mut out, sums)?;
+    write_line(&mut out, b"gen", &asked)?;
+    write_line(&mut out, b"sentences", &[u64::from(sentences)])?;
+    write_sums(&mut out, sums)?;
     Ok(out)
 }
 
 // Appends a line for each sum.
-fn write_sums(alloc: Global, out: &mut Vec<u8>, sums: Sums) -> Result<(), NoMemory>
+fn write_sums(out: &mut Vec<u8>, sums: Sums) -> Result<(), NoMemory>
     ensures { OnOk result (out.new.items ≡ out.old.items ++ sum_lines sums) }
 {
-    write_line(alloc, out, b"examined", &[sums.examined])?;
-    write_line(alloc, out, b"shown", &[sums.shown])?;
-    write_line(alloc, out, b"unused", &[sums.unused])?;
-    write_line(alloc, out, b"length", &[sums.lengths])?;
+    write_line(out, b"examined", &[sums.examined])?;
+    write_line(out, b"shown", &[sums.shown])?;
+    write_line(out, b"unused", &[sums.unused])?;
+    write_line(out, b"length", &[sums.lengths])?;
     Ok(())
 }
 
 // Appends a line with a word and numbers behind it.
-fn write_line(
-    alloc: Global,
-    out: &mut Vec<u8>,
-    word: &[u8],
-    numbers: &[u64],
-) -> Result<(), NoMemory>
+fn write_line(out: &mut Vec<u8>, word: &[u8], numbers: &[u64]) -> Result<(), NoMemory>
     ensures { OnOk result (out.new.items ≡ out.old.items ++ line_of (word.now ∷ map decimal numbers.now)) }
 {
     write_bytes(out, word)?;
-    write_numbers(alloc, out, numbers)?;
+    write_numbers(out, numbers)?;
     write_bytes(out, b"\n")?;
     Ok(())
 }
 
 // Appends the numbers, each behind a space.
-fn write_numbers(alloc: Global, out: &mut Vec<u8>, numbers: &[u64]) -> Result<(), NoMemory>
+fn write_numbers(out: &mut Vec<u8>, numbers: &[u64]) -> Result<(), NoMemory>
     ensures { OnOk result (out.new.items ≡ out.old.items ++ flat_map (λ n. 32 ∷ decimal n) numbers.now) }
 {
     for number in numbers {
         write_bytes(out, b" ")?;
-        write_number(alloc, out, *number)?;
+        write_number(out, *number)?;
     }
     Ok(())
 }

@@ -15,26 +15,16 @@ pub fn journal_text(alloc: Global, journal: &[Place]) -> Result<Vec<u8>, NoMemor
     ensures { IfOk result (λ bytes. bytes.items ≡ journal_text journal.now) }
 {
     let mut out = Vec::new(alloc);
-    write_line(
-        alloc,
-        &mut out,
-        b"journal",
-        &[Piece::Number(journal.len() as u64)],
-    )?;
+    write_line(&mut out, b"journal", &[Piece::Number(journal.len() as u64)])?;
     for (earlier, place) in journal.iter().enumerate() {
-        write_edit(alloc, &mut out, earlier as u64 + 1, *place)?;
+        write_edit(&mut out, earlier as u64 + 1, *place)?;
     }
-    write_line(alloc, &mut out, b"done", &[])?;
+    write_line(&mut out, b"done", &[])?;
     Ok(out)
 }
 
-fn write_edit(alloc: Global, out: &mut Vec<u8>, version: u64, place: Place) -> Result<(), NoMemory>
+fn write_edit(out: &mut Vec<u8>, version: u64, place: Place) -> Result<(), NoMemory>
     ensures { OnOk result (out.new.items ≡ out.old.items ++ edit_line (version, place)) }
 {
-    write_line(
-        alloc,
-        out,
-        b"edit",
-        &[Piece::Number(version), Piece::Place(place)],
-    )
+    write_line(out, b"edit", &[Piece::Number(version), Piece::Place(place)])
 }

@@ -31,13 +31,12 @@ pub fn linkage_text(
     ensures { IfOk result (λ bytes. bytes.items ≡ linkage_text tokens.now number g.now) }
 {
     let mut out = Vec::new(alloc);
-    write_linkage(alloc, &mut out, tokens, number, g)?;
+    write_linkage(&mut out, tokens, number, g)?;
     Ok(out)
 }
 
 // Appends the text of a linkage.
 pub(crate) fn write_linkage(
-    alloc: Global,
     out: &mut Vec<u8>,
     tokens: &Tokens,
     number: u64,
@@ -46,13 +45,13 @@ pub(crate) fn write_linkage(
     requires { IsPrintable tokens.now g.now }
     ensures { OnOk result (out.new.items ≡ out.old.items ++ linkage_text tokens.now number g.now) }
 {
-    write_heading(alloc, out, number, g)?;
-    write_words(alloc, out, tokens.items(), g.chosen())?;
-    write_links(alloc, out, g)?;
+    write_heading(out, number, g)?;
+    write_words(out, tokens.items(), g.chosen())?;
+    write_links(out, g)?;
     Ok(())
 }
 
-fn write_heading(alloc: Global, out: &mut Vec<u8>, number: u64, g: &Linkage) -> Result<(), NoMemory>
+fn write_heading(out: &mut Vec<u8>, number: u64, g: &Linkage) -> Result<(), NoMemory>
     ensures { OnOk result (out.new.items ≡ out.old.items ++ heading_line number g.now) }
 {
     let pieces = [
@@ -64,11 +63,10 @@ fn write_heading(alloc: Global, out: &mut Vec<u8>, number: u64, g: &Linkage) -> 
         Piece::Word(b"length"),
         Piece::Number(g.length()),
     ];
-    write_line(alloc, out, b"linkage", &pieces)
+    write_line(out, b"linkage", &pieces)
 }
 
 fn write_words(
-    alloc: Global,
     out: &mut Vec<u8>,
     tokens: &[Token],
     choices: &[Option<Disjunct>],
@@ -76,13 +74,12 @@ fn write_words(
     ensures { OnOk result (out.new.items ≡ out.old.items ++ flat_map word_line (enumerate_from 0 (zip tokens.now choices.now))) }
 {
     for (position, (token, choice)) in tokens.iter().zip(choices).enumerate() {
-        write_word(alloc, out, position, token, choice)?;
+        write_word(out, position, token, choice)?;
     }
     Ok(())
 }
 
 fn write_word<'a>(
-    alloc: Global,
     out: &mut Vec<u8>,
     position: usize,
     token: &'a Token,
@@ -93,7 +90,7 @@ fn write_word<'a>(
     let position = Piece::Number(position as u64);
     let text = Piece::Word(token.text.bytes());
     match choice {
-        None => write_line(alloc, out, b"word", &[position, text, Piece::Word(b"null")]),
+        None => write_line(out, b"word", &[position, text, Piece::Word(b"null")]),
         Some(disjunct) => {
             let pieces = [
                 position,
@@ -103,22 +100,22 @@ fn write_word<'a>(
                 Piece::Side(disjunct.right.items()),
                 Piece::Cost(disjunct.cost),
             ];
-            write_line(alloc, out, b"word", &pieces)
+            write_line(out, b"word", &pieces)
         }
     }
 }
 
-fn write_links(alloc: Global, out: &mut Vec<u8>, g: &Linkage) -> Result<(), NoMemory>
+fn write_links(out: &mut Vec<u8>, g: &Linkage) -> Result<(), NoMemory>
     requires { IsMatched (rights_of g.now) (lefts_of g.now) (HasLink g.now) }
     ensures { OnOk result (out.new.items ≡ out.old.items ++ flat_map (link_line g.now) g.now.links) }
 {
     for link in g.links() {
-        write_link(alloc, out, g, link)?;
+        write_link(out, g, link)?;
     }
     Ok(())
 }
 
-fn write_link(alloc: Global, out: &mut Vec<u8>, g: &Linkage, link: &Link) -> Result<(), NoMemory>
+fn write_link(out: &mut Vec<u8>, g: &Linkage, link: &Link) -> Result<(), NoMemory>
     requires { Joins (rights_of g.now) (lefts_of g.now) link.now }
     ensures { OnOk result (out.new.items ≡ out.old.items ++ link_line g.now link.now) }
 {
@@ -130,5 +127,5 @@ fn write_link(alloc: Global, out: &mut Vec<u8>, g: &Linkage, link: &Link) -> Res
         Piece::Number(u64::from(link.lplace)),
         Piece::Number(u64::from(link.rplace)),
     ];
-    write_line(alloc, out, b"link", &pieces)
+    write_line(out, b"link", &pieces)
 }

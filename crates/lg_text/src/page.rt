@@ -66,17 +66,12 @@ pub(crate) fn write_listing(
     requires { All (λ item. IsPrintable tokens.now item.linkage) page.now.items }
     ensures { OnOk result (out.new.items ≡ out.old.items ++ listing_text look tokens.now page.now stats) }
 {
-    write_stats(alloc, out, stats, look)?;
+    write_stats(out, stats, look)?;
     write_page(alloc, out, tokens, page, look)
 }
 
 // Appends the line of the numbers of disjuncts, where it is asked for and they are there.
-fn write_stats(
-    alloc: Global,
-    out: &mut Vec<u8>,
-    stats: Option<Stats>,
-    look: Look,
-) -> Result<(), NoMemory>
+fn write_stats(out: &mut Vec<u8>, stats: Option<Stats>, look: Look) -> Result<(), NoMemory>
     ensures { OnOk result (out.new.items ≡ out.old.items ++ shown_stats look.stats stats) }
 {
     match stats {
@@ -87,7 +82,7 @@ fn write_stats(
                 Piece::Word(b"kept"),
                 Piece::Number(stats.kept),
             ];
-            write_line(alloc, out, b"stats", &pieces)
+            write_line(out, b"stats", &pieces)
         }
         _ => Ok(()),
     }
@@ -107,7 +102,7 @@ fn write_page(
     for item in page.items.items() {
         write_item(alloc, out, tokens, item, look)?;
     }
-    write_page_line(alloc, out, page)
+    write_page_line(out, page)
 }
 
 fn write_item(
@@ -122,7 +117,7 @@ fn write_item(
 {
     match &item.broken {
         None => write_passing(alloc, out, tokens, item, look),
-        Some(violation) => write_fail(alloc, out, item.number, violation),
+        Some(violation) => write_fail(out, item.number, violation),
     }
 }
 
@@ -137,19 +132,14 @@ fn write_passing(
     requires { IsPrintable tokens.now item.now.linkage }
     ensures { OnOk result (out.new.items ≡ out.old.items ++ (linkage_text tokens.now item.now.number item.now.linkage ++ shown_diagram look.diagram tokens.now item.now.linkage)) }
 {
-    write_linkage(alloc, out, tokens, item.number, &item.linkage)?;
+    write_linkage(out, tokens, item.number, &item.linkage)?;
     if look.diagram {
         write_diagram(alloc, out, b">", tokens, &item.linkage)?;
     }
     Ok(())
 }
 
-fn write_fail(
-    alloc: Global,
-    out: &mut Vec<u8>,
-    number: u64,
-    violation: &Violation,
-) -> Result<(), NoMemory>
+fn write_fail(out: &mut Vec<u8>, number: u64, violation: &Violation) -> Result<(), NoMemory>
     ensures { OnOk result (out.new.items ≡ out.old.items ++ fail_line number violation.now) }
 {
     let pieces = [
@@ -160,10 +150,10 @@ fn write_fail(
         Piece::Number(u64::from(violation.left)),
         Piece::Number(u64::from(violation.right)),
     ];
-    write_line(alloc, out, b"fail", &pieces)
+    write_line(out, b"fail", &pieces)
 }
 
-fn write_page_line(alloc: Global, out: &mut Vec<u8>, page: &Page) -> Result<(), NoMemory>
+fn write_page_line(out: &mut Vec<u8>, page: &Page) -> Result<(), NoMemory>
     ensures { OnOk result (out.new.items ≡ out.old.items ++ page_line page.now) }
 {
     let examined = page.items.items();
@@ -176,7 +166,7 @@ fn write_page_line(alloc: Global, out: &mut Vec<u8>, page: &Page) -> Result<(), 
         Piece::Number(page.next),
         Piece::Word(if page.end { b"end" } else { b"more" }),
     ];
-    write_line(alloc, out, b"page", &pieces)
+    write_line(out, b"page", &pieces)
 }
 
 // How many candidates pass.
@@ -192,7 +182,7 @@ pub fn bound_text(alloc: Global, bound: Bound) -> Result<Vec<u8>, NoMemory>
     ensures { IfOk result (λ bytes. bytes.items ≡ bound_line bound) }
 {
     let mut out = Vec::new(alloc);
-    write_line(alloc, &mut out, b"too", &many(bound))?;
+    write_line(&mut out, b"too", &many(bound))?;
     Ok(out)
 }
 

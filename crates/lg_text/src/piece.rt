@@ -7,7 +7,6 @@ ghost use Rattle.lg_text.specs.Pieces.{piece_text, spaced, line_end};
 
 use lg_base::{Cost, NoMemory, write_bytes, write_cost, write_number};
 use lg_gram::{Connector, Place};
-use std::alloc::Global;
 
 // A part of a line.
 #[derive(Clone, Copy)]
@@ -23,7 +22,6 @@ pub(crate) enum Piece<'a> {
 
 // Appends a line that begins with the word and has the pieces behind it, each after a space.
 pub(crate) fn write_line(
-    alloc: Global,
     out: &mut Vec<u8>,
     word: &[u8],
     pieces: &[Piece<'_>],
@@ -31,64 +29,56 @@ pub(crate) fn write_line(
     ensures { OnOk result (out.new.items ≡ out.old.items ++ line_of (word.now ∷ map piece_text pieces.now)) }
 {
     write_bytes(out, word)?;
-    write_line_end(alloc, out, pieces)
+    write_line_end(out, pieces)
 }
 
 // Appends the pieces behind a line that has begun, each after a space, and ends the line.
-pub(crate) fn write_line_end(
-    alloc: Global,
-    out: &mut Vec<u8>,
-    pieces: &[Piece<'_>],
-) -> Result<(), NoMemory>
+pub(crate) fn write_line_end(out: &mut Vec<u8>, pieces: &[Piece<'_>]) -> Result<(), NoMemory>
     ensures { OnOk result (out.new.items ≡ out.old.items ++ line_end (map piece_text pieces.now)) }
 {
-    write_pieces(alloc, out, pieces)?;
+    write_pieces(out, pieces)?;
     write_bytes(out, b"\n")?;
     Ok(())
 }
 
 // Appends the pieces, each after a space.
-pub(crate) fn write_pieces(
-    alloc: Global,
-    out: &mut Vec<u8>,
-    pieces: &[Piece<'_>],
-) -> Result<(), NoMemory>
+pub(crate) fn write_pieces(out: &mut Vec<u8>, pieces: &[Piece<'_>]) -> Result<(), NoMemory>
     ensures { OnOk result (out.new.items ≡ out.old.items ++ spaced (map piece_text pieces.now)) }
 {
     for piece in pieces {
         write_bytes(out, b" ")?;
-        write_piece(alloc, out, piece)?;
+        write_piece(out, piece)?;
     }
     Ok(())
 }
 
-fn write_piece(alloc: Global, out: &mut Vec<u8>, piece: &Piece<'_>) -> Result<(), NoMemory>
+fn write_piece(out: &mut Vec<u8>, piece: &Piece<'_>) -> Result<(), NoMemory>
     ensures { OnOk result (out.new.items ≡ out.old.items ++ piece_text piece.now) }
 {
     match piece {
         Piece::Word(bytes) => write_bytes(out, bytes),
-        Piece::Number(number) => write_number(alloc, out, *number),
-        Piece::NumberColon(number) => write_number_colon(alloc, out, *number),
-        Piece::Cost(cost) => write_cost(alloc, out, *cost),
+        Piece::Number(number) => write_number(out, *number),
+        Piece::NumberColon(number) => write_number_colon(out, *number),
+        Piece::Cost(cost) => write_cost(out, *cost),
         Piece::Side(connectors) => write_side(out, connectors),
-        Piece::Place(place) => write_place(alloc, out, *place),
+        Piece::Place(place) => write_place(out, *place),
     }
 }
 
-fn write_number_colon(alloc: Global, out: &mut Vec<u8>, number: u64) -> Result<(), NoMemory>
+fn write_number_colon(out: &mut Vec<u8>, number: u64) -> Result<(), NoMemory>
     ensures { OnOk result (out.new.items ≡ out.old.items ++ (decimal number ++ codes ":")) }
 {
-    write_number(alloc, out, number)?;
+    write_number(out, number)?;
     write_bytes(out, b":")
 }
 
 // Appends the session and the command, with a point between.
-pub(crate) fn write_place(alloc: Global, out: &mut Vec<u8>, place: Place) -> Result<(), NoMemory>
+pub(crate) fn write_place(out: &mut Vec<u8>, place: Place) -> Result<(), NoMemory>
     ensures { OnOk result (out.new.items ≡ out.old.items ++ place_text place) }
 {
-    write_number(alloc, out, u64::from(place.session))?;
+    write_number(out, u64::from(place.session))?;
     write_bytes(out, b".")?;
-    write_number(alloc, out, u64::from(place.command))
+    write_number(out, u64::from(place.command))
 }
 
 // Appends the connectors of a side, with commas between them, or a dash where there is none.

@@ -53,8 +53,8 @@ fn write_reply(
     requires { IsPrintableReply reply.now }
     ensures { OnOk result (out.new.items ≡ out.old.items ++ reply_text look place kind reply.now) }
 {
-    write_place(alloc, out, place)?;
-    write_pieces(alloc, out, &[Piece::Word(kind_name(kind))])?;
+    write_place(out, place)?;
+    write_pieces(out, &[Piece::Word(kind_name(kind))])?;
     match reply {
         Reply::Listed {
             version,
@@ -62,17 +62,17 @@ fn write_reply(
             page,
             stats,
         } => write_listed(alloc, out, *version, tokens, page, *stats, look),
-        Reply::Beyond { version, bound } => write_beyond(alloc, out, *version, *bound),
-        Reply::Published { version } => write_version(alloc, out, *version),
+        Reply::Beyond { version, bound } => write_beyond(out, *version, *bound),
+        Reply::Published { version } => write_version(out, *version),
         Reply::Refused {
             version,
             cause,
             name,
-        } => write_refused(alloc, out, *version, *cause, name.bytes()),
-        Reply::At { version } => write_line_end(alloc, out, &[Piece::Number(*version)]),
+        } => write_refused(out, *version, *cause, name.bytes()),
+        Reply::At { version } => write_line_end(out, &[Piece::Number(*version)]),
         Reply::NoListing => {
             let pieces = [Piece::Word(b"nothing"), Piece::Word(b"held")];
-            write_line_end(alloc, out, &pieces)
+            write_line_end(out, &pieces)
         }
     }
 }
@@ -91,14 +91,10 @@ fn kind_name(kind: CommandKind) -> &'static [u8]
     }
 }
 
-fn write_version(alloc: Global, out: &mut Vec<u8>, version: u64) -> Result<(), NoMemory>
+fn write_version(out: &mut Vec<u8>, version: u64) -> Result<(), NoMemory>
     ensures { OnOk result (out.new.items ≡ out.old.items ++ line_end (codes "version" ∷ decimal version ∷ [])) }
 {
-    write_line_end(
-        alloc,
-        out,
-        &[Piece::Word(b"version"), Piece::Number(version)],
-    )
+    write_line_end(out, &[Piece::Word(b"version"), Piece::Number(version)])
 }
 
 fn write_listed(
@@ -113,16 +109,11 @@ fn write_listed(
     requires { All (λ item. IsPrintable tokens.now item.linkage) page.now.items }
     ensures { OnOk result (out.new.items ≡ out.old.items ++ (line_end (codes "version" ∷ decimal version ∷ []) ++ listing_text look tokens.now page.now stats)) }
 {
-    write_version(alloc, out, version)?;
+    write_version(out, version)?;
     write_listing(alloc, out, tokens, page, stats, look)
 }
 
-fn write_beyond(
-    alloc: Global,
-    out: &mut Vec<u8>,
-    version: u64,
-    bound: Bound,
-) -> Result<(), NoMemory>
+fn write_beyond(out: &mut Vec<u8>, version: u64, bound: Bound) -> Result<(), NoMemory>
     ensures { OnOk result (out.new.items ≡ out.old.items ++ line_end (codes "version" ∷ decimal version ∷ bound_pieces bound)) }
 {
     let start = [
@@ -130,12 +121,11 @@ fn write_beyond(
         Piece::Number(version),
         Piece::Word(b"too"),
     ];
-    write_pieces(alloc, out, &start)?;
-    write_line_end(alloc, out, &many(bound))
+    write_pieces(out, &start)?;
+    write_line_end(out, &many(bound))
 }
 
 fn write_refused(
-    alloc: Global,
     out: &mut Vec<u8>,
     version: u64,
     cause: EditRefusal,
@@ -148,17 +138,12 @@ fn write_refused(
         Piece::Word(b"at"),
         Piece::NumberColon(version),
     ];
-    write_pieces(alloc, out, &start)?;
-    write_cause(alloc, out, cause, name)?;
+    write_pieces(out, &start)?;
+    write_cause(out, cause, name)?;
     Ok(())
 }
 
-fn write_cause(
-    alloc: Global,
-    out: &mut Vec<u8>,
-    cause: EditRefusal,
-    name: &[u8],
-) -> Result<(), NoMemory>
+fn write_cause(out: &mut Vec<u8>, cause: EditRefusal, name: &[u8]) -> Result<(), NoMemory>
     ensures { OnOk result (out.new.items ≡ out.old.items ++ line_end (cause_pieces cause name.now)) }
 {
     match cause {
@@ -168,7 +153,7 @@ fn write_cause(
                 Piece::Word(b"macro"),
                 Piece::Word(name),
             ];
-            write_line_end(alloc, out, &pieces)
+            write_line_end(out, &pieces)
         }
         EditRefusal::TooDeep(level) => {
             let pieces = [
@@ -176,23 +161,23 @@ fn write_cause(
                 Piece::Word(b"deep"),
                 Piece::Number(u64::from(level)),
             ];
-            write_line_end(alloc, out, &pieces)
+            write_line_end(out, &pieces)
         }
-        EditRefusal::TooManyNodes(count) => write_too_many(alloc, out, b"nodes", count),
-        EditRefusal::TooManyChoices(count) => write_too_many(alloc, out, b"choices", count),
-        EditRefusal::SideTooLong(count) => write_side_too_long(alloc, out, u64::from(count)),
+        EditRefusal::TooManyNodes(count) => write_too_many(out, b"nodes", count),
+        EditRefusal::TooManyChoices(count) => write_too_many(out, b"choices", count),
+        EditRefusal::SideTooLong(count) => write_side_too_long(out, u64::from(count)),
         EditRefusal::NoSuchWord => {
             let pieces = [
                 Piece::Word(b"no"),
                 Piece::Word(b"such"),
                 Piece::Word(b"word"),
             ];
-            write_line_end(alloc, out, &pieces)
+            write_line_end(out, &pieces)
         }
     }
 }
 
-fn write_too_many(alloc: Global, out: &mut Vec<u8>, what: &[u8], count: u64) -> Result<(), NoMemory>
+fn write_too_many(out: &mut Vec<u8>, what: &[u8], count: u64) -> Result<(), NoMemory>
     ensures { OnOk result (out.new.items ≡ out.old.items ++ line_end (codes "too" ∷ codes "many" ∷ what.now ∷ decimal count ∷ [])) }
 {
     let pieces = [
@@ -201,10 +186,10 @@ fn write_too_many(alloc: Global, out: &mut Vec<u8>, what: &[u8], count: u64) -> 
         Piece::Word(what),
         Piece::Number(count),
     ];
-    write_line_end(alloc, out, &pieces)
+    write_line_end(out, &pieces)
 }
 
-fn write_side_too_long(alloc: Global, out: &mut Vec<u8>, count: u64) -> Result<(), NoMemory>
+fn write_side_too_long(out: &mut Vec<u8>, count: u64) -> Result<(), NoMemory>
     ensures { OnOk result (out.new.items ≡ out.old.items ++ line_end (codes "too" ∷ codes "many" ∷ codes "connectors" ∷ codes "on" ∷ codes "a" ∷ codes "side" ∷ decimal count ∷ [])) }
 {
     let pieces = [
@@ -216,5 +201,5 @@ fn write_side_too_long(alloc: Global, out: &mut Vec<u8>, count: u64) -> Result<(
         Piece::Word(b"side"),
         Piece::Number(count),
     ];
-    write_line_end(alloc, out, &pieces)
+    write_line_end(out, &pieces)
 }

@@ -65,29 +65,18 @@ pub(crate) fn raise_all(counts: &mut Counts, others: &Counts)
 }
 
 /// Appends a line for each text whose number is above 0, by the bytes of the text.
-pub(crate) fn write_counts(
-    alloc: Global,
-    out: &mut Vec<u8>,
-    kind: &[u8],
-    counts: &Counts,
-) -> Result<(), NoMemory>
+pub(crate) fn write_counts(out: &mut Vec<u8>, kind: &[u8], counts: &Counts) -> Result<(), NoMemory>
     ensures { OnOk result (out.new.items ≡ out.old.items ++ flat_map (usage_line kind.now) (entries (tally_of counts.now.entries))) }
 {
     for (text, number) in counts.iter() {
         if *number > 0 {
-            write_count(alloc, out, kind, text.as_slice(), *number)?;
+            write_count(out, kind, text.as_slice(), *number)?;
         }
     }
     Ok(())
 }
 
-fn write_count(
-    alloc: Global,
-    out: &mut Vec<u8>,
-    kind: &[u8],
-    text: &[u8],
-    number: u64,
-) -> Result<(), NoMemory>
+fn write_count(out: &mut Vec<u8>, kind: &[u8], text: &[u8], number: u64) -> Result<(), NoMemory>
     ensures { OnOk result (out.new.items ≡ out.old.items ++ usage_line kind.now (text.now, number)) }
 {
     write_bytes(out, b"usage ")?;
@@ -95,6 +84,6 @@ fn write_count(
     write_bytes(out, b" ")?;
     write_bytes(out, text)?;
     write_bytes(out, b" ")?;
-    write_number(alloc, out, number)?;
+    write_number(out, number)?;
     write_bytes(out, b"\n")
 }

@@ -76,8 +76,8 @@ impl Usage {
         ensures counted { OnOk result (HaveNoZero self.now) }
     {
         let mut out = Vec::new(alloc);
-        write_counts(alloc, &mut out, b"word", &self.words)?;
-        write_counts(alloc, &mut out, b"label", &self.labels)?;
+        write_counts(&mut out, b"word", &self.words)?;
+        write_counts(&mut out, b"label", &self.labels)?;
         Ok(out)
     }
 

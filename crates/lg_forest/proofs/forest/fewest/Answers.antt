@@ -17,6 +17,8 @@ pub loop-nulls-preserved : goal.loop-nulls-preserved
 loop-nulls-preserved g c =
     let before = c.loop-nulls.invariant.steps in
     let after = c.in_ok-visit.ensures.steps in
+    let earlier = c.loop-nulls.invariant.later in
+    let later = c.in_ok-visit.ensures.later in
     let fewer = c.loop-nulls.invariant.left.fewer in
     let fewest = c.in_ok-visit.ensures.left.fewer in
     record {
@@ -28,6 +30,7 @@ loop-nulls-preserved g c =
       ];
       left = record { known = c.in_ok-visit.ensures.left.known; fewer = omega arith };
       steps = omega arith;
+      later = omega arith;
     }
 
 pub returns-clause-fewest : goal.returns-clause-fewest

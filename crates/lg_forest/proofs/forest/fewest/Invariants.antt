@@ -1,4 +1,4 @@
-use Rattle.std.proofs.Common.{ℕ, ◌+◌, ◌<◌, length}
+use Rattle.std.proofs.Common.{ℕ, ◌+◌, ◌<◌, ◌≤◌, length}
 use Rattle.lg_region.specs.declared.key.Key.TheVariants.{Whole}
 use Rattle.lg_forest.specs.Demands.{HasLinkageUnder}
 use Rattle.lg_forest.specs.Opened.{IsLeft}
@@ -12,4 +12,5 @@ invariant-loop-nulls g l = record {
   none : (m : ℕ) → m < l.nulls → HasLinkageUnder l.lists.positions l.lists.lists (Whole m) → ⊥;
   left : IsLeft l.lists l.table l.fn.memory l.memory;
   steps : IsCounted 0 (l.fn.steps + length l.memory.known) l.fn.table (l.steps + length l.fn.memory.known) l.table;
+  later : l.fn.steps ≤ l.steps;
 }

@@ -42,6 +42,8 @@ explore_all-loop-index-preserved g t c =
     let n = c.args.lists.now in
     let before = c.loop-index.invariant.steps in
     let after = c.in_ok-live.ensures.steps in
+    let earlier = c.loop-index.invariant.later in
+    let later = c.in_ok-live.ensures.later in
     let fewer = c.loop-index.invariant.left.fewer in
     let fewest = c.in_ok-live.ensures.left.fewer in
     record {
@@ -51,6 +53,7 @@ explore_all-loop-index-preserved g t c =
       last = c.in_ok-live.ensures.last;
       left = record { known = c.in_ok-live.ensures.left.known; fewer = omega arith };
       steps = omega arith;
+      later = omega arith;
     }
 
 pub explore_all-keep-requires : goal.explore_all-keep-requires
@@ -122,12 +125,12 @@ visit-returns-clause-found g t c =
 pub visit-returns-clause-asked : goal.visit-returns-clause-asked
 visit-returns-clause-asked g t c =
     let x = asked_added c.args.lists.now c.args.key c.in_ok-live.live c.args.table.now c.explore.new.table c.requires.key c.in_ok-live.ensures.live c.in_ok-live.ensures.asked in
-    subst (λ z. Asked c.args.lists.now (λ k. k ≡ c.args.key) c.args.table.now z) (sym c.in_ok-add.ensures) x
+    subst (λ z. Asked c.args.lists.now (λ k. k ≡ c.args.key) c.args.table.now z) (sym c.in_ok-add.ensures.added) x
 
 pub visit-returns-clause-left : goal.visit-returns-clause-left
 visit-returns-clause-left g t c =
     let left = c.in_ok-live.ensures.left in
-    record { known = subst (λ z. IsMemory c.args.lists.now z c.explore.new.memory) (sym c.in_ok-add.ensures) (memory_added c.args.lists.now c.explore.new.table c.args.key c.in_ok-live.live c.explore.new.memory left.known); fewer = left.fewer }
+    record { known = subst (λ z. IsMemory c.args.lists.now z c.explore.new.memory) (sym c.in_ok-add.ensures.added) (memory_added c.args.lists.now c.explore.new.table c.args.key c.in_ok-live.live c.explore.new.memory left.known); fewer = left.fewer }
 
 pub visit_part-returns-in-Some-clause-found : goal.visit_part-returns-in-Some-clause-found
 visit_part-returns-in-Some-clause-found g t c =
@@ -176,6 +179,7 @@ open_group-loop-index-init g t c = record {
   asked = part.asked_start c.args.lists.now _ c.args.table.now c.requires.table (λ k m. part.among_none (λ (b : Beginning) (k : Key). left_of c.args.gap.now c.args.group.now b ≡ k) c.as_slice-begins.result.now k m);
   left = record { known = c.requires.known; fewer = omega arith };
   steps = omega arith;
+  later = omega arith;
 }
 
 pub open_group-visit-requires : goal.open_group-visit-requires
@@ -202,6 +206,8 @@ open_group-loop-index-preserved g t c =
     let at = slice_get-get_or bs i no_beginning (omega arith) in
     let before = c.loop-index.invariant.steps in
     let after = c.in_ok-visit.ensures.steps in
+    let earlier = c.loop-index.invariant.later in
+    let later = c.in_ok-visit.ensures.later in
     let fewer = c.loop-index.invariant.left.fewer in
     let fewest = c.in_ok-visit.ensures.left.fewer in
     let key = c.key-lkey.ensures in
@@ -216,6 +222,7 @@ open_group-loop-index-preserved g t c =
       asked = left_asked n gap group bs i (i + 1) b (omega arith) at c.args.table.now c.loop-index.table c.visit.new.table c.key-lkey.result key c.loop-index.invariant.asked c.in_ok-visit.ensures.asked;
       left = record { known = c.in_ok-visit.ensures.left.known; fewer = omega arith };
       steps = omega arith;
+      later = omega arith;
     }
 
 pub open_group-returns-clause-starts : goal.open_group-returns-clause-starts
@@ -236,6 +243,7 @@ open_word-loop-index-init g t c = record {
   asked = part.asked_start c.args.lists.now _ c.args.table.now c.requires.table (λ k (a, alt, m, e). part.among_none In c.in_ok-groups.groups.items a m);
   left = record { known = c.requires.known; fewer = omega arith };
   steps = omega arith;
+  later = omega arith;
 }
 
 pub open_word-open_group-requires : goal.open_word-open_group-requires
@@ -261,6 +269,8 @@ open_word-loop-index-preserved g t c =
     let step = part.among_next In gs i (i + 1) c.index.result.now (omega arith) at in
     let before = c.loop-index.invariant.steps in
     let after = c.in_ok-open_group.ensures.steps in
+    let earlier = c.loop-index.invariant.later in
+    let later = c.in_ok-open_group.ensures.later in
     let fewer = c.loop-index.invariant.left.fewer in
     let fewest = c.in_ok-open_group.ensures.left.fewer in
     record {
@@ -268,6 +278,7 @@ open_word-loop-index-preserved g t c =
       asked = lefts_then n c.args.key (Among In gs i) (In c.index.result.now) (Among In gs (i + 1)) step c.args.table.now c.loop-index.table c.open_group.new.table c.loop-index.invariant.asked c.in_ok-open_group.ensures.asked;
       left = record { known = c.in_ok-open_group.ensures.left.known; fewer = omega arith };
       steps = omega arith;
+      later = omega arith;
     }
 
 pub open_word-returns-clause-opens : goal.open_word-returns-clause-opens
@@ -302,6 +313,7 @@ open-loop-word-init g t c =
       asked = words_first n c.are_numbered.ensures c.regions_begin_alike.ensures c.args.key gap c.requires.gap.key_is c.requires.alike c.match-take.opening c.args.table.now c.requires.table opened;
       left = record { known = record { known = c.requires.known.known; opened = λ o x has. c.requires.known.opened o x (c.take.ensures.left o x has) }; fewer = omega arith };
       steps = omega arith;
+      later = omega arith;
     }
 
 pub open-open_word-requires : goal.open-open_word-requires
@@ -317,6 +329,8 @@ open-loop-word-preserved g t c =
     let gap = c.args.gap.now in
     let before = c.loop-word.invariant.steps in
     let after = c.in_ok-open_word.ensures.steps in
+    let earlier = c.loop-word.invariant.later in
+    let later = c.in_ok-open_word.ensures.later in
     let behind = c.loop-word.invariant.after in
     let fewer = c.loop-word.invariant.left.fewer in
     let fewest = c.in_ok-open_word.ensures.left.fewer in
@@ -328,6 +342,7 @@ open-loop-word-preserved g t c =
       asked = words_next n c.args.key c.loop-word.word (c.loop-word.word + 1) refl c.args.table.now c.loop-word.table c.open_word.new.table c.loop-word.invariant.asked c.in_ok-open_word.ensures.asked;
       left = record { known = c.in_ok-open_word.ensures.left.known; fewer = omega arith };
       steps = omega arith;
+      later = omega arith;
     }
 
 pub open-returns-clause-asked : goal.open-returns-clause-asked
@@ -355,6 +370,7 @@ explore_opening-loop-index-init g t c =
       opened = c.in_ok-opening.ensures.opened;
       left = c.in_ok-opening.ensures.left;
       steps = c.in_ok-opening.ensures.steps;
+      later = c.in_ok-opening.ensures.later;
     }
 
 pub explore_opening-explore_start-requires : goal.explore_opening-explore_start-requires
@@ -383,6 +399,8 @@ explore_opening-loop-index-preserved g t c =
     let step = part.among_next R starts.items i (i + 1) s (omega arith) at in
     let before = c.loop-index.invariant.steps in
     let after = c.in_ok-explore_start.ensures.steps in
+    let earlier = c.loop-index.invariant.later in
+    let later = c.in_ok-explore_start.ensures.later in
     let fewer = c.loop-index.invariant.left.fewer in
     let fewest = c.in_ok-explore_start.ensures.left.fewer in
     record {
@@ -392,6 +410,7 @@ explore_opening-loop-index-preserved g t c =
       opened = opening_kept n c.loop-index.table c.explore_start.new.table c.in_ok-explore_start.ensures.asked.kept _ c.in_ok-opening.opening c.loop-index.invariant.opened;
       left = record { known = c.in_ok-explore_start.ensures.left.known; fewer = omega arith };
       steps = omega arith;
+      later = omega arith;
     }
 
 pub explore_opening-returns-clause-live : goal.explore_opening-returns-clause-live
@@ -429,7 +448,7 @@ explore_opening-returns-clause-left g t c =
     part.ok_any c.of.result _ (record {
       known = record {
         known = left.known.known;
-        opened = λ o x has. elim (c.in_ok-put.ensures o x has) [
+        opened = λ o x has. elim (c.in_ok-put.ensures.put o x has) [
           | inl h ↦ left.known.opened o x h
           | inr (e, f) ↦ subst (λ z. IsOpening c.args.lists.now c.loop-index.table z x) (sym e) (subst (λ z. IsOpening c.args.lists.now c.loop-index.table (record { left = c.args.gap.now.left; llist = c.args.gap.now.llist }) z) (sym f) c.loop-index.invariant.opened)
         ];
@@ -461,6 +480,7 @@ explore_beginning-loop-index-init g t c = record {
   last = record { live = ((λ yes. c.in_ok-visit.ensures.found.0 c.if-not-branch.false), (λ h. refl)); there = c.in_ok-visit.ensures.asked.there c.key-lkey.result refl };
   left = c.in_ok-visit.ensures.left;
   steps = c.in_ok-visit.ensures.steps;
+  later = c.in_ok-visit.ensures.later;
 }
 
 pub explore_beginning-is_live-requires : goal.explore_beginning-is_live-requires
@@ -470,7 +490,7 @@ explore_beginning-is_live-requires g t c κs within =
     let end : c.len-index-end.result ≡ length alts = c.len-index-end.ensures ∙ c.push_endings.new.out.ok.0 in
     let test = c.loop-index-test.true in
     let at = part.at_of alts c.loop-index.index c.index-alt.result.now (omega arith) c.index-alt.ensures in
-    let ends = part.from_none c.new-alts.result.items alts _ c.new-alts.ensures.items c.in_ok-push_endings.ensures in
+    let ends = part.from_none c.new-alts.result.items alts _ c.new-alts.ensures.items c.in_ok-push_endings.ensures.endings in
     let alt = part.alt_in n c.args.key c.args.gap.now c.index-alt.result.now c.requires.is_key ((ends.each c.index-alt.result.now).0 (contains_at alts c.loop-index.index c.index-alt.result.now at)).0 in
     let below = c.requires.decided.below c.args.key c.index-alt.result.now c.requires.key alt in
     let steps = c.loop-index.invariant.steps in
@@ -489,9 +509,11 @@ explore_beginning-loop-index-preserved g t c =
     let at = part.at_of alts i a (omega arith) c.index-alt.ensures in
     let before = c.loop-index.invariant.steps in
     let after = c.in_ok-is_live.ensures.steps in
+    let earlier = c.loop-index.invariant.later in
+    let later = c.in_ok-is_live.ensures.later in
     let fewer = c.loop-index.invariant.left.fewer in
     let fewest = c.in_ok-is_live.ensures.left.fewer in
-    let once = (part.from_none c.new-alts.result.items alts _ c.new-alts.ensures.items c.in_ok-push_endings.ensures).once in
+    let once = (part.from_none c.new-alts.result.items alts _ c.new-alts.ensures.items c.in_ok-push_endings.ensures.endings).once in
     let old = c.args.live.now.items in
     let lkey = left_of c.args.gap.now c.args.group.now c.args.begin.now in
     record {
@@ -505,6 +527,7 @@ explore_beginning-loop-index-preserved g t c =
       last = c.in_ok-is_live.ensures.last;
       left = record { known = c.in_ok-is_live.ensures.left.known; fewer = omega arith };
       steps = omega arith;
+      later = omega arith;
     }
 
 pub explore_beginning-returns-clause-live : goal.explore_beginning-returns-clause-live
@@ -512,7 +535,7 @@ explore_beginning-returns-clause-live g t c =
     let alts = c.push_endings.new.out.items in
     let end : c.len-index-end.result ≡ length alts = c.len-index-end.ensures ∙ c.push_endings.new.out.ok.0 in
     let test = c.loop-index-test.false in
-    let ends = part.from_none c.new-alts.result.items alts _ c.new-alts.ensures.items c.in_ok-push_endings.ensures in
+    let ends = part.from_none c.new-alts.result.items alts _ c.new-alts.ensures.items c.in_ok-push_endings.ensures.endings in
     part.all_live c.args.lists.now c.args.key c.args.gap.now c.args.group.now c.args.begin.now c.key-lkey.result c.requires.is_key c.key-lkey.ensures alts
     (part.ends_all c.args.lists.now c.args.key c.args.gap.now c.args.group.now c.args.begin.now alts c.requires.is_key ends) c.loop-index.index (omega arith) c.args.live.now.items c.loop-index.live.items c.loop-index.invariant.live
 
@@ -521,7 +544,7 @@ explore_beginning-returns-clause-asked g t c =
     let alts = c.push_endings.new.out.items in
     let end : c.len-index-end.result ≡ length alts = c.len-index-end.ensures ∙ c.push_endings.new.out.ok.0 in
     let test = c.loop-index-test.false in
-    let ends = part.from_none c.new-alts.result.items alts _ c.new-alts.ensures.items c.in_ok-push_endings.ensures in
+    let ends = part.from_none c.new-alts.result.items alts _ c.new-alts.ensures.items c.in_ok-push_endings.ensures.endings in
     part.all_asked c.args.lists.now c.args.key c.args.gap.now c.args.group.now c.args.begin.now c.key-lkey.result c.requires.is_key c.key-lkey.ensures alts
     (part.ends_all c.args.lists.now c.args.key c.args.gap.now c.args.group.now c.args.begin.now alts c.requires.is_key ends) c.loop-index.index (omega arith) c.requires.begins c.args.table.now c.loop-index.table c.loop-index.invariant.asked
 
@@ -531,6 +554,7 @@ explore_group-loop-index-init g t c = record {
   live = part.adds_none c.args.live.now.items _ (λ a (alt, m, l). part.among_none (IsEnding c.args.gap.now c.args.group.now) c.as_slice-begins.result.now a m);
   left = record { known = c.requires.known; fewer = omega arith };
   steps = omega arith;
+  later = omega arith;
 }
 
 pub explore_group-explore_beginning-requires : goal.explore_group-explore_beginning-requires
@@ -553,6 +577,8 @@ explore_group-loop-index-preserved g t c =
     let step = part.among_next R bs i (i + 1) (get_or c.as_slice-begins.result.now c.loop-index.index no_beginning) (omega arith) at in
     let before = c.loop-index.invariant.steps in
     let after = c.in_ok-explore_beginning.ensures.steps in
+    let earlier = c.loop-index.invariant.later in
+    let later = c.in_ok-explore_beginning.ensures.later in
     let fewer = c.loop-index.invariant.left.fewer in
     let fewest = c.in_ok-explore_beginning.ensures.left.fewer in
     record {
@@ -561,6 +587,7 @@ explore_group-loop-index-preserved g t c =
           (part.among_apart R bs (part.begins_apart c.args.gap.now c.args.group.now bs (same_begins c.args.lists.now c.args.gap.now c.args.group.now _ _ c.as_slice-begins.ensures c.in_ok-found.ensures).once) i (get_or c.as_slice-begins.result.now c.loop-index.index no_beginning) at) c.loop-index.invariant.live c.in_ok-explore_beginning.ensures.live;
       left = record { known = c.in_ok-explore_beginning.ensures.left.known; fewer = omega arith };
       steps = omega arith;
+      later = omega arith;
     }
 
 pub explore_group-returns-clause-live : goal.explore_group-returns-clause-live
@@ -600,6 +627,8 @@ explore_groups-loop-index-preserved g t c =
     let step = part.among_next In gs i (i + 1) c.index.result.now (omega arith) at in
     let before = c.loop-index.invariant.steps in
     let after = c.in_ok-explore_group.ensures.steps in
+    let earlier = c.loop-index.invariant.later in
+    let later = c.in_ok-explore_group.ensures.later in
     let fewer = c.loop-index.invariant.left.fewer in
     let fewest = c.in_ok-explore_group.ensures.left.fewer in
     record {
@@ -608,6 +637,7 @@ explore_groups-loop-index-preserved g t c =
           (part.among_apart In gs c.requires.groups.apart i c.index.result.now at) c.loop-index.invariant.live c.in_ok-explore_group.ensures.live;
       left = record { known = c.in_ok-explore_group.ensures.left.known; fewer = omega arith };
       steps = omega arith;
+      later = omega arith;
     }
 
 pub explore_groups-returns-clause-live : goal.explore_groups-returns-clause-live

@@ -1,4 +1,4 @@
-use Rattle.std.proofs.Common.{◌≡◌, ◌+◌, ◌*◌, ◌<◌, [], take, map, length}
+use Rattle.std.proofs.Common.{◌≡◌, ◌+◌, ◌*◌, ◌<◌, ◌≤◌, [], take, map, length}
 use Rattle.lg_region.specs.Openings.{left_of}
 use Rattle.lg_region.specs.Small.{full}
 use Rattle.lg_region.specs.Ways.{AddsExactly}
@@ -67,6 +67,7 @@ invariant-explore_all-loop-index g l = record {
   last : IsLast l.lists l.table l.last;
   left : IsLeft l.lists l.table l.fn.memory l.memory;
   steps : IsCounted 1 (l.fn.steps + length l.memory.known) l.fn.table (l.steps + length l.fn.memory.known) l.table;
+  later : l.fn.steps ≤ l.steps;
 }
 
 -- the groups so far
@@ -76,6 +77,7 @@ invariant-explore_groups-loop-index g l = record {
   live : AddsLive l.lists l.key (Among In l.groups.items.items l.index) [] l.live.items;
   left : IsLeft l.lists l.table l.fn.memory l.memory;
   steps : IsCounted 0 (l.fn.steps + length l.memory.known) l.fn.table (l.steps + length l.fn.memory.known) l.table;
+  later : l.fn.steps ≤ l.steps;
 }
 
 -- the beginnings so far
@@ -85,6 +87,7 @@ invariant-explore_group-loop-index g l = record {
   live : AddsLive l.lists l.key (Among (IsEnding l.gap l.group) l.begins l.index) l.fn.live.items l.live.items;
   left : IsLeft l.lists l.table l.fn.memory l.memory;
   steps : IsCounted 0 (l.fn.steps + length l.memory.known) l.fn.table (l.steps + length l.fn.memory.known) l.table;
+  later : l.fn.steps ≤ l.steps;
 }
 
 -- the alternatives so far
@@ -95,6 +98,7 @@ invariant-explore_beginning-loop-index g l = record {
   last : IsLast l.lists l.table l.last;
   left : IsLeft l.lists l.table l.fn.memory l.memory;
   steps : IsCounted 0 (l.fn.steps + length l.memory.known) l.fn.table (l.steps + length l.fn.memory.known) l.table;
+  later : l.fn.steps ≤ l.steps;
 }
 
 -- the starts so far; the opening stands by the table
@@ -105,6 +109,7 @@ invariant-explore_opening-loop-index g l = record {
   opened : IsOpening l.lists l.table (record { left = l.gap.left; llist = l.gap.llist }) l.opening;
   left : IsLeft l.lists l.table l.fn.memory l.memory;
   steps : IsCounted 0 (l.fn.steps + length l.memory.known) l.fn.table (l.steps + length l.fn.memory.known) l.table;
+  later : l.fn.steps ≤ l.steps;
 }
 
 -- the words so far
@@ -116,6 +121,7 @@ invariant-open-loop-word g l = record {
   asked : Asked l.lists (AsksLeft l.lists l.key (StandsBefore l.word)) l.fn.table l.table;
   left : IsLeft l.lists l.table l.fn.memory l.memory;
   steps : IsCounted 0 (l.fn.steps + length l.memory.known) l.fn.table (l.steps + length l.fn.memory.known) l.table;
+  later : l.fn.steps ≤ l.steps;
 }
 
 -- the groups of the word so far
@@ -125,6 +131,7 @@ invariant-open_word-loop-index g l = record {
   asked : Asked l.lists (AsksLeft l.lists l.key (Among In l.groups.items l.index)) l.fn.table l.table;
   left : IsLeft l.lists l.table l.fn.memory l.memory;
   steps : IsCounted 0 (l.fn.steps + length l.memory.known) l.fn.table (l.steps + length l.fn.memory.known) l.table;
+  later : l.fn.steps ≤ l.steps;
 }
 
 -- the beginnings of the group so far
@@ -134,4 +141,5 @@ invariant-open_group-loop-index g l = record {
   asked : Asked l.lists (LeftOfFirst l.gap l.group l.begins l.index) l.fn.table l.table;
   left : IsLeft l.lists l.table l.fn.memory l.memory;
   steps : IsCounted 0 (l.fn.steps + length l.memory.known) l.fn.table (l.steps + length l.fn.memory.known) l.table;
+  later : l.fn.steps ≤ l.steps;
 }

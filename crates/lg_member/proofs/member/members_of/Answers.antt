@@ -1,11 +1,28 @@
 use Rattle.std.proofs.Common.{subst}
 use Rattle.lg_member.specs.Members.{AddsMembers}
-use Rattle.lg_member.proofs.Adding.{members_more}
+use Rattle.lg_member.proofs.Adding.{grows_none, grows_more, members_none, members_more}
 use Rattle.lg_member.proofs.member.members_of.Goals as goal
 
+pub loop-position-init : goal.loop-position-init
+loop-position-init c = record {
+  members = members_none c.args.positions.now c.args.lefts.now.items c.args.rights.now.items c.new-members.result.items c.new-members.ensures.items;
+  lefts = grows_none c.args.lefts.now.items;
+  rights = grows_none c.args.rights.now.items;
+}
+
 pub loop-position-preserved : goal.loop-position-preserved
-loop-position-preserved c =
-    members_more c.args.positions.now c.loop-position.position c.index-positions-position.result c.loop-position.lefts.items c.loop-position.rights.items c.push_members.new.lefts.items c.push_members.new.rights.items
+loop-position-preserved c = record {
+  members = members_more c.args.positions.now c.loop-position.position c.index-positions-position.result c.loop-position.lefts.items c.loop-position.rights.items c.push_members.new.lefts.items c.push_members.new.rights.items
     c.loop-position.members.items c.push_members.new.members.items c.loop-position-test.true c.index-positions-position.is
-    (subst (λ z. AddsMembers c.loop-position.position z c.loop-position.lefts.items c.loop-position.rights.items c.push_members.new.lefts.items c.push_members.new.rights.items c.loop-position.members.items c.push_members.new.members.items) c.items.ensures c.in_ok-push_members.ensures)
-    c.loop-position.invariant
+    (subst (λ z. AddsMembers c.loop-position.position z c.loop-position.lefts.items c.loop-position.rights.items c.push_members.new.lefts.items c.push_members.new.rights.items c.loop-position.members.items c.push_members.new.members.items) c.items.ensures c.in_ok-push_members.ensures.added)
+    c.loop-position.invariant.members;
+  lefts = grows_more c.args.lefts.now.items c.loop-position.lefts.items c.push_members.new.lefts.items c.loop-position.invariant.lefts c.push_members.ensures.lefts;
+  rights = grows_more c.args.rights.now.items c.loop-position.rights.items c.push_members.new.rights.items c.loop-position.invariant.rights c.push_members.ensures.rights;
+}
+
+-- a list that could not grow keeps what it had
+pub returns-in_err-push_members-clause-lefts : goal.returns-in_err-push_members-clause-lefts
+returns-in_err-push_members-clause-lefts c = grows_more c.args.lefts.now.items c.loop-position.lefts.items c.push_members.new.lefts.items c.loop-position.invariant.lefts c.push_members.ensures.lefts
+
+pub returns-in_err-push_members-clause-rights : goal.returns-in_err-push_members-clause-rights
+returns-in_err-push_members-clause-rights c = grows_more c.args.rights.now.items c.loop-position.rights.items c.push_members.new.rights.items c.loop-position.invariant.rights c.push_members.ensures.rights

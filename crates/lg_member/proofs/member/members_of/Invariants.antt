@@ -1,5 +1,10 @@
+use Rattle.lg_member.specs.Members.{Grows}
 use Rattle.lg_member.proofs.Adding.{MembersSoFar}
 use Rattle.lg_member.proofs.member.members_of.Given as goal
 
 abbrev pub invariant-loop-position : goal.invariant-loop-position
-invariant-loop-position l = MembersSoFar l.positions l.position l.lefts.items l.rights.items l.members.items
+invariant-loop-position l = record {
+  members : MembersSoFar l.positions l.position l.lefts.items l.rights.items l.members.items;
+  lefts : Grows l.fn.lefts.items l.lefts.items;
+  rights : Grows l.fn.rights.items l.rights.items;
+}

@@ -2,5 +2,5 @@ use Rattle.std.proofs.Common.{◌≡◌, ◌⊎◌, subst, Contains}
 use Rattle.lg_forest.proofs.Tables.{put_in}
 use Rattle.lg_forest.proofs.known.Known.add.Goals as goal
 
-pub returns : goal.returns
-returns c = λ k a has. subst (λ z. Contains z (k, a) ⊎ ((k ≡ c.args.key) × (a ≡ c.args.alts))) c.self.view_is (put_in c.self.inside.found c.insert.new.self c.args.key c.args.alts c.in_ok-insert.ensures.unique c.in_ok-insert.ensures.updates.0 k a has)
+pub returns-clause-added : goal.returns-clause-added
+returns-clause-added c = λ k a has. subst (λ z. Contains z (k, a) ⊎ ((k ≡ c.args.key) × (a ≡ c.args.alts))) c.self.view_is (put_in c.self.inside.found c.insert.new.self c.args.key c.args.alts c.in_ok-insert.ensures.unique c.in_ok-insert.ensures.updates.0 k a has)
