@@ -12,4 +12,7 @@ pub mod Some
 pub mod Bounds
 pub mod Numbers
 pub mod Coded
+pub mod PlainTokens
+pub mod PlainParts
+pub mod PlainExpressions
 pub mod SingleLines

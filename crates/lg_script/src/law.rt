@@ -32,7 +32,8 @@ pub fn scripts_keep_bounds()
     parts_are_utf8();
 }
 
-/// No text that a command says has a line feed: its sentence, what its edit defines, or the word that it removes.
+/// No text that a command says has a line feed: its sentence, what its edit defines, the connectors of the edit's expression and the
+/// macros that it names, and the word that it removes.
 ///
 /// The function does nothing: a caller whose proof needs the fact calls it.
 pub fn scripts_have_single_lines()
