@@ -1,0 +1,9 @@
+pub mod Following
+pub mod Compounds
+pub mod Beginning
+pub mod Keeping
+pub mod Choosing
+pub mod Sorting
+pub mod Rising
+pub mod Chains
+pub mod Added

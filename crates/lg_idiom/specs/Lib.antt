@@ -1,0 +1,5 @@
+pub mod Idioms
+pub mod Steps
+pub mod Kept
+pub mod Takings
+pub mod Sentences

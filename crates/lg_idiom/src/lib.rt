@@ -1,0 +1,10 @@
+//! Idioms: compounds of the dictionary that stand for several tokens in a row.
+#![tactic(auto)]
+
+mod chain;
+mod fitting;
+mod order;
+mod sentence;
+mod taken;
+
+pub use sentence::idioms;
