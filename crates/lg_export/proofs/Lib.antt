@@ -7,3 +7,6 @@ pub mod Texts
 pub mod Found
 pub mod Chain
 pub mod Reach
+pub mod ReadTrees
+pub mod ReadEntries
+pub mod ReadEdits

@@ -4,3 +4,4 @@ pub mod Exports
 pub mod Levels
 pub mod Exportable
 pub mod ReadBack
+pub mod Read

@@ -1,11 +1,12 @@
 //! Laws of exports.
 ghost use Rattle.lg_export.specs.Levels.{EntriesReach, NoSpellingIsLower};
+ghost use Rattle.lg_export.specs.Read.{ReadIsExportable, EditedIsExportable};
 ghost use Rattle.lg_export.specs.ReadBack.{ExportsReadBack};
 
 use lg_base::cost_number_laws;
 use lg_expr::{exactly_one, parts_are_written};
 use lg_gram::law::names_are_written;
-use lg_lex::tokens_are_one_list;
+use lg_lex::{parts_are_utf8, tokens_are_one_list, tokens_are_utf8};
 
 /// No way to write an expression without macros has fewer brackets open at once, where they are most, than the spelling that is
 /// exported. The function does nothing: a caller whose proof needs the fact calls it.
@@ -31,4 +32,23 @@ pub fn exports_read_back()
     names_are_written();
     parts_are_written();
     tokens_are_one_list();
+}
+
+/// The dictionary of each text that is read can be exported: its words, macros and formulas are such as `exports_read_back` asks
+/// for. The function does nothing: a caller whose proof needs the fact calls it.
+pub fn read_dictionaries_are_exportable()
+    ensures { ReadIsExportable }
+{
+    parts_are_utf8();
+    parts_are_written();
+    tokens_are_utf8();
+}
+
+/// A dictionary that can be exported can be so after each edit that it accepts, where the edit's entry was read from a text. The
+/// function does nothing: a caller whose proof needs the fact calls it.
+pub fn edited_dictionaries_are_exportable()
+    ensures { EditedIsExportable }
+{
+    parts_are_written();
+    tokens_are_utf8();
 }

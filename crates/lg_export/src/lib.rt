@@ -7,5 +7,8 @@ mod spelling;
 mod spot;
 mod text;
 
-pub use law::{exports_read_back, levels_reach_spellings, no_spelling_is_lower};
+pub use law::{
+    edited_dictionaries_are_exportable, exports_read_back, levels_reach_spellings,
+    no_spelling_is_lower, read_dictionaries_are_exportable,
+};
 pub use text::{ExportError, export};
