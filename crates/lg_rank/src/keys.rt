@@ -1,5 +1,5 @@
 //! Keys and their numbers.
-ghost use Rattle.std.specs.Prelude.{◌≡◌, ◌<◌, [], length, Some, slice_get, MatchOption, OnOk};
+ghost use Rattle.std.specs.Prelude.{◌≡◌, ◌<◌, [], length, Some, slice_get, MatchOption, OnErr, OnOk};
 ghost use Rattle.lg_rank.specs.Fronts.{IsIn};
 ghost use Rattle.lg_rank.specs.Keyed.{IsFirstPlace, AddsKey};
 
@@ -56,9 +56,10 @@ impl Keys {
         self.items.get_index_of(key)
     }
 
-    /// Adds a key. Nothing changes where it is there.
+    /// Adds a key. Nothing changes where it is there. The only error is running out of memory, and then nothing has changed.
     pub fn add(&mut self, key: Key) -> Result<(), NoMemory>
-        ensures { OnOk result (AddsKey self.old key self.new) }
+        ensures added { OnOk result (AddsKey self.old key self.new) }
+        ensures unchanged { OnErr result (self.new ≡ self.old) }
     {
         self.items.insert(key)?;
         Ok(())

@@ -2,16 +2,16 @@
 #![tactic(auto)]
 
 mod build;
-pub mod candidate;
+mod candidate;
 mod keys;
 pub mod law;
-pub mod node;
-pub mod part;
-pub mod queue;
+mod node;
+mod part;
+mod queue;
 mod ranked;
-pub mod small;
-pub mod table;
-pub mod unpack;
+mod small;
+mod table;
+mod unpack;
 
 pub use law::{cuts_keep_order, joins_grow, values_are_linkages};
 pub use ranked::Ranked;

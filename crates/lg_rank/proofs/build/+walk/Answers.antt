@@ -12,19 +12,19 @@ visit-returns-clause-placed t c =
     let old = c.visit_below.new.keys in
     on_ok_as c.add.result (AddsKey old c.args.key c.add.new.self) (ArePlaced c.args.problem.now c.args.forest.now c.add.new.self)
     (λ adds. placed_adds c.args.problem.now c.args.forest.now old c.args.key c.add.new.self c.in_ok-visit_below.ensures.placed c.requires.key c.in_ok-visit_below.ensures.there adds)
-    c.add.ensures
+    c.add.ensures.added
 
 pub visit-returns-clause-grown : goal.visit-returns-clause-grown
 visit-returns-clause-grown t c =
     let old = c.visit_below.new.keys in
     on_ok_as c.add.result (AddsKey old c.args.key c.add.new.self) (Extends c.args.keys.now c.add.new.self)
     (λ adds. extends_then c.args.keys.now old c.add.new.self c.in_ok-visit_below.ensures.grown (adds_more old c.args.key c.add.new.self adds))
-    c.add.ensures
+    c.add.ensures.added
 
 pub visit-returns-clause-there : goal.visit-returns-clause-there
 visit-returns-clause-there t c =
     let old = c.visit_below.new.keys in
-    on_ok_as c.add.result (AddsKey old c.args.key c.add.new.self) (IsIn c.add.new.self c.args.key) (adds_there old c.args.key c.add.new.self) c.add.ensures
+    on_ok_as c.add.result (AddsKey old c.args.key c.add.new.self) (IsIn c.add.new.self c.args.key) (adds_there old c.args.key c.add.new.self) c.add.ensures.added
 
 pub visit_alt-visit_part-requires : goal.visit_alt-visit_part-requires
 visit_alt-visit_part-requires t c =
