@@ -39,6 +39,18 @@ class Compare(unittest.TestCase):
             counts.add(here, there)
         self.assertEqual(counts.text(), "accepted here too    2 of    3 ( 67 %)   refused here too    1 of    2 ( 50 %)")
 
+    def test_answers_of_link_parser(self) -> None:
+        shown = (
+            "Use !help\na b\nNo complete linkages found.\nc\nNo complete linkages found.\n"
+            "Found 6 linkages (2 of 6 had no P.P. violations)\nd\nFound 9 linkages (0 of 9 had no P.P. violations)\nBye.\n"
+        )
+        self.assertEqual(loaded().accepted_in(shown, ["a b", "c", "d"]), [False, True, False])
+
+    def test_a_sentence_without_an_answer(self) -> None:
+        for shown in ("a b\nNo complete linkages found.\n", "a b\nNo complete linkages found.\nc\n"):
+            with self.assertRaises(SystemExit):
+                loaded().accepted_in(shown, ["a b", "c"])
+
     def test_help_and_usage(self) -> None:
         self.assertEqual(run_tool("--help", tool="compare-link-parser").returncode, 0)
         self.assertEqual(run_tool(tool="compare-link-parser").returncode, 2)
