@@ -94,7 +94,7 @@ impl Course {
     }
 
     /// The next candidate, or none where all are behind. Whether it decides is still to be noted. The knowledge is one that the
-    /// listing stands for.
+    /// listing stands for. The only error is running out of memory, and then the course is of no more use: its listing is gone.
     pub fn advance(&mut self, alloc: Global) -> Result<Option<Linkage>, NoMemory>
         requires room { self.old.position < 2 ^ 62 }
         requires stands { (know : SeenKnowledge) × StandsFor know self.old }

@@ -17,11 +17,10 @@ use crate::problem::problem_of;
 use crate::refusal::AnswerRefusal;
 use lg_base::NoMemory;
 use lg_dict::View;
-use lg_gram::problem::POSITIONS;
-use lg_gram::{Bound, Page, Problem, Stats, Token, Tokens};
+use lg_gram::{Page, Problem, Stats, Token, Tokens};
 use lg_knowread::Knowledge;
 use lg_pprune::{pprune, pruning_keeps_linkages};
-use lg_token::{bound_of, count_tokens, tokens};
+use lg_token::listed_tokens;
 use std::alloc::Global;
 use std::marker::Model;
 use std::thread::Threads;
@@ -70,13 +69,10 @@ impl Listing {
         ensures stands { (know : SeenKnowledge) → IfOk result (λ listing. StandsFor know listing.course) }
         ensures refused { IfErr result (IsRefused view.now text.now) }
     {
-        if let Some(bound) = too_many(alloc, view, text)? {
-            return Err(AnswerRefusal::Beyond(bound));
-        }
-        let tokens = tokens(alloc, view, text)?;
-        if let Some(bound) = bound_of(view, tokens.items()) {
-            return Err(AnswerRefusal::Beyond(bound));
-        }
+        let tokens = match listed_tokens(alloc, view, text)? {
+            Ok(tokens) => tokens,
+            Err(bound) => return Err(AnswerRefusal::Beyond(bound)),
+        };
         let (problem, stats) = searched(alloc, view, tokens.items(), options)?;
         let course = Course::start(rt, alloc, problem, options)?;
         Ok(Listing {
@@ -168,19 +164,6 @@ impl Listing {
         ensures { result ≡ self.now.stats }
     {
         self.stats
-    }
-}
-
-// The bound that a sentence passes whose tokens are too many, found before they are made.
-fn too_many(alloc: Global, view: &View, text: &str) -> Result<Option<Bound>, NoMemory>
-    requires { length text.now < 2 ^ 32 }
-    ensures { IfOk result (λ found. IfSome found (IsBeyond view.now text.now)) }
-{
-    let count = count_tokens(alloc, view, text)?;
-    if count > POSITIONS as u64 {
-        Ok(Some(Bound::TooManyWords(count)))
-    } else {
-        Ok(None)
     }
 }
 

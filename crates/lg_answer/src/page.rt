@@ -17,7 +17,7 @@ use lg_pp::judge;
 use std::alloc::Global;
 
 /// Passes over this many candidates, or over all that are left. A candidate is judged only where it is not clear yet whether one
-/// of its level decides.
+/// of its level decides. The only error is running out of memory, and then the listing is gone.
 pub(crate) fn skip(
     alloc: Global,
     know: &Knowledge,
@@ -78,7 +78,8 @@ fn decides(
 }
 
 /// The page of the next candidates. Before each candidate it stops where `want` have passed, else where `examine` were looked
-/// at, else where none is left, and only then it is the end. The only error is running out of memory.
+/// at, else where none is left, and only then it is the end. The only error is running out of memory, and then the listing is
+/// gone.
 pub(crate) fn page_of(
     alloc: Global,
     know: &Knowledge,

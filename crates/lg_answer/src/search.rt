@@ -1,5 +1,5 @@
 //! The good linkages of a problem, level by level.
-ghost use Rattle.std.specs.Prelude.{◌≡◌, ◌↔◌, ◌+◌, ◌<◌, ◌≤◌, ◌^◌, ℕ, List, length, IsTrue, IfOk, OnOk, IfSome, MatchOption};
+ghost use Rattle.std.specs.Prelude.{◌≡◌, ◌↔◌, ◌+◌, ◌<◌, ◌≤◌, ◌^◌, ℕ, List, length, IsTrue, IfOk, OnErr, OnOk, IfSome, MatchOption};
 ghost use Rattle.lg_gram.specs.Linkages.{Linkage as Seen, linkage_cmp};
 ghost use Rattle.lg_region.specs.Parts.{UnderWhole};
 ghost use Rattle.lg_forest.specs.Forests.{AreWorkers, IsForest};
@@ -127,17 +127,20 @@ impl Search {
         self.ranked.position()
     }
 
-    /// The next linkage of the level, or none where all were given.
+    /// The next linkage of the level, or none where all were given. The only error is running out of memory, and then nothing has
+    /// changed.
     pub fn next(&mut self, alloc: Global) -> Result<Option<Linkage>, NoMemory>
         requires { self.old.position < 2 ^ 63 }
         ensures next { (gs : List Seen) → IsFront linkage_cmp (UnderWhole self.old.positions self.old.nulls) gs → length gs ≡ self.old.position → IfOk result (λ g. IsNext linkage_cmp (UnderWhole self.old.positions self.old.nulls) gs g) }
         ensures moved { IfOk result (λ g. self.new ≡ record self.old { position = self.old.position + given g }) }
+        ensures unchanged { OnErr result (self.new ≡ self.old) }
     {
         let found = self.ranked.next(alloc)?;
         Ok(found)
     }
 
-    /// Goes on to one more unlinked word, with all disjuncts of the problem.
+    /// Goes on to one more unlinked word, with all disjuncts of the problem. The only error is running out of memory, and then the
+    /// search is of no more use: its listing is gone.
     pub fn rise(&mut self, alloc: Global) -> Result<(), NoMemory>
         requires { self.old.nulls < length self.old.positions }
         ensures { OnOk result (self.new ≡ record { positions = self.old.positions; nulls = self.old.nulls + 1; position = 0 }) }

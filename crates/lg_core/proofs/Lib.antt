@@ -5,3 +5,4 @@ pub mod NextCommand
 pub mod Outcomes
 pub mod Cores
 pub mod Named
+pub mod Looks

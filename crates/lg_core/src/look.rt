@@ -14,7 +14,7 @@ use lg_base::{NoMemory, Text};
 use lg_dict::{Dict, View};
 use lg_edit::check;
 use lg_script::{Command, Scripts};
-use lg_token::{bound_of, tokens};
+use lg_token::listed_tokens;
 use std::alloc::Global;
 
 /// What a look at the end of the history makes of a command.
@@ -70,9 +70,8 @@ fn listing_kind(alloc: Global, view: &View, text: &Text) -> Result<NoteKind, NoM
     let Ok(sentence) = str::from_utf8(text.bytes()) else {
         unreachable!()
     };
-    let tokens = tokens(alloc, view, sentence)?;
-    match bound_of(view, tokens.items()) {
-        None => Ok(NoteKind::Listed),
-        Some(_) => Ok(NoteKind::Beyond),
+    match listed_tokens(alloc, view, sentence)? {
+        Ok(_) => Ok(NoteKind::Listed),
+        Err(_) => Ok(NoteKind::Beyond),
     }
 }
