@@ -27,3 +27,4 @@ pub mod PlainTrees
 pub mod PlainDictionaries
 pub mod PlainAnswers
 pub mod ShownInputs
+pub mod DocumentsTell

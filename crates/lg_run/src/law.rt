@@ -5,7 +5,7 @@ ghost use Rattle.lg_run.specs.Words.{Task, TaskIs};
 ghost use Rattle.lg_run.specs.Inputs.{InputsAre, HasSome, IsOne};
 ghost use Rattle.lg_run.specs.Shown.{OutcomesAreShown, RunsAreShown, RunsOfInputsAreShown};
 ghost use Rattle.lg_run.specs.PlainInputs.{DictionariesArePlain, EditsKeepPlain};
-ghost use Rattle.lg_run.specs.Determined.{AnswersAreDetermined};
+ghost use Rattle.lg_run.specs.Determined.{AnswersAreDetermined, DocumentsTellAnswers};
 
 use lg_dictread::exactly_one_dictionary;
 use lg_knowread::exactly_one_knowledge;
@@ -50,10 +50,13 @@ pub fn documents_show()
     tokens_lie_in_order();
 }
 
-/// The journal and the versions that answers name determine every answer: all of it if disjuncts are counted, and else all but their
-/// numbers. The function does nothing: a caller whose proof needs the fact calls it.
+/// The journal and the versions that answers name determine every answer: `answers` says all of it if disjuncts are counted, and else all
+/// but their numbers; and so the document of a run does, without totals of usage, whatever its inputs are (`documents`). The function
+/// does nothing: a caller whose proof needs the fact calls it.
 pub fn answers_are_determined()
-    ensures { AnswersAreDetermined }
+    ensures answers { AnswersAreDetermined }
+    ensures documents { DocumentsTellAnswers }
 {
     tokens_are_one_list();
+    documents_show();
 }
