@@ -20,3 +20,11 @@ pub mod Numbers
 pub mod MadeAnswers
 pub mod MadeText
 pub mod MadeInputs
+pub mod OnePage
+pub mod Determined
+pub mod PlainMaps
+pub mod PlainTrees
+pub mod PlainDictionaries
+pub mod PlainAnswers
+pub mod ShownInputs
+pub mod DocumentsTell

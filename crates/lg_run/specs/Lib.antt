@@ -16,3 +16,5 @@ pub mod Answers
 pub mod Listers
 pub mod Written
 pub mod Counted
+pub mod Determined
+pub mod PlainInputs

@@ -1,6 +1,7 @@
 -- What the document of a run shows: the journal, and of each answer its place, its kind and its version.
 use Rattle.std.specs.Prelude.{◌≡◌, false, ℕ, ◌+◌, ◌<◌, ◌≤◌, ◌^◌, List, [], ◌∷◌, ◌++◌, length, map}
 use Rattle.std.specs.List.{AllByRecursion}
+use Rattle.lg_base.specs.Contents.{Contents}
 use Rattle.lg_gram.specs.declared.reply.Place.{Place}
 use Rattle.lg_gram.specs.declared.reply.Reply.{Reply}
 use Rattle.lg_dict.specs.Dictionary.{Dictionary}
@@ -11,6 +12,8 @@ use Rattle.lg_script.specs.Commands.{CommandView}
 use Rattle.lg_script.specs.Kinds.{kind_of}
 use Rattle.lg_text.specs.Shown.{Answered, IsPlain, IsPlainReply, IsPlace, shown_of}
 use Rattle.lg_run.specs.Documents.{outcome_text, IsOutcome}
+use Rattle.lg_run.specs.Inputs.{accepted, RunGiven, InputsAre}
+use Rattle.lg_run.specs.Words.{Run, TaskIs}
 
 -- a session's answers with their places and kinds, from the command of that number on
 abbrev pub placed : ℕ → ℕ → List CommandView → List Reply → List Answered
@@ -52,4 +55,22 @@ RunsAreShown =
     (setup setup' : Setup) (dict dict' : Dictionary) (know know' : Knowledge) (scripts scripts' : List (List CommandView)) (document : List ℕ)
     (one : IsOutcome setup dict know scripts document) (other : IsOutcome setup' dict' know' scripts' document)
     → setup.usage ≡ false → setup'.usage ≡ false → HasShortScripts scripts → HasShortScripts scripts' → HasPlainTexts one.replies → HasPlainTexts other.replies
+    → (map shown_of (all_placed 1 scripts one.replies) ≡ map shown_of (all_placed 1 scripts' other.replies)) × (one.journal ≡ other.journal)
+
+-- Words that ask for sessions, and what files with these contents give for them.
+pub record IsRunOf (contents : Contents) (words : List (List ℕ)) (setup : Setup) (dict : Dictionary) (know : Knowledge) (scripts : List (List CommandView)) : Type 0 where
+  pub dictionary : List ℕ
+  pub knowledge : List ℕ
+  pub files : List (List ℕ)
+  pub form : TaskIs words (Run setup dictionary knowledge files)
+  pub names : List (List ℕ)
+  pub read : InputsAre contents (Run setup dictionary knowledge files) names (accepted (RunGiven setup dict know scripts))
+
+-- Whatever the inputs of two runs were: a document that is that of both, without totals of usage, shows of both the same journal and, of each
+-- answer in order, the same place, kind and version.
+abbrev pub RunsOfInputsAreShown : Type 0
+RunsOfInputsAreShown =
+    (contents contents' : Contents) (words words' : List (List ℕ)) (setup setup' : Setup) (dict dict' : Dictionary) (know know' : Knowledge) (scripts scripts' : List (List CommandView)) (document : List ℕ)
+    → IsRunOf contents words setup dict know scripts → IsRunOf contents' words' setup' dict' know' scripts'
+    → (one : IsOutcome setup dict know scripts document) (other : IsOutcome setup' dict' know' scripts' document) → setup.usage ≡ false → setup'.usage ≡ false
     → (map shown_of (all_placed 1 scripts one.replies) ≡ map shown_of (all_placed 1 scripts' other.replies)) × (one.journal ≡ other.journal)

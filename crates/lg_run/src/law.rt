@@ -3,11 +3,14 @@ ghost use Rattle.std.specs.Prelude.{◌≡◌, ℕ, List};
 ghost use Rattle.lg_base.specs.Contents.{Contents};
 ghost use Rattle.lg_run.specs.Words.{Task, TaskIs};
 ghost use Rattle.lg_run.specs.Inputs.{InputsAre, HasSome, IsOne};
-ghost use Rattle.lg_run.specs.Shown.{OutcomesAreShown, RunsAreShown};
+ghost use Rattle.lg_run.specs.Shown.{OutcomesAreShown, RunsAreShown, RunsOfInputsAreShown};
+ghost use Rattle.lg_run.specs.PlainInputs.{DictionariesArePlain, EditsKeepPlain};
+ghost use Rattle.lg_run.specs.Determined.{AnswersAreDetermined, DocumentsTellAnswers};
 
 use lg_dictread::exactly_one_dictionary;
 use lg_knowread::exactly_one_knowledge;
-use lg_script::exactly_one_script;
+use lg_script::{exactly_one_script, scripts_have_single_lines, scripts_keep_bounds};
+use lg_token::{tokens_are_one_list, tokens_lie_in_order};
 
 /// The inputs of a command come to one thing, whatever the files hold, and one list of names is read for them. The function
 /// does nothing: a caller whose proof needs the fact calls it.
@@ -25,12 +28,35 @@ pub fn words_have_one_task()
     ensures { (words : List (List ℕ)) (x y : Task) → TaskIs words x → TaskIs words y → x ≡ y }
 {}
 
-/// The document of a run determines the journal and, of each answer in order, its place, its kind and its version, where no text
-/// of an answer has a line feed: `outcomes` for any answers whose numbers are of their types, `runs` for two runs of scripts,
-/// without totals of usage, that write the same document. The function does nothing: a caller whose proof needs the fact calls it.
+/// No name of a dictionary that is read has a line feed, nor has a connector of its formulas; and edits without line feeds keep it so. The
+/// function does nothing: a caller whose proof needs the fact calls it.
+pub fn dictionaries_are_plain()
+    ensures read { DictionariesArePlain }
+    ensures edited { EditsKeepPlain }
+{}
+
+/// The document of a run determines the journal and, of each answer in order, its place, its kind and its version: `outcomes` for any
+/// answers whose numbers are of their types and whose texts have no line feed; `runs` for two runs of scripts that write the same
+/// document, without totals of usage, if no text of an answer has a line feed; and `inputs` for two such runs whatever their inputs
+/// are. The function does nothing: a caller whose proof needs the fact calls it.
 pub fn documents_show()
     ensures outcomes { OutcomesAreShown }
     ensures runs { RunsAreShown }
+    ensures inputs { RunsOfInputsAreShown }
 {
     lg_text::documents_show();
+    scripts_have_single_lines();
+    scripts_keep_bounds();
+    tokens_lie_in_order();
+}
+
+/// The journal and the versions that answers name determine every answer: `answers` says all of it if disjuncts are counted, and else all
+/// but their numbers; and so the document of a run does, without totals of usage, whatever its inputs are (`documents`). The function
+/// does nothing: a caller whose proof needs the fact calls it.
+pub fn answers_are_determined()
+    ensures answers { AnswersAreDetermined }
+    ensures documents { DocumentsTellAnswers }
+{
+    tokens_are_one_list();
+    documents_show();
 }

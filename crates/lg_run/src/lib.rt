@@ -20,6 +20,9 @@ mod stop;
 mod top;
 mod usage;
 
-pub use law::{documents_show, inputs_have_one_verdict, words_have_one_task};
+pub use law::{
+    answers_are_determined, dictionaries_are_plain, documents_show, inputs_have_one_verdict,
+    words_have_one_task,
+};
 pub use status::Status;
 pub use top::run;
