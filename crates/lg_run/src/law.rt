@@ -2,10 +2,14 @@
 ghost use Rattle.std.specs.Prelude.{◌≡◌, ℕ, List};
 ghost use Rattle.lg_base.specs.Contents.{Contents};
 ghost use Rattle.lg_run.specs.Words.{Task, TaskIs};
+ghost use Rattle.lg_run.specs.Exported.{ExportsAreDictionaries};
 ghost use Rattle.lg_run.specs.Inputs.{InputsAre, HasSome, IsOne};
 ghost use Rattle.lg_run.specs.Shown.{OutcomesAreShown, RunsAreShown};
 
 use lg_dictread::exactly_one_dictionary;
+use lg_export::{
+    edited_dictionaries_are_exportable, exports_read_back, read_dictionaries_are_exportable,
+};
 use lg_knowread::exactly_one_knowledge;
 use lg_script::exactly_one_script;
 
@@ -33,4 +37,15 @@ pub fn documents_show()
     ensures runs { RunsAreShown }
 {
     lg_text::documents_show();
+}
+
+/// What is exported is a dictionary: each text that comes of the inputs of an export stands for entries of the same words with their
+/// formulas and the same macros with their formulas and levels, and asks for no word file. The function does nothing: a caller
+/// whose proof needs the fact calls it.
+pub fn exports_are_dictionaries()
+    ensures { ExportsAreDictionaries }
+{
+    edited_dictionaries_are_exportable();
+    exports_read_back();
+    read_dictionaries_are_exportable();
 }
