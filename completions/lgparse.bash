@@ -8,7 +8,7 @@ _lgparse() {
   [[ $word == = ]] && word='' before=${COMP_WORDS[COMP_CWORD - 1]}
   [[ $before == = ]] && before=${COMP_WORDS[COMP_CWORD - 2]}
   if ((COMP_CWORD == 1)); then
-    local commands='one run gen'
+    local commands='one run gen export'
     # (what is installed is the program alone)
     [[ ${COMP_WORDS[0]} == */* && -d ${COMP_WORDS[0]%/*}/../crates ]] && commands+=' --build --install --help'
     mapfile -t COMPREPLY < <(compgen -W "$commands" -- "$word")
@@ -20,6 +20,12 @@ _lgparse() {
     [!-]*:--diagram | [!-]*:--stats | [!-]*:--prune | run:--usage) mapfile -t COMPREPLY < <(compgen -W 'on off' -- "$word") && return ;;
     [!-]*:--want | [!-]*:--examine | [!-]*:--workers) return ;;
   esac
+  if [[ $command == export ]]; then
+    ((COMP_CWORD <= 3)) || return
+    compopt -o filenames 2>/dev/null
+    mapfile -t COMPREPLY < <(compgen -f -- "$word")
+    return
+  fi
   [[ $command == one || $command == run ]] || return
   for ((i = 2; i < COMP_CWORD; i++)); do
     case ${COMP_WORDS[i]} in

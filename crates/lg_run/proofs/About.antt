@@ -5,10 +5,10 @@ use Rattle.lg_dictread.specs.declared.dict_error.DictError.TheVariants as errors
 use Rattle.lg_dictread.specs.Telling.{IsCause}
 use Rattle.lg_run.specs.Reads.{IsOfLast, IsAbout}
 use Rattle.lg_run.specs.Stops.{stop_status, stop_line}
-use Rattle.lg_run.specs.Answers.{IsRefusal, too_long, dictionary, knowledge, script, too_many_edits}
+use Rattle.lg_run.specs.Answers.{IsRefusal, too_long, dictionary, knowledge, script, too_many_edits, too_few_versions, quoted}
 use Rattle.lg_run.specs.declared.status.Status.TheVariants.{BadInput}
 use Rattle.lg_run.specs.declared.stop.Stop.{Stop}
-use Rattle.lg_run.specs.declared.stop.Stop.TheVariants.{Memory, Unreadable, TooLong, Dictionary, Knowledge, Script, TooManyEdits}
+use Rattle.lg_run.specs.declared.stop.Stop.TheVariants.{Memory, Unreadable, TooLong, Dictionary, Knowledge, Script, TooManyEdits, TooFewVersions, Quoted}
 
 -- ---- names
 
@@ -34,6 +34,8 @@ module _ (names more asked : Names) (wider : (x : List ℕ) → Contains names x
   about_more (Knowledge name error) h = wider name.now h
   about_more (Script name error) h = wider name.now h
   about_more (TooManyEdits name) h = wider name.now h
+  about_more (TooFewVersions name count) h = wider name.now h
+  about_more (Quoted name word) h = wider name.now h
 
   result_more : {T : Type 0} (r : Result T Stop) → IfErr r (IsAbout names asked) → IfErr r (IsAbout more asked)
   result_more (Ok x) h = tt
@@ -53,6 +55,9 @@ about_first name names asked = about_more (name ∷ []) (name ∷ names) asked (
 
 pub about_later : {T : Type 0} (name : List ℕ) (names asked : Names) (r : Result T Stop) → IfErr r (IsAbout names asked) → IfErr r (IsAbout (name ∷ names) asked)
 about_later name names asked = result_more names (name ∷ names) asked (later_name name names)
+
+pub about_second : (name other : List ℕ) (asked : Names) (stop : Stop) → IsAbout (other ∷ []) asked stop → IsAbout (name ∷ other ∷ []) asked stop
+about_second name other asked = about_more (other ∷ []) (name ∷ other ∷ []) asked (later_name name (other ∷ []))
 
 -- ---- where it comes from
 
@@ -79,3 +84,5 @@ stop_refuses names asked (Dictionary name error) about h = dictionary name.now e
 stop_refuses names asked (Knowledge name error) about h = knowledge name.now error about h
 stop_refuses names asked (Script name error) about h = script name.now error about h
 stop_refuses names asked (TooManyEdits name) about h = too_many_edits name.now about
+stop_refuses names asked (TooFewVersions name count) about h = too_few_versions name.now count about
+stop_refuses names asked (Quoted name word) about h = quoted name.now word about

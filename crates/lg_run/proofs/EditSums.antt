@@ -79,13 +79,13 @@ some_of_edits names scripts same = elim (passes EDITS (edit_counts scripts)) [
 
 -- ---- the numbers that are left of a row
 
-next_left : {A : Type 0} (xs : List A) (i : ℕ) (x : A) (more : List A) → x ∷ more ≡ drop i xs → more ≡ drop (suc i) xs
+pub next_left : {A : Type 0} (xs : List A) (i : ℕ) (x : A) (more : List A) → x ∷ more ≡ drop i xs → more ≡ drop (suc i) xs
 next_left [] zero x more e = absurd (cc e)
 next_left [] (suc i) x more e = absurd (cc e)
 next_left (y ∷ ys) zero x more e = cc
 next_left (y ∷ ys) (suc i) x more e = next_left ys i x more e
 
-next_there : {A : Type 0} (xs : List A) (i : ℕ) (x : A) (more : List A) → x ∷ more ≡ drop i xs → slice_get xs i ≡ Some x
+pub next_there : {A : Type 0} (xs : List A) (i : ℕ) (x : A) (more : List A) → x ∷ more ≡ drop i xs → slice_get xs i ≡ Some x
 next_there [] zero x more e = absurd (cc e)
 next_there [] (suc i) x more e = absurd (cc e)
 next_there (y ∷ ys) zero x more e = let same : x ≡ y = cc in ap Some (sym same)

@@ -21,7 +21,7 @@ use Rattle.lg_run.specs.Stops.{dict_status, know_status, script_status, stop_sta
 use Rattle.lg_run.specs.Reads.{Comes, TellsStop, IsFaultOf, IsAbout}
 use Rattle.lg_run.specs.Answers.{WhereTold, IsNoTask, Unwritten, Caused, Told, AnswersRefused, AnswersAccepted, names_of, IsRefusal, HasLine, WritesLine, Finishes, last_line, IsStopped}
 use Rattle.lg_run.specs.declared.stop.Stop.{Stop}
-use Rattle.lg_run.specs.declared.stop.Stop.TheVariants.{Memory, Unreadable, TooLong, Dictionary, Knowledge, Script, TooManyEdits}
+use Rattle.lg_run.specs.declared.stop.Stop.TheVariants.{Memory, Unreadable, TooLong, Dictionary, Knowledge, Script, TooManyEdits, TooFewVersions, Quoted}
 use Rattle.lg_run.specs.declared.status.Status.{Status}
 use Rattle.lg_run.specs.declared.status.Status.TheVariants.{Done, BadInput, Usage, ReadFault, WriteFault, NoMemory}
 use Rattle.lg_run.proofs.About.{stop_refuses}
@@ -176,6 +176,8 @@ stop_said (Dictionary name error) h = memory_said name.now error h
 stop_said (Knowledge name error) h = know_said name.now error h
 stop_said (Script name error) h = script_said name.now error h
 stop_said (TooManyEdits name) h = cc
+stop_said (TooFewVersions name count) h = cc
+stop_said (Quoted name word) h = cc
 
 module _ (contents : Option Contents) (words : List (List ℕ)) (old new : List (List ℕ)) (before now : ℕ) where
   -- the line of a stop, by its status

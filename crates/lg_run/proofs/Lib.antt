@@ -8,6 +8,8 @@ pub mod Ends
 pub mod About
 pub mod EditSums
 pub mod ScriptLists
+pub mod VersionSteps
+pub mod ExportedTexts
 pub mod Verdicts
 pub mod Told
 pub mod Writing

@@ -12,7 +12,7 @@ use Rattle.lg_forest.specs.Forests.{AreWorkers}
 use Rattle.lg_run.specs.declared.setup.Setup.{Setup}
 use Rattle.lg_script.specs.Bounds.{IsCount}
 use Rattle.lg_script.specs.Commands.{IsNumber, written_number}
-use Rattle.lg_run.specs.Words.{Task, One, Run, Gen, HasForm, one_options, run_options, IsKnown, WritesNulls, first, passing, WritesSwitch, on, off, WritesWorkers, value_of, AreOptions, none, apart, joined, GivesNumber, GivesNulls, GivesSwitch, GivesWorkers, Gives, default_look, OptionsAre, is_operand, SENTENCE, SCRIPTS, WritesNumber, IsSeed, IsMadeCount, TaskIs, one, run, gen, AreInRange}
+use Rattle.lg_run.specs.Words.{Task, One, Run, Gen, Export, HasForm, one_options, run_options, IsKnown, WritesNulls, first, passing, WritesSwitch, on, off, WritesWorkers, value_of, AreOptions, none, apart, joined, GivesNumber, GivesNulls, GivesSwitch, GivesWorkers, Gives, default_look, OptionsAre, is_operand, SENTENCE, SCRIPTS, WritesNumber, IsSeed, IsMadeCount, IsEditCount, TaskIs, one, run, gen, export, AreInRange}
 use Rattle.lg_run.specs.Settings.{name_of, value_kind, named, operand, IsCut}
 use Rattle.lg_run.specs.declared.options.Kind.{Kind}
 use Rattle.lg_run.specs.declared.options.Setting.{Setting}
@@ -165,6 +165,18 @@ pub record IsGenOf (words : List (List ℕ)) (task : Task) : Type 0 where
   pub is_made : IsMadeCount made_word made
   pub are_sentences : IsMadeCount count_word sentences
 
+-- and of the word `export`
+pub record IsExportOf (words : List (List ℕ)) (task : Task) : Type 0 where
+  pub dictionary : List ℕ
+  pub script : List ℕ
+  pub digits : List ℕ
+  pub number : ℕ
+  pub same : task ≡ Export dictionary script number
+  pub split : words ≡ dictionary ∷ script ∷ digits ∷ []
+  pub dictionary_is : IsTrue (is_operand dictionary)
+  pub script_is : IsTrue (is_operand script)
+  pub is_count : IsEditCount digits number
+
 one_is_not_run : codes "one" ≡ codes "run" → ⊥
 one_is_not_run e = let same : ◌≡◌ {A = ℕ} 111 114 = ap (λ (w : List ℕ). get_or w 0 0) e in absurd (omega arith)
 
@@ -173,6 +185,15 @@ one_is_not_gen e = let same : ◌≡◌ {A = ℕ} 111 103 = ap (λ (w : List ℕ
 
 run_is_not_gen : codes "run" ≡ codes "gen" → ⊥
 run_is_not_gen e = let same : ◌≡◌ {A = ℕ} 114 103 = ap (λ (w : List ℕ). get_or w 0 0) e in absurd (omega arith)
+
+one_is_not_export : codes "one" ≡ codes "export" → ⊥
+one_is_not_export e = let same : ◌≡◌ {A = ℕ} 111 101 = ap (λ (w : List ℕ). get_or w 0 0) e in absurd (omega arith)
+
+run_is_not_export : codes "run" ≡ codes "export" → ⊥
+run_is_not_export e = let same : ◌≡◌ {A = ℕ} 114 101 = ap (λ (w : List ℕ). get_or w 0 0) e in absurd (omega arith)
+
+gen_is_not_export : codes "gen" ≡ codes "export" → ⊥
+gen_is_not_export e = let same : ◌≡◌ {A = ℕ} 103 101 = ap (λ (w : List ℕ). get_or w 0 0) e in absurd (omega arith)
 
 is_one : (words : List (List ℕ)) (task : Task) → TaskIs words task → (rest : List (List ℕ)) → words ≡ codes "one" ∷ rest → IsOneOf rest task
 is_one words task (one front setup dictionary sentence are d s short) rest e = record {
@@ -189,6 +210,7 @@ is_one words task (one front setup dictionary sentence are d s short) rest e = r
 }
 is_one words task (run front setup dictionary knowledge scripts are operands some few) rest e = absurd (one_is_not_run cc)
 is_one words task (gen a b c seed n m is_seed is_n is_m) rest e = absurd (one_is_not_gen cc)
+is_one words task (export dictionary script digits n d s is_n) rest e = absurd (one_is_not_export cc)
 
 is_run : (words : List (List ℕ)) (task : Task) → TaskIs words task → (rest : List (List ℕ)) → words ≡ codes "run" ∷ rest → IsRunOf rest task
 is_run words task (run front setup dictionary knowledge scripts are operands some few) rest e = record {
@@ -206,6 +228,7 @@ is_run words task (run front setup dictionary knowledge scripts are operands som
 }
 is_run words task (one front setup dictionary sentence are d s short) rest e = absurd (one_is_not_run cc)
 is_run words task (gen a b c seed n m is_seed is_n is_m) rest e = absurd (run_is_not_gen cc)
+is_run words task (export dictionary script digits n d s is_n) rest e = absurd (run_is_not_export cc)
 
 is_gen : (words : List (List ℕ)) (task : Task) → TaskIs words task → (rest : List (List ℕ)) → words ≡ codes "gen" ∷ rest → IsGenOf rest task
 is_gen words task (gen a b c seed n m is_seed is_n is_m) rest e = record {
@@ -223,6 +246,23 @@ is_gen words task (gen a b c seed n m is_seed is_n is_m) rest e = record {
 }
 is_gen words task (one front setup dictionary sentence are d s short) rest e = absurd (one_is_not_gen cc)
 is_gen words task (run front setup dictionary knowledge scripts are operands some few) rest e = absurd (run_is_not_gen cc)
+is_gen words task (export dictionary script digits n d s is_n) rest e = absurd (gen_is_not_export cc)
+
+is_export : (words : List (List ℕ)) (task : Task) → TaskIs words task → (rest : List (List ℕ)) → words ≡ codes "export" ∷ rest → IsExportOf rest task
+is_export words task (export dictionary script digits n d s is_n) rest e = record {
+  dictionary = dictionary;
+  script = script;
+  digits = digits;
+  number = n;
+  same = refl;
+  split = cc;
+  dictionary_is = d;
+  script_is = s;
+  is_count = is_n;
+}
+is_export words task (one front setup dictionary sentence are d s short) rest e = absurd (one_is_not_export cc)
+is_export words task (run front setup dictionary knowledge scripts are operands some few) rest e = absurd (run_is_not_export cc)
+is_export words task (gen a b c seed n m is_seed is_n is_m) rest e = absurd (gen_is_not_export cc)
 
 first_operand : (word : List ℕ) (words : List (List ℕ)) → AreOperands (word ∷ words) → IsTrue (is_operand word)
 first_operand word words operands = operands 0 [] (omega arith)
@@ -267,6 +307,13 @@ pub no_gen : (words : List (List ℕ)) → ((a b c : List ℕ) (seed n m : ℕ) 
 no_gen words nowhere task h =
     let is = is_gen (codes "gen" ∷ words) task h words refl in
     nowhere is.seed_word is.made_word is.count_word is.seed is.made is.sentences is.split is.is_seed is.is_made is.are_sentences
+
+-- words that are no two operands and a number in form
+pub no_export : (words : List (List ℕ)) → ((d s c : List ℕ) (n : ℕ) → words ≡ d ∷ s ∷ c ∷ [] → IsTrue (is_operand d) → IsTrue (is_operand s) → IsEditCount c n → ⊥)
+    → (task : Task) → TaskIs (codes "export" ∷ words) task → ⊥
+no_export words nowhere task h =
+    let is = is_export (codes "export" ∷ words) task h words refl in
+    nowhere is.dictionary is.script is.digits is.number is.split is.dictionary_is is.script_is is.is_count
 
 pub first_three : (a b c d e f : List ℕ) → a ∷ b ∷ c ∷ [] ≡ d ∷ e ∷ f ∷ [] → (a ≡ d) × (b ≡ e) × (c ≡ f)
 first_three a b c d e f h = (cc, cc, cc)
@@ -338,6 +385,18 @@ is_gen_command words command a b c seed n m task_is no_options split is_seed is_
       short = rw (task_is g.0) (is_seed.small, is_n.made, is_m.made);
     }
 
+pub is_export_command : (words : List (List ℕ)) (command : Command) (d s c : List ℕ) (n : ℕ) → ((setup : Setup) → task setup command ≡ Export d s n) → option_words command ≡ []
+    → words ≡ d ∷ s ∷ c ∷ [] → IsTrue (is_operand d) → IsTrue (is_operand s) → IsEditCount c n → IsCommand (codes "export" ∷ words) command
+is_export_command words command d s c n task_is no_options split is_d is_s is_n =
+    let g = gives_some all_settings [] [] none in
+    record {
+      setup = g.0;
+      are_options = rw no_options (record { settings = []; read = none; given = g.1 });
+      is_task = rw (task_is g.0, split) (export d s c n is_d is_s is_n);
+      range = g.2;
+      short = rw (task_is g.0) is_n.few;
+    }
+
 -- ---- a task is the only one
 
 -- digits write one number
@@ -346,6 +405,9 @@ one_writes most a b n m e h k = h.value ∙ ap (written_number 0) e ∙ sym k.va
 
 same_gen : (a b c d e f : ℕ) → a ≡ d → b ≡ e → c ≡ f → Gen a b c ≡ Gen d e f
 same_gen a b c d e f g h i = rw (g, h, i) refl
+
+same_export : (d e s t : List ℕ) (n m : ℕ) → d ≡ e → s ≡ t → n ≡ m → Export d s n ≡ Export e t m
+same_export d e s t n m f g h = rw (f, g, h) refl
 
 -- options are given in one way
 same_setup : (known : List (List ℕ × Kind)) (front other : List (List ℕ)) (x y : Setup) → (h : OptionsAre known front x) → (k : OptionsAre known other y) → h.settings ≡ k.settings → x ≡ y
@@ -379,3 +441,7 @@ one_task words x y (gen a b c seed n m is_seed is_n is_m) k =
     let same = first_three _ _ _ _ _ _ is.split in
     same_gen seed n m is.seed is.made is.sentences (one_writes 10 _ _ _ _ same.0 is_seed.writes is.is_seed.writes) (one_writes 6 _ _ _ _ same.1 is_n.writes is.is_made.writes) (one_writes 6 _ _ _ _ same.2 is_m.writes is.are_sentences.writes)
     ∙ sym is.same
+one_task words x y (export dictionary script digits n d s is_n) k =
+    let is = is_export words y k (dictionary ∷ script ∷ digits ∷ []) refl in
+    let same = first_three _ _ _ _ _ _ is.split in
+    same_export dictionary is.dictionary script is.script n is.number same.0 same.1 (one_writes 6 _ _ _ _ same.2 is_n.writes is.is_count.writes) ∙ sym is.same

@@ -5,11 +5,13 @@ use Rattle.lg_dict.specs.Dictionary.{Dictionary}
 use Rattle.lg_knowread.specs.declared.fault.KnowError.{KnowError}
 use Rattle.lg_knowread.specs.declared.knowledge.Knowledge.{Knowledge}
 use Rattle.lg_knowread.specs.Reading.{KnowledgeIs}
-use Rattle.lg_run.specs.Words.{Task, One, Run, Gen}
-use Rattle.lg_run.specs.Inputs.{HasSome, IsOne, FileIs, DictionaryInput, found_knowledge, KnowledgeReads, reads_knowledge, KnowledgeInput, ScriptsInput, EditsRead, OneGiven, RunGiven, GenGiven, given, ScriptsGiven, KnowledgeGiven, InputsAre, Followed}
+use Rattle.lg_run.specs.Words.{Task, One, Run, Gen, Export}
+use Rattle.lg_run.specs.Inputs.{HasSome, IsOne, FileIs, DictionaryInput, found_knowledge, KnowledgeReads, reads_knowledge, KnowledgeInput, ScriptsInput, EditsRead, OneGiven, RunGiven, GenGiven, given, ScriptsGiven, KnowledgeGiven, ExportReads, VersionGiven, InputsAre, Followed}
 use Rattle.lg_run.specs.declared.setup.Setup.{Setup}
 use Rattle.lg_run.proofs.Readings.{one_given, some_given, some_followed, one_followed}
 use Rattle.lg_run.proofs.ScriptLists.{SomeScript, OneScript, some_within, one_within}
+use Rattle.lg_run.proofs.VersionSteps.{some_version, one_version}
+use Rattle.lg_script.specs.Codes.{commands_of}
 use Rattle.lg_run.proofs.Dictionaries.{some_file, one_file, SomeDictionary, OneDictionary, one_dictionary, some_dictionary}
 
 -- ---- knowledge
@@ -41,12 +43,18 @@ module _ (dictionaries : OneDictionary) (knowledges : OneKnowledge) (scripts : O
   one_of_knowledge setup dict knowledge names =
       one_followed (KnowledgeInput contents knowledge) (λ know. ScriptsGiven contents setup dict know names) (one_knowledge knowledges contents knowledge) (λ know. one_of_scripts setup dict know names)
 
+  one_of_versions : (dictionary script : List ℕ) (n : ℕ) (dict : Dictionary) → IsOne (VersionGiven contents dictionary script n dict)
+  one_of_versions dictionary script n dict =
+      one_followed (Followed (ScriptsInput contents (script ∷ [])) (EditsRead (script ∷ []))) (λ all. ExportReads dictionary script n dict (commands_of all 0)) (one_within contents scripts (script ∷ [])) (λ all. one_version dictionary script n dict (commands_of all 0))
+
   pub one_verdict : (task : Task) → IsOne (InputsAre contents task)
   one_verdict (One setup dictionary sentence) =
       one_followed (DictionaryInput contents dictionary) (λ dict. given (OneGiven setup dict sentence)) (one_dictionary dictionaries contents dictionary) (λ dict. one_given (OneGiven setup dict sentence))
   one_verdict (Run setup dictionary knowledge names) =
       one_followed (DictionaryInput contents dictionary) (λ dict. KnowledgeGiven contents setup dict knowledge names) (one_dictionary dictionaries contents dictionary) (λ dict. one_of_knowledge setup dict knowledge names)
   one_verdict (Gen seed words sentences) = one_given (GenGiven seed words sentences)
+  one_verdict (Export dictionary script n) =
+      one_followed (DictionaryInput contents dictionary) (λ dict. VersionGiven contents dictionary script n dict) (one_dictionary dictionaries contents dictionary) (λ dict. one_of_versions dictionary script n dict)
 
 module _ (dictionaries : SomeDictionary) (knowledges : SomeKnowledge) (scripts : SomeScript) (contents : Contents) where
   some_of_scripts : (setup : Setup) (dict : Dictionary) (know : Knowledge) (names : List (List ℕ)) → HasSome (ScriptsGiven contents setup dict know names)
@@ -59,9 +67,15 @@ module _ (dictionaries : SomeDictionary) (knowledges : SomeKnowledge) (scripts :
       (some_followed (FileIs contents knowledge) (KnowledgeReads knowledge) (some_file contents knowledge) (some_know_text knowledges knowledge))
       (λ know. some_of_scripts setup dict know names)
 
+  some_of_versions : (dictionary script : List ℕ) (n : ℕ) (dict : Dictionary) → HasSome (VersionGiven contents dictionary script n dict)
+  some_of_versions dictionary script n dict =
+      some_followed (Followed (ScriptsInput contents (script ∷ [])) (EditsRead (script ∷ []))) (λ all. ExportReads dictionary script n dict (commands_of all 0)) (some_within contents scripts (script ∷ [])) (λ all. some_version dictionary script n dict (commands_of all 0))
+
   pub some_verdict : (task : Task) → HasSome (InputsAre contents task)
   some_verdict (One setup dictionary sentence) =
       some_followed (DictionaryInput contents dictionary) (λ dict. given (OneGiven setup dict sentence)) (some_dictionary dictionaries contents dictionary) (λ dict. some_given (OneGiven setup dict sentence))
   some_verdict (Run setup dictionary knowledge names) =
       some_followed (DictionaryInput contents dictionary) (λ dict. KnowledgeGiven contents setup dict knowledge names) (some_dictionary dictionaries contents dictionary) (λ dict. some_of_knowledge setup dict knowledge names)
   some_verdict (Gen seed words sentences) = some_given (GenGiven seed words sentences)
+  some_verdict (Export dictionary script n) =
+      some_followed (DictionaryInput contents dictionary) (λ dict. VersionGiven contents dictionary script n dict) (some_dictionary dictionaries contents dictionary) (λ dict. some_of_versions dictionary script n dict)

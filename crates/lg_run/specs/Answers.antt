@@ -10,13 +10,13 @@ use Rattle.lg_dictread.specs.declared.dict_error.DictError.{DictError}
 use Rattle.lg_knowread.specs.declared.fault.KnowError.{KnowError}
 use Rattle.lg_script.specs.declared.script_error.ScriptError.{ScriptError}
 use Rattle.lg_script.specs.Codes.{AreScripts}
-use Rattle.lg_run.specs.Words.{Task, One, Run, Gen, TaskIs, SENTENCE, AreInRange}
-use Rattle.lg_run.specs.Inputs.{Reading, accepted, refused, Given, OneGiven, RunGiven, GenGiven, InputsAre}
+use Rattle.lg_run.specs.Words.{Task, One, Run, Gen, Export, TaskIs, SENTENCE, AreInRange}
+use Rattle.lg_run.specs.Inputs.{Reading, accepted, refused, Given, OneGiven, RunGiven, GenGiven, ExportGiven, InputsAre}
 use Rattle.lg_run.specs.Reads.{Comes, IsOfLast}
 use Rattle.lg_gen.specs.Accepted.{IsMade}
 use Rattle.lg_run.specs.Documents.{DocumentIs, IsOutcome}
 use Rattle.lg_run.specs.MadeRuns.{IsMadeDocument}
-use Rattle.lg_run.specs.Lines.{usage_line, memory_line, output_line, unreadable_line, too_long_line, dict_line, know_line, script_line, edits_line}
+use Rattle.lg_run.specs.Lines.{usage_line, memory_line, output_line, unreadable_line, too_long_line, dict_line, know_line, script_line, edits_line, versions_line, quote_line}
 use Rattle.lg_run.specs.Stops.{dict_status, know_status, script_status}
 use Rattle.lg_run.specs.declared.outcome.Halt.{Halt}
 use Rattle.lg_run.specs.declared.outcome.Halt.TheVariants.{Memory, Output}
@@ -54,6 +54,7 @@ abbrev pub IsDocument : Given → List ℕ → Type 0
 IsDocument (OneGiven setup dict sentence) document = DocumentIs setup dict sentence document
 IsDocument (RunGiven setup dict know scripts) document = IsOutcome setup dict know scripts document
 IsDocument (GenGiven seed words sentences) document = IsMadeDocument seed words sentences document
+IsDocument (ExportGiven text) document = document ≡ text
 
 -- all inputs were accepted, and their document was written
 pub record WritesDocument (inputs : Reading Given) (asked_old asked_new : List (List ℕ)) (old new : Option (List ℕ)) : Type 0 where
@@ -94,6 +95,7 @@ abbrev pub names_of : Task → List (List ℕ)
 names_of (One setup dictionary sentence) = dictionary ∷ []
 names_of (Run setup dictionary knowledge scripts) = dictionary ∷ knowledge ∷ scripts
 names_of (Gen seed words sentences) = []
+names_of (Export dictionary script n) = dictionary ∷ script ∷ []
 
 -- what is said of a text that is refused: of a file with one of these names, or of the word file that was asked last
 pub data IsRefusal (names asked : List (List ℕ)) : List ℕ → Type 0 where
@@ -102,6 +104,8 @@ pub data IsRefusal (names asked : List (List ℕ)) : List ℕ → Type 0 where
   knowledge : (name : List ℕ) (error : KnowError) → Contains names name → know_status error ≡ BadInput → IsRefusal names asked (know_line name error)
   script : (name : List ℕ) (error : ScriptError) → Contains names name → script_status error ≡ BadInput → IsRefusal names asked (script_line name error)
   too_many_edits : (name : List ℕ) → Contains names name → IsRefusal names asked (edits_line name)
+  too_few_versions : (name : List ℕ) (count : ℕ) → Contains names name → IsRefusal names asked (versions_line name count)
+  quoted : (name word : List ℕ) → Contains names name → IsRefusal names asked (quote_line name word)
 
 -- The line of a status, by the names asked. BadInput has the line of a text that is refused, and where the files tell what they
 -- hold it is the first.
@@ -155,3 +159,4 @@ abbrev pub IsGivenInBounds : Given → Type 0
 IsGivenInBounds (OneGiven setup dict sentence) = AreInRange setup × (length sentence ≤ SENTENCE)
 IsGivenInBounds (RunGiven setup dict know scripts) = AreInRange setup × (length know.rules < 2 ^ 32) × AreScripts scripts
 IsGivenInBounds (GenGiven seed words sentences) = (seed < 2 ^ 32) × IsMade words × IsMade sentences
+IsGivenInBounds (ExportGiven text) = ⊤

@@ -1,5 +1,5 @@
 -- What comes of the inputs of a command, by the words and by what the files hold.
-use Rattle.std.specs.Prelude.{◌≡◌, ℕ, suc, ◌<◌, ◌≤◌, List, [], ◌∷◌, ◌++◌, length, map, take, sum, slice_get, Result, Ok, Err}
+use Rattle.std.specs.Prelude.{◌≡◌, ℕ, suc, ◌<◌, ◌≤◌, List, [], ◌∷◌, ◌++◌, length, map, take, sum, slice_get, is_none, if◌then◌else◌, Result, Ok, Err}
 use Rattle.std.specs.List.{flat_map}
 use Rattle.std.specs.FinMap.{from_entries}
 use Rattle.std.specs.declared.option.Option.TheVariants.{None, Some}
@@ -9,14 +9,18 @@ use Rattle.lg_dictread.specs.declared.dict_error.DictError.TheVariants as errors
 use Rattle.lg_dictread.specs.declared.dict_error.WordFileError.TheVariants as causes
 use Rattle.lg_dictread.specs.Limits.{FILE}
 use Rattle.lg_dictread.specs.Texts.{Meaning, TextAnswer, stands, refuse, DictionaryIs}
+use Rattle.lg_edit.specs.Edits.{accept, edited}
+use Rattle.lg_export.specs.Exports.{quoted_word}
+use Rattle.lg_export.specs.Spelling.{dictionary_spelled}
 use Rattle.lg_knowread.specs.declared.fault.KnowError.{KnowError}
 use Rattle.lg_knowread.specs.declared.knowledge.Knowledge.{Knowledge}
 use Rattle.lg_knowread.specs.Reading.{KnowledgeIs}
-use Rattle.lg_script.specs.Commands.{CommandView}
+use Rattle.lg_script.specs.Codes.{commands_of}
+use Rattle.lg_script.specs.Commands.{CommandView, makes}
 use Rattle.lg_script.specs.EditNumbers.{edit_counts}
 use Rattle.lg_script.specs.Scripts.{Outcome, ScriptIs}
-use Rattle.lg_run.specs.Words.{Task, One, Run, Gen}
-use Rattle.lg_run.specs.Lines.{too_long_line, dict_line, know_line, script_line, edits_line}
+use Rattle.lg_run.specs.Words.{Task, One, Run, Gen, Export}
+use Rattle.lg_run.specs.Lines.{too_long_line, dict_line, know_line, script_line, edits_line, versions_line, quote_line}
 use Rattle.lg_run.specs.declared.setup.Setup.{Setup}
 
 -- What comes of texts that are read: all are accepted and stand for this; or the first that is refused has this line;
@@ -122,6 +126,8 @@ pub data Given : Type 0 where
   RunGiven : Setup → Dictionary → Knowledge → List (List CommandView) → Given
   -- a seed, and how many words and sentences are made
   GenGiven : ℕ → ℕ → ℕ → Given
+  -- the text of a version
+  ExportGiven : List ℕ → Given
 
 -- the inputs of sessions: the dictionary, the knowledge and the scripts
 abbrev pub ScriptsGiven : Contents → Setup → Dictionary → Knowledge → List (List ℕ) → Reading Given
@@ -130,8 +136,29 @@ ScriptsGiven contents setup dict know names = Followed (Followed (ScriptsInput c
 abbrev pub KnowledgeGiven : Contents → Setup → Dictionary → List ℕ → List (List ℕ) → Reading Given
 KnowledgeGiven contents setup dict knowledge names = Followed (KnowledgeInput contents knowledge) (λ know. ScriptsGiven contents setup dict know names)
 
+-- A dictionary before all edits of a script, and after each that is accepted when it comes. An edit that is refused makes no version,
+-- and other commands are passed over.
+abbrev pub versions : Dictionary → List CommandView → List Dictionary
+versions dict [] = dict ∷ []
+versions dict (makes edit ∷ commands) = if is_none (accept dict edit) then dict ∷ versions (edited dict edit) commands else versions dict commands
+versions dict (_ ∷ commands) = versions dict commands
+
+-- Once the dictionary and the script are read: fewer edits are accepted than were asked for, a word of that version has a quote, or
+-- the version has a text. No file is read.
+pub data ExportReads (dictionary script : List ℕ) (n : ℕ) (dict : Dictionary) (commands : List CommandView) : List (List ℕ) → Found Given → Type 0 where
+  too_few : (count : ℕ) → length (versions dict commands) ≡ suc count → count < n → ExportReads dictionary script n dict commands [] (refused (versions_line script count))
+  quoted : (version : Dictionary) (word : List ℕ) → slice_get (versions dict commands) n ≡ Some version → quoted_word version ≡ Some word
+      → ExportReads dictionary script n dict commands [] (refused (quote_line dictionary word))
+  spelled : (version : Dictionary) → slice_get (versions dict commands) n ≡ Some version → quoted_word version ≡ None
+      → ExportReads dictionary script n dict commands [] (accepted (ExportGiven (dictionary_spelled version)))
+
+-- the inputs of a version, if the dictionary is had: the script, and what comes of both
+abbrev pub VersionGiven : Contents → List ℕ → List ℕ → ℕ → Dictionary → Reading Given
+VersionGiven contents dictionary script n dict = Followed (Followed (ScriptsInput contents (script ∷ [])) (EditsRead (script ∷ []))) (λ scripts. ExportReads dictionary script n dict (commands_of scripts 0))
+
 -- the inputs of a command
 abbrev pub InputsAre : Contents → Task → Reading Given
 InputsAre contents (One setup dictionary sentence) = Followed (DictionaryInput contents dictionary) (λ dict. given (OneGiven setup dict sentence))
 InputsAre contents (Run setup dictionary knowledge scripts) = Followed (DictionaryInput contents dictionary) (λ dict. KnowledgeGiven contents setup dict knowledge scripts)
 InputsAre contents (Gen seed words sentences) = given (GenGiven seed words sentences)
+InputsAre contents (Export dictionary script n) = Followed (DictionaryInput contents dictionary) (λ dict. VersionGiven contents dictionary script n dict)

@@ -7,6 +7,8 @@ pub mod Lines
 pub mod Inputs
 pub mod Stops
 pub mod Reads
+pub mod Versions
+pub mod Exported
 pub mod Pieces
 pub mod Documents
 pub mod MadeRuns

@@ -82,3 +82,11 @@ script_line name (script_errors.BadEdit line) = refusal_line name (on_line line 
 -- a script with which the edits become too many
 abbrev pub edits_line : List ℕ → List ℕ
 edits_line name = refusal_line name (codes "more than 100000 edits" ∷ [])
+
+-- a script of which fewer edits are accepted than were asked for
+abbrev pub versions_line : List ℕ → ℕ → List ℕ
+versions_line name count = refusal_line name (codes "only " ∷ decimal count ∷ codes " versions" ∷ [])
+
+-- a dictionary with a word that no text of a dictionary can write
+abbrev pub quote_line : List ℕ → List ℕ → List ℕ
+quote_line name word = refusal_line name (word ∷ codes " has a quote" ∷ [])

@@ -7,7 +7,7 @@ use Rattle.lg_base.specs.Files.{AsksWithin, EndsWith}
 use Rattle.lg_dictread.specs.declared.dict_error.DictError.{DictError}
 use Rattle.lg_dictread.specs.declared.dict_error.DictError.TheVariants as errors
 use Rattle.lg_script.specs.Commands.{script_views}
-use Rattle.lg_run.specs.Inputs.{Found, Reading, accepted, refused, Given, OneGiven, RunGiven, GenGiven}
+use Rattle.lg_run.specs.Inputs.{Found, Reading, accepted, refused, Given, OneGiven, RunGiven, GenGiven, ExportGiven}
 use Rattle.lg_run.specs.Lines.{unreadable_line}
 use Rattle.lg_run.specs.Stops.{stop_status, stop_line}
 use Rattle.lg_run.specs.declared.inputs.Inputs.{Inputs}
@@ -15,7 +15,7 @@ use Rattle.lg_run.specs.declared.inputs.Inputs.TheVariants as inputs
 use Rattle.lg_run.specs.declared.status.Status.{Status}
 use Rattle.lg_run.specs.declared.status.Status.TheVariants.{BadInput, ReadFault}
 use Rattle.lg_run.specs.declared.stop.Stop.{Stop}
-use Rattle.lg_run.specs.declared.stop.Stop.TheVariants.{Memory, Unreadable, TooLong, Dictionary, Knowledge, Script, TooManyEdits}
+use Rattle.lg_run.specs.declared.stop.Stop.TheVariants.{Memory, Unreadable, TooLong, Dictionary, Knowledge, Script, TooManyEdits, TooFewVersions, Quoted}
 
 -- whatever comes of the reading, no more was asked than is read for it, and in that order
 abbrev pub AsksInOrder : {A : Type 0} → Reading A → List (List ℕ) → List (List ℕ) → Type 0
@@ -60,6 +60,8 @@ IsAbout names asked (Dictionary name error) = Contains names name.now × IsOfLas
 IsAbout names asked (Knowledge name error) = Contains names name.now
 IsAbout names asked (Script name error) = Contains names name.now
 IsAbout names asked (TooManyEdits name) = Contains names name.now
+IsAbout names asked (TooFewVersions name count) = Contains names name.now
+IsAbout names asked (Quoted name word) = Contains names name.now
 
 -- an answer that is no read fault
 abbrev pub IsNoFaultOf : Status → Type 0
@@ -80,3 +82,4 @@ abbrev pub given_in : Inputs → Given
 given_in (inputs.One setup dict sentence) = OneGiven setup dict sentence.now
 given_in (inputs.Run setup dict know scripts) = RunGiven setup dict know (script_views scripts)
 given_in (inputs.Gen seed words sentences) = GenGiven seed words sentences
+given_in (inputs.Export text) = ExportGiven text.items

@@ -10,11 +10,11 @@ use Rattle.lg_knowread.specs.declared.fault.KnowError.{KnowError}
 use Rattle.lg_knowread.specs.declared.fault.KnowError.TheVariants as know_errors
 use Rattle.lg_script.specs.declared.script_error.ScriptError.{ScriptError}
 use Rattle.lg_script.specs.declared.script_error.ScriptError.TheVariants as script_errors
-use Rattle.lg_run.specs.Lines.{memory_line, unreadable_line, too_long_line, dict_line, know_line, script_line, edits_line}
+use Rattle.lg_run.specs.Lines.{memory_line, unreadable_line, too_long_line, dict_line, know_line, script_line, edits_line, versions_line, quote_line}
 use Rattle.lg_run.specs.declared.status.Status.{Status}
 use Rattle.lg_run.specs.declared.status.Status.TheVariants.{BadInput, ReadFault, NoMemory}
 use Rattle.lg_run.specs.declared.stop.Stop.{Stop}
-use Rattle.lg_run.specs.declared.stop.Stop.TheVariants.{Memory, Unreadable, TooLong, Dictionary, Knowledge, Script, TooManyEdits}
+use Rattle.lg_run.specs.declared.stop.Stop.TheVariants.{Memory, Unreadable, TooLong, Dictionary, Knowledge, Script, TooManyEdits, TooFewVersions, Quoted}
 
 -- a word file that cannot be read is a read fault, and every other error but running out of memory is one of the input
 abbrev pub dict_status : DictError → Status
@@ -38,6 +38,8 @@ stop_status (Dictionary name error) = dict_status error
 stop_status (Knowledge name error) = know_status error
 stop_status (Script name error) = script_status error
 stop_status (TooManyEdits name) = BadInput
+stop_status (TooFewVersions name count) = BadInput
+stop_status (Quoted name word) = BadInput
 
 abbrev pub stop_line : Stop → List ℕ
 stop_line Memory = memory_line
@@ -47,6 +49,8 @@ stop_line (Dictionary name error) = dict_line name.now error
 stop_line (Knowledge name error) = know_line name.now error
 stop_line (Script name error) = script_line name.now error
 stop_line (TooManyEdits name) = edits_line name.now
+stop_line (TooFewVersions name count) = versions_line name.now count
+stop_line (Quoted name word) = quote_line name.now word
 
 -- the status and, where this is so, the line that was written
 pub record SaysOf (status wanted : Status) (so : Type 0) (old new : Option (List ℕ)) (line : List ℕ) : Type 0 where

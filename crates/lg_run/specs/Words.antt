@@ -1,4 +1,5 @@
--- The form of the words of the command line: `one` or `run`, then options, then operands; or `gen` and three numbers.
+-- The form of the words of the command line: `one` or `run`, then options, then operands; `gen` and three numbers; or `export`, two
+-- operands and a number.
 use Rattle.std.specs.Prelude.{◌≡◌, ◌≢◌, ℕ, ◌<◌, ◌≤◌, ◌^◌, Bool, true, false, not, IsTrue, List, [], ◌∷◌, ◌++◌, codes, nat_eq, bytes_eq, length, All, Contains, Option, None, Some, if◌then◌else◌}
 use Rattle.lg_answer.specs.Pages.{default_options}
 use Rattle.lg_answer.specs.declared.options.Nulls.{Nulls}
@@ -22,6 +23,8 @@ pub data Task : Type 0 where
   Run : Setup → List ℕ → List ℕ → List (List ℕ) → Task
   -- the sums of a made session: the seed, and how many words and sentences are made
   Gen : ℕ → ℕ → ℕ → Task
+  -- the text of a version: the names of the dictionary and of a script, and how many of its edits are made
+  Export : List ℕ → List ℕ → ℕ → Task
 
 -- ---- options
 
@@ -161,9 +164,14 @@ pub record IsMadeCount (digits : List ℕ) (n : ℕ) : Type 0 where
   pub writes : WritesNumber 6 digits n
   pub made : IsMade n
 
+-- how many edits are made: up to six digits that write a number up to 100,000
+pub record IsEditCount (digits : List ℕ) (n : ℕ) : Type 0 where
+  pub writes : WritesNumber 6 digits n
+  pub few : n ≤ 100000
+
 -- ---- commands
 
--- `one OPTIONS DICT SENTENCE`, `run OPTIONS DICT KNOWLEDGE SCRIPT..` with 1 to 64 scripts, and `gen SEED WORDS SENTENCES`
+-- `one OPTIONS DICT SENTENCE`, `run OPTIONS DICT KNOWLEDGE SCRIPT..` with 1 to 64 scripts, `gen SEED WORDS SENTENCES`, and `export DICT SCRIPT N`
 pub data TaskIs : List (List ℕ) → Task → Type 0 where
   one : (front : List (List ℕ)) (setup : Setup) (dictionary sentence : List ℕ) → OptionsAre one_options front setup
       → IsTrue (is_operand dictionary) → IsTrue (is_operand sentence) → length sentence ≤ SENTENCE
@@ -173,14 +181,18 @@ pub data TaskIs : List (List ℕ) → Task → Type 0 where
       → TaskIs (codes "run" ∷ (front ++ dictionary ∷ knowledge ∷ scripts)) (Run setup dictionary knowledge scripts)
   gen : (a b c : List ℕ) (seed words sentences : ℕ) → IsSeed a seed → IsMadeCount b words → IsMadeCount c sentences
       → TaskIs (codes "gen" ∷ a ∷ b ∷ c ∷ []) (Gen seed words sentences)
+  export : (dictionary script digits : List ℕ) (n : ℕ) → IsTrue (is_operand dictionary) → IsTrue (is_operand script) → IsEditCount digits n
+      → TaskIs (codes "export" ∷ dictionary ∷ script ∷ digits ∷ []) (Export dictionary script n)
 
 -- ---- what holds of each task
 
--- its sentence is no longer than a sentence may be, its scripts are no more than there may be, and its numbers are those that may be made
+-- its sentence is no longer than a sentence may be, its scripts are no more than there may be, and its numbers are those that may be
+-- made, or edits that a script may have
 abbrev pub IsShort : Task → Type 0
 IsShort (One setup dictionary sentence) = length sentence ≤ SENTENCE
 IsShort (Run setup dictionary knowledge scripts) = (1 ≤ length scripts) × (length scripts ≤ SCRIPTS)
 IsShort (Gen seed words sentences) = (seed < 2 ^ 32) × IsMade words × IsMade sentences
+IsShort (Export dictionary script n) = n ≤ 100000
 
 -- its numbers are those that an option may set
 pub record HasCounts (options : Options) : Type 0 where

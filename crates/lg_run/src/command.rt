@@ -4,7 +4,7 @@ ghost use Rattle.std.specs.List.{list_all};
 ghost use Rattle.lg_run.specs.Words.{Task, TaskIs, is_operand};
 ghost use Rattle.lg_run.specs.Commands.{option_words, IsCommand};
 
-use crate::number::{made_count_of, seed_of};
+use crate::number::{edit_count_of, made_count_of, seed_of};
 use crate::options::{ONE, RUN, cut_options, is_operand};
 use lg_dictread::FILE;
 
@@ -30,6 +30,13 @@ pub enum Command<'a> {
         words: u32,
         sentences: u32,
     },
+    /// The text of a version.
+    Export {
+        dictionary: &'a str,
+        script: &'a String,
+        /// How many edits are made.
+        number: u32,
+    },
 }
 
 impl<'a> Command<'a> {
@@ -39,7 +46,7 @@ impl<'a> Command<'a> {
     {
         match self {
             Command::One { options, .. } | Command::Run { options, .. } => options,
-            Command::Gen { .. } => &[],
+            Command::Gen { .. } | Command::Export { .. } => &[],
         }
     }
 }
@@ -52,14 +59,15 @@ const SCRIPTS: usize = 64;
 
 /// The command that the words ask for. None where they are in no form.
 ///
-/// The first word is `one`, `run` or `gen`. Behind the first two stand options, each at most once and in any order, in two words or
+/// The first word is `one`, `run`, `gen` or `export`. Behind the first two stand options, each at most once and in any order, in two words or
 /// joined by `=`: `--want N` and `--examine N`, where N is one to seven digits that write a number from 1 to 1,000,000,
 /// `--nulls first` or `--nulls passing`, `--prune`, `--stats` and `--diagram`, each with `on` or `off`, and `--workers N`, where N is
 /// such a number from 1 to 16; and behind `run` alone `--usage` with `on` or `off`. Where an option is left out, want is 10, examine is
 /// 1000, nulls is first, prune is on, stats, diagram and usage are off, and workers is 1. Operands are last, and none of them begins with `-`: `one` has two, DICT and SENTENCE, of which the
 /// second has at most 67,108,864 bytes, and `run` has DICT, KNOWLEDGE and 1 to 64 scripts. Behind `gen` stand three words of digits
 /// alone: a seed of up to ten digits that write a number below 2^32, and the numbers of words and of sentences, each of up to six
-/// digits that write a number from 1 to 100,000.
+/// digits that write a number from 1 to 100,000. Behind `export` stand DICT and SCRIPT, which do not begin with `-`, and the number of
+/// edits: up to six digits that write a number up to 100,000.
 pub fn command_of(words: &[String]) -> Option<Command<'_>>
     ensures { MatchOption result
         ((t : Task) → TaskIs (map string_bytes words.now) t → ⊥)
@@ -70,6 +78,7 @@ pub fn command_of(words: &[String]) -> Option<Command<'_>>
         "one" => one_of(rest),
         "run" => run_of(rest),
         "gen" => gen_of(rest),
+        "export" => export_of(rest),
         _ => None,
     }
 }
@@ -123,6 +132,38 @@ fn gen_of(words: &[String]) -> Option<Command<'_>>
         words,
         sentences,
     })
+}
+
+fn export_of(words: &[String]) -> Option<Command<'_>>
+    ensures { MatchOption result
+        ((t : Task) → TaskIs (codes "export" ∷ map string_bytes words.now) t → ⊥)
+        (IsCommand (codes "export" ∷ map string_bytes words.now)) }
+{
+    let (dictionary, script, number) = files_and_number(words)?;
+    if !is_operand(dictionary) || !is_operand(script) {
+        return None;
+    }
+    let number = edit_count_of(number)?;
+    Some(Command::Export {
+        dictionary,
+        script,
+        number,
+    })
+}
+
+// The words, where there are three.
+fn files_and_number(words: &[String]) -> Option<(&str, &String, &str)>
+    ensures { MatchOption result
+        ((a b c : List ℕ) → map string_bytes words.now ≡ a ∷ b ∷ c ∷ [] → ⊥)
+        (λ three. map string_bytes words.now ≡ three.0.now ∷ string_bytes three.1.now ∷ three.2.now ∷ []) }
+{
+    let (dictionary, rest) = words.split_first()?;
+    let (script, numbers) = rest.split_first()?;
+    let (number, more) = numbers.split_first()?;
+    if !more.is_empty() {
+        return None;
+    }
+    Some((dictionary.as_str(), script, number.as_str()))
 }
 
 // The words, where there are three.

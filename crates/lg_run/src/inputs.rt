@@ -1,13 +1,16 @@
 //! The inputs of a command, read and taken apart in order.
-ghost use Rattle.std.specs.Prelude.{◌≡◌, ◌≤◌, ◌<◌, ◌^◌, [], ◌∷◌, length, map, string_bytes, IfSome, IfOk, IfErr};
+ghost use Rattle.std.specs.Prelude.{◌≡◌, ◌≤◌, ◌<◌, ◌^◌, ℕ, List, [], ◌∷◌, length, map, string_bytes, IfSome, IfOk, IfErr};
 ghost use Rattle.lg_dictread.specs.Limits.{FILE};
+ghost use Rattle.lg_script.specs.Codes.{AreScripts, commands_of};
+ghost use Rattle.lg_script.specs.Commands.{script_views};
 ghost use Rattle.lg_run.specs.Commands.{task};
-ghost use Rattle.lg_run.specs.Words.{One, Run, IsShort, AreInRange, SENTENCE, SCRIPTS};
-ghost use Rattle.lg_run.specs.Inputs.{FileIs, DictionaryReads, DictionaryInput, KnowledgeGiven, ScriptsGiven, InputsAre};
-ghost use Rattle.lg_run.specs.Reads.{AsksInOrder, Tells, HasCause, IsAbout, given_in};
+ghost use Rattle.lg_run.specs.Words.{One, Run, Export, IsShort, AreInRange, SENTENCE, SCRIPTS};
+ghost use Rattle.lg_run.specs.Inputs.{FileIs, DictionaryReads, DictionaryInput, ExportReads, KnowledgeGiven, ScriptsGiven, VersionGiven, InputsAre};
+ghost use Rattle.lg_run.specs.Reads.{AsksInOrder, Tells, HasCause, IsAbout, IsNoFault, given_in};
 ghost use Rattle.lg_run.specs.Answers.{names_of, IsGivenInBounds};
 
 use crate::command::Command;
+use crate::export::{first_commands, version_text};
 use crate::knowledge::read_know;
 use crate::script::read_scripts;
 use crate::setup::Setup;
@@ -18,6 +21,7 @@ use lg_dictread::{FILE, exactly_one_dictionary, read_dict};
 use lg_knowread::{Knowledge, exactly_one_knowledge};
 use lg_script::{Scripts, exactly_one_script};
 use std::alloc::Global;
+use std::slice;
 
 /// The inputs of a command.
 #[derive(Drop)]
@@ -38,6 +42,10 @@ pub enum Inputs<'a> {
         seed: u32,
         words: u32,
         sentences: u32,
+    },
+    /// The text of a version of the dictionary.
+    Export {
+        text: Vec<u8>,
     },
 }
 
@@ -77,6 +85,11 @@ pub fn read_inputs<'a, F: Files>(
             words,
             sentences,
         }),
+        Command::Export {
+            dictionary,
+            script,
+            number,
+        } => inputs_of_export(alloc, files, dictionary, script, number),
     }
 }
 
@@ -181,6 +194,71 @@ fn after_knowledge<'a, F: Files>(
             know,
             scripts,
         }),
+        Err(stop) => Err(stop),
+    }
+}
+
+/// A dictionary and a script, and the text of a version that the script makes.
+fn inputs_of_export<'a, F: Files>(
+    alloc: Global,
+    files: &mut F,
+    dictionary: &'a str,
+    script: &'a String,
+    number: u32,
+) -> Result<Inputs<'a>, Stop<'a>>
+    ensures names { IfSome (F.contents files.old) (λ known. AsksInOrder (InputsAre known (Export dictionary.now (string_bytes script.now) number)) (F.asked files.old) (F.asked files.new)) }
+    ensures told { IfSome (F.contents files.old) (λ known. Tells given_in (InputsAre known (Export dictionary.now (string_bytes script.now) number)) (F.asked files.old) (F.asked files.new) result) }
+    ensures bounds { IfOk result (λ inputs. IsGivenInBounds (given_in inputs)) }
+    ensures cause { HasCause (F.asked files.new) (F.faults files.old) (F.faults files.new) result }
+    ensures about { IfErr result (IsAbout (dictionary.now ∷ string_bytes script.now ∷ []) (F.asked files.new)) }
+{
+    exactly_one_dictionary();
+    match read_dictionary(alloc, files, dictionary) {
+        Ok(dict) => version_of(alloc, files, dictionary, &dict, script, number),
+        Err(stop) => Err(stop),
+    }
+}
+
+/// A script, and the text of a version that it makes of the dictionary.
+fn version_of<'a, F: Files>(
+    alloc: Global,
+    files: &mut F,
+    dictionary: &'a str,
+    dict: &Dict,
+    script: &'a String,
+    number: u32,
+) -> Result<Inputs<'a>, Stop<'a>>
+    ensures names { IfSome (F.contents files.old) (λ known. AsksInOrder (VersionGiven known dictionary.now (string_bytes script.now) number dict.now) (F.asked files.old) (F.asked files.new)) }
+    ensures told { IfSome (F.contents files.old) (λ known. Tells given_in (VersionGiven known dictionary.now (string_bytes script.now) number dict.now) (F.asked files.old) (F.asked files.new) result) }
+    ensures bounds { IfOk result (λ inputs. IsGivenInBounds (given_in inputs)) }
+    ensures cause { HasCause (F.asked files.new) (F.faults files.old) (F.faults files.new) result }
+    ensures about { IfErr result (IsAbout (dictionary.now ∷ string_bytes script.now ∷ []) (F.asked files.new)) }
+{
+    exactly_one_script();
+    match read_scripts(alloc, files, slice::from_ref(script)) {
+        Ok(scripts) => exported(alloc, dictionary, dict, script.as_str(), &scripts, number),
+        Err(stop) => Err(stop),
+    }
+}
+
+/// The text of a version that the first of the scripts makes of the dictionary.
+fn exported<'a>(
+    alloc: Global,
+    dictionary: &'a str,
+    dict: &Dict,
+    script: &'a str,
+    scripts: &Scripts,
+    number: u32,
+) -> Result<Inputs<'a>, Stop<'a>>
+    requires { AreScripts (script_views scripts.now) }
+    ensures told { (asked : List (List ℕ)) → Tells given_in (ExportReads dictionary.entry.now script.entry.now number dict.now (commands_of (script_views scripts.now) 0)) asked asked result }
+    ensures bounds { IfOk result (λ inputs. IsGivenInBounds (given_in inputs)) }
+    ensures calm { IsNoFault result }
+    ensures about { (asked : List (List ℕ)) → IfErr result (IsAbout (dictionary.entry.now ∷ script.entry.now ∷ []) asked) }
+{
+    let commands = first_commands(scripts);
+    match version_text(alloc, dictionary, dict, script, commands, number) {
+        Ok(text) => Ok(Inputs::Export { text }),
         Err(stop) => Err(stop),
     }
 }

@@ -2,12 +2,16 @@
 ghost use Rattle.std.specs.Prelude.{◌≡◌, ℕ, List};
 ghost use Rattle.lg_base.specs.Contents.{Contents};
 ghost use Rattle.lg_run.specs.Words.{Task, TaskIs};
+ghost use Rattle.lg_run.specs.Exported.{ExportsAreDictionaries};
 ghost use Rattle.lg_run.specs.Inputs.{InputsAre, HasSome, IsOne};
 ghost use Rattle.lg_run.specs.Shown.{OutcomesAreShown, RunsAreShown, RunsOfInputsAreShown};
 ghost use Rattle.lg_run.specs.PlainInputs.{DictionariesArePlain, EditsKeepPlain};
 ghost use Rattle.lg_run.specs.Determined.{AnswersAreDetermined, DocumentsTellAnswers};
 
 use lg_dictread::exactly_one_dictionary;
+use lg_export::{
+    edited_dictionaries_are_exportable, exports_read_back, read_dictionaries_are_exportable,
+};
 use lg_knowread::exactly_one_knowledge;
 use lg_script::{exactly_one_script, scripts_have_single_lines, scripts_keep_bounds};
 use lg_token::{tokens_are_one_list, tokens_lie_in_order};
@@ -59,4 +63,15 @@ pub fn answers_are_determined()
 {
     tokens_are_one_list();
     documents_show();
+}
+
+/// What is exported is a dictionary: each text that comes of the inputs of an export stands for entries of the same words with their
+/// formulas and the same macros with their formulas and levels, and asks for no word file. The function does nothing: a caller
+/// whose proof needs the fact calls it.
+pub fn exports_are_dictionaries()
+    ensures { ExportsAreDictionaries }
+{
+    edited_dictionaries_are_exportable();
+    exports_read_back();
+    read_dictionaries_are_exportable();
 }

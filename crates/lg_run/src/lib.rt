@@ -2,6 +2,7 @@
 #![tactic(auto)]
 
 mod command;
+mod export;
 mod inputs;
 mod knowledge;
 pub mod law;

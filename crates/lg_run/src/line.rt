@@ -1,7 +1,7 @@
 //! The lines that say why a text is refused.
 ghost use Rattle.std.specs.Prelude.{◌≡◌, ◌∷◌, ◌++◌, [], IfOk, OnOk, map, decimal};
 ghost use Rattle.std.specs.List.{flat_map};
-ghost use Rattle.lg_run.specs.Lines.{refusal_line, on_line, not_utf8, syntax_at, line_about, dict_line, know_line, script_line, edits_line};
+ghost use Rattle.lg_run.specs.Lines.{refusal_line, on_line, not_utf8, syntax_at, line_about, dict_line, know_line, script_line, edits_line, versions_line, quote_line};
 ghost use Rattle.lg_run.specs.Pieces.{piece_text};
 ghost use Rattle.lg_dictread.specs.declared.dict_error.DictError.TheVariants as errors;
 
@@ -82,6 +82,29 @@ pub(crate) fn edits_line(alloc: Global, name: &[u8]) -> Result<Vec<u8>, NoMemory
     ensures { IfOk result (λ line. line.items ≡ edits_line name.now) }
 {
     refusal(alloc, name, &[Piece::Text(b"more than 100000 edits")])
+}
+
+/// The line of a script of which only so many edits are accepted.
+pub(crate) fn versions_line(alloc: Global, name: &[u8], count: u32) -> Result<Vec<u8>, NoMemory>
+    ensures { IfOk result (λ line. line.items ≡ versions_line name.now count) }
+{
+    let why = [
+        Piece::Text(b"only "),
+        Piece::Number(u64::from(count)),
+        Piece::Text(b" versions"),
+    ];
+    refusal(alloc, name, &why)
+}
+
+/// The line of a dictionary with a word that has a quote.
+pub(crate) fn quote_line(alloc: Global, name: &[u8], word: &[u8]) -> Result<Vec<u8>, NoMemory>
+    ensures { IfOk result (λ line. line.items ≡ quote_line name.now word.now) }
+{
+    refusal(
+        alloc,
+        name,
+        &[Piece::Text(word), Piece::Text(b" has a quote")],
+    )
 }
 
 fn word_file_line(alloc: Global, name: &[u8], cause: WordFileError) -> Result<Vec<u8>, NoMemory>

@@ -1,6 +1,6 @@
-//! The numbers of made input.
+//! The numbers of made input, and of the edits of a version.
 ghost use Rattle.std.specs.Prelude.{◌≤◌, ℕ, MatchOption};
-ghost use Rattle.lg_run.specs.Words.{WritesNumber, IsSeed, IsMadeCount};
+ghost use Rattle.lg_run.specs.Words.{WritesNumber, IsSeed, IsMadeCount, IsEditCount};
 
 use lg_script::decimal;
 
@@ -21,6 +21,17 @@ pub(crate) fn made_count_of(text: &str) -> Option<u32>
 {
     let count = written(text.as_bytes(), 6)?;
     if count < 1 || count > 100_000 {
+        return None;
+    }
+    Some(count as u32)
+}
+
+/// How many edits the text asks for: up to six digits that write a number up to 100,000. None where it asks for none.
+pub(crate) fn edit_count_of(text: &str) -> Option<u32>
+    ensures { MatchOption result ((n : ℕ) → IsEditCount text.now n → ⊥) (λ n. IsEditCount text.now n) }
+{
+    let count = written(text.as_bytes(), 6)?;
+    if count > 100_000 {
         return None;
     }
     Some(count as u32)

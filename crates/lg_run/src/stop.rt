@@ -1,5 +1,6 @@
 //! Why reading the inputs failed.
 
+use lg_base::Text;
 use lg_dictread::DictError;
 use lg_knowread::KnowError;
 use lg_script::ScriptError;
@@ -18,4 +19,8 @@ pub enum Stop<'a> {
     Script(&'a str, ScriptError),
     /// The script of that name, with which the edits are more than 100,000.
     TooManyEdits(&'a str),
+    /// The script of that name, and how many of its edits are accepted: fewer than were asked for.
+    TooFewVersions(&'a str, u32),
+    /// The dictionary of that name, and the least word of the version, by bytes, that has a quote.
+    Quoted(&'a str, Text),
 }

@@ -14,7 +14,7 @@ ghost use Rattle.lg_run.specs.Answers.{WhereTold, IsNoTask, Unwritten, Caused, T
 use crate::command::command_of;
 use crate::inputs::{Inputs, read_inputs};
 use crate::law::{inputs_have_one_verdict, words_have_one_task};
-use crate::line::{dict_line, edits_line, know_line, script_line};
+use crate::line::{dict_line, edits_line, know_line, quote_line, script_line, versions_line};
 use crate::lister::Lister;
 use crate::made::write_made;
 use crate::matched::read_setup;
@@ -136,6 +136,7 @@ fn write_document<R: Threads + Sync, O: Sink, G: Gate>(
             words,
             sentences,
         } => write_made(rt, alloc, *seed, *words, *sentences, out, gate),
+        Inputs::Export { text } => put(out, text),
     }
 }
 
@@ -230,6 +231,14 @@ fn refuse<E: Sink>(alloc: Global, err: &mut E, stop: Stop<'_>) -> Status
         }
         Stop::TooManyEdits(name) => {
             let line = edits_line(alloc, name.as_bytes());
+            fail_with(err, Status::BadInput, line)
+        }
+        Stop::TooFewVersions(name, count) => {
+            let line = versions_line(alloc, name.as_bytes(), count);
+            fail_with(err, Status::BadInput, line)
+        }
+        Stop::Quoted(name, word) => {
+            let line = quote_line(alloc, name.as_bytes(), word.bytes());
             fail_with(err, Status::BadInput, line)
         }
     }

@@ -33,6 +33,21 @@ returns-in-Run-clause-told g c =
     subst (λ (t : Command). IfSome (g.F.Files.contents c.args.files.now) (λ known. Tells given_in (InputsAre known (task c.args.setup t)) (g.F.Files.asked c.args.files.now) (g.F.Files.asked c.inputs_of_run.new.files) c.inputs_of_run.result))
     (sym c.in-Run.is) c.inputs_of_run.ensures.told
 
+pub returns-in-Export-clause-names : goal.returns-in-Export-clause-names
+returns-in-Export-clause-names g c =
+    subst (λ (t : Command). IfSome (g.F.Files.contents c.args.files.now) (λ known. AsksInOrder (InputsAre known (task c.args.setup t)) (g.F.Files.asked c.args.files.now) (g.F.Files.asked c.inputs_of_export.new.files)))
+    (sym c.in-Export.is) c.inputs_of_export.ensures.names
+
+pub returns-in-Export-clause-about : goal.returns-in-Export-clause-about
+returns-in-Export-clause-about g c =
+    subst (λ (t : Command). IfErr c.inputs_of_export.result (IsAbout (names_of (task c.args.setup t)) (g.F.Files.asked c.inputs_of_export.new.files)))
+    (sym c.in-Export.is) c.inputs_of_export.ensures.about
+
+pub returns-in-Export-clause-told : goal.returns-in-Export-clause-told
+returns-in-Export-clause-told g c =
+    subst (λ (t : Command). IfSome (g.F.Files.contents c.args.files.now) (λ known. Tells given_in (InputsAre known (task c.args.setup t)) (g.F.Files.asked c.args.files.now) (g.F.Files.asked c.inputs_of_export.new.files) c.inputs_of_export.result))
+    (sym c.in-Export.is) c.inputs_of_export.ensures.told
+
 -- no file is read for made input
 pub returns-in-Gen-clause-names : goal.returns-in-Gen-clause-names
 returns-in-Gen-clause-names g c =

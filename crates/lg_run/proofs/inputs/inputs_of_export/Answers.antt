@@ -1,0 +1,50 @@
+use Rattle.std.proofs.Common.{Option, IfSome, [], ◌∷◌, string_bytes, subst}
+use Rattle.std.proofs.lemmas.Option.{IfSome_then}
+use Rattle.lg_base.specs.Contents.{Contents}
+use Rattle.lg_run.specs.Inputs.{DictionaryInput, VersionGiven}
+use Rattle.lg_run.specs.Reads.{AsksInOrder, Tells, given_in}
+use Rattle.lg_run.specs.Stops.{stop_status, stop_line}
+use Rattle.lg_run.proofs.Readings.{known_both, asks_first, asks_next, stops_first, tells_next}
+use Rattle.lg_run.proofs.Dictionaries.{one_dictionary}
+use Rattle.lg_run.proofs.About.{about_first}
+use Rattle.lg_run.proofs.inputs.inputs_of_export.Goals as goal
+
+-- the dictionary, and then the script
+pub returns-in-Ok-clause-names : goal.returns-in-Ok-clause-names
+returns-in-Ok-clause-names g c =
+    let known = g.F.Files.contents c.args.files.now in
+    let name = c.args.dictionary.now in
+    let script = string_bytes c.args.script.now in
+    let old = g.F.Files.asked c.args.files.now in
+    let middle = g.F.Files.asked c.read_dictionary.new.files in
+    let new = g.F.Files.asked c.version_of.new.files in
+    let asks = subst (λ (o : Option Contents). IfSome o (λ k. AsksInOrder (VersionGiven k name script c.args.number c.in-Ok.dict) middle new)) c.in-Ok.ensures.unchanged c.version_of.ensures.names in
+    known_both known c.in-Ok.ensures.told asks
+    (λ k h next. asks_next (DictionaryInput k name) (λ dict. VersionGiven k name script c.args.number dict) old middle new c.in-Ok.dict h (one_dictionary c.exactly_one_dictionary.ensures.one k name) next)
+
+pub returns-in-Ok-clause-told : goal.returns-in-Ok-clause-told
+returns-in-Ok-clause-told g c =
+    let known = g.F.Files.contents c.args.files.now in
+    let name = c.args.dictionary.now in
+    let script = string_bytes c.args.script.now in
+    let old = g.F.Files.asked c.args.files.now in
+    let middle = g.F.Files.asked c.read_dictionary.new.files in
+    let new = g.F.Files.asked c.version_of.new.files in
+    let says = subst (λ (o : Option Contents). IfSome o (λ k. Tells given_in (VersionGiven k name script c.args.number c.in-Ok.dict) middle new c.version_of.result)) c.in-Ok.ensures.unchanged c.version_of.ensures.told in
+    known_both known c.in-Ok.ensures.told says
+    (λ k h next. tells_next (DictionaryInput k name) (λ dict. VersionGiven k name script c.args.number dict) old middle new c.in-Ok.dict h given_in c.version_of.result next)
+
+-- the dictionary was not had
+pub returns-in-Err-clause-names : goal.returns-in-Err-clause-names
+returns-in-Err-clause-names g c =
+    IfSome_then (g.F.Files.contents c.args.files.now) c.read_dictionary.ensures.names
+    (λ k h. asks_first (DictionaryInput k c.args.dictionary.now) (λ dict. VersionGiven k c.args.dictionary.now (string_bytes c.args.script.now) c.args.number dict) (g.F.Files.asked c.args.files.now) (g.F.Files.asked c.read_dictionary.new.files) h)
+
+pub returns-in-Err-clause-told : goal.returns-in-Err-clause-told
+returns-in-Err-clause-told g c =
+    IfSome_then (g.F.Files.contents c.args.files.now) c.in-Err.ensures.told
+    (λ k h. stops_first (DictionaryInput k c.args.dictionary.now) (λ dict. VersionGiven k c.args.dictionary.now (string_bytes c.args.script.now) c.args.number dict) (g.F.Files.asked c.args.files.now) (g.F.Files.asked c.read_dictionary.new.files)
+    (stop_status c.in-Err.stop) (stop_line c.in-Err.stop) h)
+
+pub returns-in-Err-clause-about : goal.returns-in-Err-clause-about
+returns-in-Err-clause-about g c = about_first c.args.dictionary.now (string_bytes c.args.script.now ∷ []) (g.F.Files.asked c.read_dictionary.new.files) c.in-Err.stop c.in-Err.ensures.about
