@@ -1,5 +1,5 @@
 -- The edits of scripts, added up: at most one script passes the limit, and some script or none.
-use Rattle.std.proofs.Common.{◌≡◌, ℕ, zero, suc, ◌+◌, ◌-◌, ◌≤◌, ◌<◌, List, [], ◌∷◌, length, count_by, take, drop, sum, Option, Some, None, slice_get, Contains, inl, inr, ◌⊎◌, get_or, refl, sym, ap, subst, ◌∙◌, arith}
+use Rattle.std.proofs.Common.{◌≡◌, ℕ, zero, suc, ◌+◌, ◌-◌, ◌≤◌, ◌<◌, List, [], ◌∷◌, length, count_by, take, drop, sum, Some, slice_get, Contains, inl, inr, ◌⊎◌, get_or, refl, sym, ap, subst, ◌∙◌, arith}
 use Rattle.std.proofs.lemmas.Bool.{cases_order}
 use Rattle.std.proofs.lemmas.List.{length-map}
 use Rattle.std.proofs.lemmas.List.Sums.{sum_by-cons, sum_by-take-le}
@@ -7,7 +7,7 @@ use Rattle.std.proofs.lemmas.Option.{slice_get-get_or}
 use Rattle.std.proofs.Math.Decide.{dec_le}
 use Rattle.lg_script.specs.Commands.{CommandView, is_edit}
 use Rattle.lg_script.specs.EditNumbers.{edit_counts}
-use Rattle.lg_run.specs.Inputs.{Found, HasSome, IsOne, accepted, refused, EDITS, EditsRead, few, many}
+use Rattle.lg_run.specs.Inputs.{HasSome, IsOne, accepted, refused, EDITS, EditsRead, few, many}
 use Rattle.lg_run.specs.Lines.{edits_line}
 use Rattle.lg_run.proofs.About.{first_name, later_name}
 

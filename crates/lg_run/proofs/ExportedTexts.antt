@@ -1,5 +1,5 @@
 -- What comes of the inputs of an export reads back as a dictionary.
-use Rattle.std.proofs.Common.{◌≡◌, ℕ, zero, suc, ◌+◌, Bool, true, false, cond, List, [], ◌∷◌, Option, Some, None, Result, Ok, Err, slice_get, is_none, refl, sym, ap, subst, ◌∙◌}
+use Rattle.std.proofs.Common.{◌≡◌, ℕ, zero, suc, ◌+◌, cond, List, [], ◌∷◌, Option, Some, None, Result, Ok, Err, slice_get, is_none, refl, sym, subst}
 use Rattle.std.specs.List.{AllByRecursion}
 use Rattle.lg_base.specs.Contents.{Contents}
 use Rattle.lg_gram.specs.declared.edit.EditRefusal.{EditRefusal}
@@ -7,17 +7,16 @@ use Rattle.lg_dict.specs.Dictionary.{Dictionary}
 use Rattle.lg_dictread.specs.declared.dict_error.DictError.{DictError}
 use Rattle.lg_dictread.specs.declared.dict_error.DictError.TheVariants as errors
 use Rattle.lg_dictread.specs.declared.dict_error.WordFileError.TheVariants as causes
-use Rattle.lg_dictread.specs.Texts.{TextAnswer, stands, refuse}
+use Rattle.lg_dictread.specs.Texts.{stands, refuse}
 use Rattle.lg_edit.specs.Edits.{accept, edited}
 use Rattle.lg_export.specs.Exportable.{IsExportable}
 use Rattle.lg_export.specs.Read.{ReadIsExportable, IsReadEdit, read_puts, read_sets, read_removes, EditedIsExportable}
-use Rattle.lg_export.specs.ReadBack.{ReadsBack, ExportsReadBack}
-use Rattle.lg_export.specs.Spelling.{dictionary_spelled}
+use Rattle.lg_export.specs.ReadBack.{ExportsReadBack}
 use Rattle.lg_script.specs.Codes.{commands_of}
 use Rattle.lg_script.specs.Commands as script_commands
 use Rattle.lg_script.specs.Commands.{CommandView, parses, lists, goes_on, makes, asks, Fault, CommandIs}
 use Rattle.lg_script.specs.Scripts.{Outcome, with_command, LinesGive, ended, passed, command, fault, ScriptIs, not_utf8, lines}
-use Rattle.lg_run.specs.Inputs.{Found, accepted, refused, missing, Reading, Given, OneGiven, RunGiven, GenGiven, ExportGiven, given, Followed, both, ends_refused, ends_missing, FileIs, absent, long, whole, found_in, DictionaryReads, reads, DictionaryInput, found_script, ScriptReads, reads_script, ScriptInput, ScriptsInput, EditsRead, few, many, versions, ExportReads, too_few, quoted, spelled, VersionGiven, InputsAre}
+use Rattle.lg_run.specs.Inputs.{Found, accepted, refused, missing, Reading, Given, OneGiven, RunGiven, GenGiven, ExportGiven, given, Followed, both, ends_refused, ends_missing, FileIs, absent, long, whole, found_in, DictionaryReads, reads, DictionaryInput, found_script, ScriptReads, reads_script, ScriptInput, ScriptsInput, EditsRead, few, many, versions, ExportReads, too_few, quoted, spelled, VersionGiven}
 use Rattle.lg_run.specs.Exported.{IsDictionaryText, ExportsAreDictionaries}
 
 -- ---- readings

@@ -1,6 +1,6 @@
 -- Legal answers to a script of parses: they publish nothing, and what they add to the sums is small.
-use Rattle.std.proofs.Common.{◌≡◌, ◌⊎◌, ℕ, zero, suc, ◌+◌, ◌-◌, ◌*◌, ◌^◌, ◌≤◌, ◌<◌, Bool, true, false, cond, List, [], ◌∷◌, ◌++◌, length, map, filter, drop, All, get_or, sum, count_by, Contains, Option, Some, None, is_none, slice_get, refl, sym, ap, subst, ◌∙◌, arith}
-use Rattle.std.specs.List.{AllByRecursion, enumerate_from, sum_by}
+use Rattle.std.proofs.Common.{◌≡◌, ℕ, zero, suc, ◌+◌, ◌-◌, ◌≤◌, ◌<◌, Bool, true, false, cond, List, [], ◌∷◌, length, map, filter, drop, All, get_or, sum, count_by, Contains, Option, Some, None, slice_get, refl, sym, ap, subst, ◌∙◌, arith}
+use Rattle.std.specs.List.{AllByRecursion, enumerate_from}
 use Rattle.std.specs.Prelude.{slice_index_or, is_some}
 use Rattle.std.proofs.lemmas.List.{length-map, length-drop}
 use Rattle.std.proofs.lemmas.List.FromFn.{length-enumerate_from}
@@ -8,20 +8,17 @@ use Rattle.std.proofs.lemmas.List.Elements.{All-weaker, All-contains_itself}
 use Rattle.std.proofs.lemmas.List.Sums.{sum_by-cons}
 use Rattle.std.proofs.lemmas.Bool.{cond-false}
 use Rattle.lg_gram.specs.Connectors.{Connector}
-use Rattle.lg_gram.specs.Linkages.{Linkage, IsLinkage, link_length, total_length}
+use Rattle.lg_gram.specs.Linkages.{Linkage}
 use Rattle.lg_gram.specs.Rules.{Good, left_list}
 use Rattle.lg_gram.specs.declared.disjunct.Disjunct.{Disjunct}
 use Rattle.lg_gram.specs.declared.linkage.Link.{Link}
 use Rattle.lg_gram.specs.declared.listing.Page.{Page}
 use Rattle.lg_gram.specs.declared.listing.PageItem.{PageItem}
-use Rattle.lg_gram.specs.declared.listing.Token.{Token}
 use Rattle.lg_gram.specs.declared.reply.Place.{Place}
 use Rattle.lg_gram.specs.declared.reply.Reply.{Reply}
 use Rattle.lg_dict.specs.Dictionary.{Dictionary}
-use Rattle.lg_dictread.specs.Texts.{Meaning}
 use Rattle.lg_knowread.specs.declared.knowledge.Knowledge.{Knowledge}
-use Rattle.lg_answer.specs.Pages.{IsPage, IsLinkageFor, default_options}
-use Rattle.lg_answer.specs.declared.options.Nulls.{Nulls}
+use Rattle.lg_answer.specs.Pages.{IsLinkageFor, default_options}
 use Rattle.lg_gen.specs.Accepted.{IsParse}
 use Rattle.lg_script.specs.Bounds.{AreInBounds}
 use Rattle.lg_script.specs.Codes.{AreScripts}
@@ -30,7 +27,7 @@ use Rattle.lg_script.specs.EditNumbers.{edit_counts}
 use Rattle.lg_script.specs.Histories.{numbered, is_published, published_by}
 use Rattle.lg_session.specs.Engines.{Progress}
 use Rattle.lg_session.specs.Legal.{Run, Holding, AnswerIs, published, refused, version, listed, beyond, more, no_more, Answered, so_far, next, IsLegal, AnswersAll}
-use Rattle.lg_run.specs.Documents.{listings, no_knowledge, IsShown, items_of}
+use Rattle.lg_run.specs.Documents.{listings, no_knowledge, IsShown}
 use Rattle.lg_run.specs.MadeRuns.{sums_text, IsMadeDocument}
 use Rattle.lg_run.specs.Sums.{AreMade, EndsWithin, IsSmall}
 use Rattle.lg_run.proofs.Turned.{no_more_than}

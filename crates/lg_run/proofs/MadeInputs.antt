@@ -1,5 +1,5 @@
 -- The inputs that are made of a seed, as the readers take them.
-use Rattle.std.proofs.Common.{◌≡◌, ◌∙◌, ◌≤◌, ◌<◌, ◌^◌, ℕ, List, [], ◌∷◌, ◌++◌, length, map, Ok, All, refl, sym, ap, subst}
+use Rattle.std.proofs.Common.{◌≡◌, ◌∙◌, ◌≤◌, ◌<◌, ◌^◌, ℕ, List, [], ◌∷◌, length, map, Ok, All, refl, sym, ap, subst}
 use Rattle.lg_base.specs.Contents.{Contents}
 use Rattle.lg_gram.specs.declared.entry.Entry.{Entry}
 use Rattle.lg_dict.specs.Dictionary.{Dictionary, dictionary_of}

@@ -1,10 +1,10 @@
 -- The numbers of a run's answers and of its journal are of their types.
-use Rattle.std.proofs.Common.{◌≡◌, ◌≢◌, ℕ, zero, suc, ◌+◌, ◌*◌, ◌^◌, ◌<◌, ◌≤◌, Bool, true, false, cond, eqb, leb, ltb, List, [], ◌∷◌, ◌++◌, length, map, All, Option, Some, None, IfSome, slice_get, slice_index_or, get_or, refl, ap, sym, ◌∙◌, subst, arith, true≢false, eq-eqb, leb-true, leb-false, le-leb}
+use Rattle.std.proofs.Common.{◌≡◌, ℕ, zero, suc, ◌+◌, ◌*◌, ◌^◌, ◌<◌, ◌≤◌, Bool, true, false, cond, leb, List, [], ◌∷◌, ◌++◌, length, map, All, Option, Some, None, IfSome, slice_get, get_or, refl, ap, sym, ◌∙◌, subst, arith, true≢false, eq-eqb, leb-true, leb-false, le-leb}
 use Rattle.std.specs.Prelude.{◌==◌}
 use Rattle.std.specs.Option.{is_some, option_map_or}
 use Rattle.std.specs.List.{filter, enumerate_from, AllByRecursion}
 use Rattle.std.proofs.lemmas.Bool.{cond-true, cond-false, lt-leb}
-use Rattle.std.proofs.lemmas.Option.{slice_get_within, slice_get-get_or}
+use Rattle.std.proofs.lemmas.Option.{slice_get-get_or}
 use Rattle.lg_gram.specs.Linkages.{Linkage}
 use Rattle.lg_gram.specs.declared.reply.Place.{Place}
 use Rattle.lg_gram.specs.declared.reply.Reply.{Reply}
@@ -14,7 +14,7 @@ use Rattle.lg_knowread.specs.declared.knowledge.Knowledge.{Knowledge}
 use Rattle.lg_run.specs.declared.setup.Setup.{Setup}
 use Rattle.lg_script.specs.Commands.{CommandView}
 use Rattle.lg_script.specs.Histories.{numbered, is_published, published_by, reply_version}
-use Rattle.lg_text.specs.Shown.{IsPlain, IsPlainReply, IsPlace, shown_version}
+use Rattle.lg_text.specs.Shown.{IsPlain, IsPlainReply, shown_version}
 use Rattle.lg_run.specs.Documents.{AreUsageLines, all_first_linkages, outcome_text, IsOutcome}
 use Rattle.lg_run.specs.Shown.{placed, all_placed, ArePlain, HasShortScripts, HasPlainTexts, OutcomesAreShown, RunsAreShown}
 

@@ -7,7 +7,7 @@ use Rattle.lg_base.specs.Contents.{Contents}
 use Rattle.lg_script.specs.Bounds.{AreInBounds}
 use Rattle.lg_script.specs.Commands.{CommandView}
 use Rattle.lg_script.specs.Scripts.{Outcome, ScriptIs}
-use Rattle.lg_run.specs.Inputs.{Found, Reading, accepted, refused, missing, HasSome, IsOne, given, Followed, both, ends_refused, ends_missing, FileIs, found_script, ScriptReads, reads_script, ScriptInput, ScriptsInput, EditsRead}
+use Rattle.lg_run.specs.Inputs.{Found, accepted, refused, missing, HasSome, IsOne, given, Followed, both, ends_refused, ends_missing, FileIs, found_script, ScriptReads, reads_script, ScriptInput, ScriptsInput, EditsRead}
 use Rattle.lg_run.specs.Reads.{AsksInOrder, Comes, TellsStop}
 use Rattle.lg_run.specs.declared.status.Status.{Status}
 use Rattle.lg_run.specs.declared.status.Status.TheVariants.{Done, BadInput, Usage, ReadFault, WriteFault, NoMemory}

@@ -1,5 +1,5 @@
 -- Shares of usage: what they have counted, and that there is room for more.
-use Rattle.std.proofs.Common.{◌≡◌, ◌⊎◌, inl, inr, ℕ, ◌+◌, ◌*◌, ◌^◌, ◌<◌, ◌≤◌, Bool, true, false, cond, List, [], ◌∷◌, ◌++◌, length, map, All, is_none, refl, sym, ap, subst, ◌∙◌, append-nil, append_assoc, arith}
+use Rattle.std.proofs.Common.{◌≡◌, ◌⊎◌, inl, inr, ℕ, ◌+◌, ◌^◌, ◌<◌, ◌≤◌, Bool, true, false, cond, List, [], ◌∷◌, ◌++◌, map, All, is_none, refl, sym, ap, subst, ◌∙◌, append-nil, append_assoc, arith}
 use Rattle.std.proofs.lemmas.List.Elements.{All-drop}
 use Rattle.lg_gram.specs.Linkages.{Linkage, IsLinkage}
 use Rattle.lg_gram.specs.declared.listing.PageItem.{PageItem}
@@ -13,7 +13,7 @@ use Rattle.lg_script.specs.Commands.{command_view, script_views}
 use Rattle.lg_script.specs.Kinds.{kind_of}
 use Rattle.lg_text.specs.Replies.{IsPrintableReply}
 use Rattle.lg_text.specs.Texts.{IsPrintable}
-use Rattle.lg_usage.specs.Totals.{Totals, AreTotals, usage_text, Adds, IsSum, IsGood, HasRoomFor, MayBeAdded, count_in, no_totals}
+use Rattle.lg_usage.specs.Totals.{Totals, AreTotals, usage_text, Adds, IsSum, IsGood, HasRoomFor, MayBeAdded, no_totals}
 use Rattle.lg_usage.specs.Shares.{TotalsGrow}
 use Rattle.lg_usage.specs.Bounds.{UsesAreFew}
 use Rattle.lg_run.specs.Counted.{IsShare}

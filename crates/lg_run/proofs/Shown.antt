@@ -1,5 +1,5 @@
 -- The document of a run as answers and a journal.
-use Rattle.std.proofs.Common.{◌≡◌, ℕ, ◌+◌, List, [], ◌∷◌, ◌++◌, map, refl, ap, sym, ◌∙◌}
+use Rattle.std.proofs.Common.{◌≡◌, ℕ, ◌+◌, List, [], ◌∷◌, ◌++◌, refl, ap, sym, ◌∙◌}
 use Rattle.std.specs.List.{flat_map}
 use Rattle.std.proofs.lemmas.Grind.{flat_map-append}
 use Rattle.lg_gram.specs.declared.reply.Place.{Place}
@@ -7,11 +7,11 @@ use Rattle.lg_gram.specs.declared.reply.Reply.{Reply}
 use Rattle.lg_script.specs.Commands.{CommandView}
 use Rattle.lg_script.specs.Kinds.{kind_of}
 use Rattle.lg_text.specs.Replies.{reply_text, journal_text}
-use Rattle.lg_text.specs.Shown.{Answered, answer_text, document_text, DocumentsShow}
+use Rattle.lg_text.specs.Shown.{answer_text, document_text, DocumentsShow}
 use Rattle.lg_text.specs.declared.look.Look.{Look}
 use Rattle.lg_run.specs.Lines.{joined}
 use Rattle.lg_run.specs.Documents.{reply_texts, session_texts, outcome_text}
-use Rattle.lg_run.specs.Shown.{placed, all_placed, ArePlain, OutcomesAreShown}
+use Rattle.lg_run.specs.Shown.{placed, all_placed, OutcomesAreShown}
 
 of_session : (look : Look) (session n : ℕ) (commands : List CommandView) (rs : List Reply) → joined (reply_texts look session n commands rs) ≡ flat_map (answer_text look) (placed session n commands rs)
 of_session look session n [] [] = refl

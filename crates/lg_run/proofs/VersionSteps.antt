@@ -10,7 +10,7 @@ use Rattle.lg_script.specs.declared.command.Command.{Command}
 use Rattle.lg_script.specs.Bounds.{IsInBounds, AreInBounds}
 use Rattle.lg_script.specs.Codes.{commands_of}
 use Rattle.lg_script.specs.Commands.{CommandView, parses, lists, goes_on, makes, asks, command_view, script_views}
-use Rattle.lg_run.specs.Inputs.{Found, Given, ExportGiven, HasSome, IsOne, accepted, refused, versions, ExportReads, too_few, quoted, spelled}
+use Rattle.lg_run.specs.Inputs.{ExportGiven, HasSome, IsOne, accepted, refused, versions, ExportReads, too_few, quoted, spelled}
 use Rattle.lg_run.specs.Lines.{versions_line, quote_line}
 use Rattle.lg_run.specs.Versions.{Reaches}
 use Rattle.lg_run.proofs.EditSums.{next_left, next_there}

@@ -1,5 +1,4 @@
-use Rattle.std.proofs.Common.{ℕ, List, [], ◌∷◌, Err, sym, subst}
-use Rattle.lg_export.specs.Exports.{TellsQuote}
+use Rattle.std.proofs.Common.{ℕ, List, [], ◌∷◌, sym, subst}
 use Rattle.lg_export.specs.Spelling.{dictionary_spelled}
 use Rattle.lg_run.specs.Inputs.{ExportGiven, ExportReads, accepted, refused, spelled, quoted}
 use Rattle.lg_run.specs.Lines.{quote_line}

@@ -1,4 +1,4 @@
-use Rattle.std.proofs.Common.{ℕ, List, IfSome, IfErr, [], ◌∷◌, map, string_bytes, refl, ap, sym, subst}
+use Rattle.std.proofs.Common.{ℕ, List, IfSome, IfErr, [], ◌∷◌, map, string_bytes, refl, ap, subst}
 use Rattle.std.proofs.lemmas.Option.{IfSome_then}
 use Rattle.lg_script.specs.Codes.{commands_of}
 use Rattle.lg_script.specs.Commands.{script_views}

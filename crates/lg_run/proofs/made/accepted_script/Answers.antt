@@ -1,9 +1,6 @@
-use Rattle.std.proofs.Common.{◌≡◌, ◌∙◌, List, [], ◌∷◌, map, ap, arith}
+use Rattle.std.proofs.Common.{map, arith}
 use Rattle.std.proofs.lemmas.List.{length-map}
-use Rattle.lg_script.specs.declared.command.Command.{Command}
-use Rattle.lg_script.specs.Commands.{CommandView, command_view, script_views}
-use Rattle.lg_run.proofs.Answered.{of_each}
-use Rattle.lg_run.proofs.MadeInputs.{read_one}
+use Rattle.lg_script.specs.Commands.{command_view}
 use Rattle.lg_run.proofs.made.accepted_script.Goals as goal
 
 -- a script has fewer than 2^32 commands

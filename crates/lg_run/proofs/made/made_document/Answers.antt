@@ -2,7 +2,7 @@ use Rattle.std.proofs.Common.{◌≡◌, get_or, rules}
 use Rattle.lg_script.specs.Commands.{script_views}
 use Rattle.lg_run.proofs.Answered.{of_each}
 use Rattle.lg_run.specs.MadeRuns.{sums_text, IsMadeDocument}
-use Rattle.lg_run.proofs.MadeAnswers.{are_scripts, some_replies, few_replies, small_sums, made_document_is}
+use Rattle.lg_run.proofs.MadeAnswers.{are_scripts, few_replies, small_sums, made_document_is}
 use Rattle.lg_run.proofs.made.made_document.Goals as goal
 
 -- the made script may be run

@@ -1,4 +1,4 @@
-use Rattle.std.proofs.Common.{◌≡◌, ◌∙◌, ◌≤◌, ◌<◌, ◌^◌, ◌∷◌, ℕ, List, [], Ok, IfOk, length, sym, subst, arith}
+use Rattle.std.proofs.Common.{◌∙◌, ◌≤◌, ℕ, List, [], Ok, length, sym, subst, arith}
 use Rattle.std.specs.FinMap.{empty}
 use Rattle.lg_dictread.specs.Limits.{FILE}
 use Rattle.lg_dictread.specs.Texts.{Meaning, DictionaryGives, stands}

@@ -1,11 +1,10 @@
-use Rattle.std.proofs.Common.{◌≡◌, [], ◌∷◌, ◌++◌, ◌∙◌, List, ℕ, Option, IfSome, length, map, drop, string_bytes, ap, sym, subst, arith}
+use Rattle.std.proofs.Common.{◌≡◌, [], ◌∷◌, ◌++◌, ◌∙◌, List, ℕ, Option, IfSome, length, map, drop, string_bytes, ap, subst, arith}
 use Rattle.std.proofs.lemmas.List.{map-append, length-append, drop_all}
 use Rattle.std.proofs.lemmas.Option.{IfSome_then}
 use Rattle.lg_base.specs.Contents.{Contents}
-use Rattle.lg_script.specs.Bounds.{AreInBounds}
-use Rattle.lg_script.specs.Commands.{CommandView, command_view, script_views}
+use Rattle.lg_script.specs.Commands.{command_view, script_views}
 use Rattle.lg_run.specs.Inputs.{ScriptInput, accepted}
-use Rattle.lg_run.specs.Reads.{AsksInOrder, Comes, TellsStop, IsAbout}
+use Rattle.lg_run.specs.Reads.{AsksInOrder, Comes, TellsStop}
 use Rattle.lg_run.specs.Stops.{stop_status, stop_line}
 use Rattle.lg_run.proofs.Readings.{known_both}
 use Rattle.lg_run.proofs.ScriptLists.{ComesOn, comes_on, comes_to_stop, comes_to_end, asks_one, asks_so_far, next_name, is_one_name, each_more}

@@ -1,4 +1,4 @@
-use Rattle.std.proofs.Common.{◌≡◌, List, Some, subst}
+use Rattle.std.proofs.Common.{◌≡◌, Some, subst}
 use Rattle.lg_gram.specs.declared.listing.Page.{Page}
 use Rattle.lg_dict.specs.Dictionary.{Dictionary}
 use Rattle.lg_answer.specs.declared.options.Nulls.{Nulls}

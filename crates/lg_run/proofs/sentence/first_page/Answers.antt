@@ -1,8 +1,5 @@
-use Rattle.std.proofs.Common.{◌≡◌, ◌∙◌, ℕ, List, Option, Some, ap, subst}
-use Rattle.lg_gram.specs.declared.disjunct.Disjunct.{Disjunct}
+use Rattle.std.proofs.Common.{◌≡◌, ◌∙◌, ℕ, Some, subst}
 use Rattle.lg_gram.specs.declared.listing.Page.{Page}
-use Rattle.lg_gram.specs.declared.listing.Stats.{Stats}
-use Rattle.lg_gram.specs.declared.listing.Token.{Token}
 use Rattle.lg_knowread.specs.declared.knowledge.Knowledge.{Knowledge}
 use Rattle.lg_answer.specs.Pages.{IsPage}
 use Rattle.lg_text.specs.Pages.{listing_text}

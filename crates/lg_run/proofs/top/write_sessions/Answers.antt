@@ -1,12 +1,10 @@
-use Rattle.std.proofs.Common.{refl, sym, subst}
+use Rattle.std.proofs.Common.{sym, subst}
 use Rattle.lg_script.specs.Commands.{script_views}
 use Rattle.lg_session.specs.Legal.{IsLegal, run_of}
-use Rattle.lg_run.specs.Documents.{listings, outcome_text}
-use Rattle.lg_run.specs.Inputs.{RunGiven}
+use Rattle.lg_run.specs.Documents.{listings}
 use Rattle.lg_run.specs.Listers.{Lister}
 use Rattle.lg_run.specs.Written.{AreAllPrintable}
 use Rattle.lg_run.proofs.Printed.{all_printed}
-use Rattle.lg_run.proofs.Writing.{document_written}
 use Rattle.lg_run.proofs.top.write_sessions.Goals as goal
 
 -- what is answered is legal, so it can be printed

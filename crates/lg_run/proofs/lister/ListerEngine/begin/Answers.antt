@@ -1,4 +1,4 @@
-use Rattle.std.proofs.Common.{◌≡◌, ◌-◌, ◌≤◌, ℕ, List, subst, ◌∙◌, arith}
+use Rattle.std.proofs.Common.{◌≡◌, ◌-◌, ℕ, List, subst, ◌∙◌, arith}
 use Rattle.lg_answer.specs.Candidates.{StandsFor}
 use Rattle.lg_answer.specs.Pages.{IsListing, HasSkipped}
 use Rattle.lg_run.specs.Documents.{wanted}
