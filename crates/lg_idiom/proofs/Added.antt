@@ -1,9 +1,10 @@
 -- What the chains add to a position.
-use Rattle.std.proofs.Common.{◌≡◌, ◌↔◌, ℕ, ◌-◌, ◌<◌, List, [], ◌∷◌, true, length, map, filter, IfOk, Result, Ok, Err, Contains, refl, sym, ap, subst, ◌∙◌, arith}
+use Rattle.std.proofs.Common.{◌≡◌, ◌↔◌, ℕ, ◌-◌, ◌<◌, List, [], ◌∷◌, All, true, length, map, filter, IfOk, Result, Ok, Err, Contains, refl, sym, ap, subst, ◌∙◌, arith}
 use Rattle.std.specs.List.Sorted.{IsStrictlySortedBy}
 use Rattle.std.specs.Option.{option_map}
 use Rattle.std.proofs.lemmas.Bool.Decides.{nat_tests}
 use Rattle.std.proofs.lemmas.List.{length-map}
+use Rattle.std.proofs.lemmas.List.Elements.{All-weaker, All-contains_itself}
 use Rattle.std.proofs.lemmas.List.Kept.{IsStrictlySortedBy-filter}
 use Rattle.std.proofs.lemmas.Option.{same_Some, slice_get_within, slice_get-map}
 use Rattle.lg_base.proofs.Elements.{filter_in, filter_out}
@@ -12,7 +13,7 @@ use Rattle.lg_gram.specs.declared.listing.Token.{Token}
 use Rattle.lg_dict.specs.Dictionary.{Dictionary}
 use Rattle.lg_eprune.specs.Live.{WordTree}
 use Rattle.lg_idiom.specs.Idioms.{Chain, Covers, formula_at, word_cmp}
-use Rattle.lg_idiom.specs.Sentences.{AddIdioms, AreTakenOf, AreAddedTo, added_at}
+use Rattle.lg_idiom.specs.Sentences.{AddIdioms, AreTakenOf, AreAddedTo, LiesWithin, added_at}
 use Rattle.lg_idiom.specs.Steps.{covers, added_by}
 
 covers-is : (p : ℕ) (c : Chain) → covers p c ≡ true → Covers c p
@@ -59,3 +60,7 @@ adds_if dict own tokens some sorted read count (Err e) tokens_are read_is counte
 adds_if dict own tokens some sorted read count (Ok positions) tokens_are read_is counted of rise same added =
     adds dict tokens some sorted positions (subst (λ ts. AreTakenOf dict ts some) tokens_are of) rise same
     (subst (λ cs. AreAddedTo cs (length tokens) positions) read_is (subst (λ n. AreAddedTo read n positions) counted added))
+
+pub all_within : (some sorted read : List Chain) (count end : ℕ) → ((c : Chain) → Contains sorted c ↔ Contains some c) → read ≡ sorted → count ≡ end → ((c : Chain) → Contains some c → LiesWithin count c) → All (LiesWithin end) read
+all_within some sorted read count end same read_is counted within =
+    All-weaker (Contains read) (LiesWithin end) (λ c m. subst (λ n. LiesWithin n c) counted (within c ((same c).0 (subst (λ cs. Contains cs c) read_is m)))) read (All-contains_itself read)

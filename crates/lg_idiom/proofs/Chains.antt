@@ -19,7 +19,7 @@ use Rattle.lg_gram.specs.declared.listing.Token.{Token}
 use Rattle.lg_dict.specs.Compounds.{parts_of, are_several}
 use Rattle.lg_dict.specs.Dictionary.{Dictionary}
 use Rattle.lg_idiom.specs.Idioms.{Chain, StandsForPart, FitsAt, AreFitting, IsChain, AreTaken, no_chain, taken, left_out, chain_cmp}
-use Rattle.lg_idiom.specs.Sentences.{IsPlaced, chain_of, chains_from, AreChainsBefore, HasTakenBefore, AreTakenOf}
+use Rattle.lg_idiom.specs.Sentences.{IsPlaced, chain_of, chains_from, AreChainsBefore, HasTakenBefore, AreTakenOf, LiesWithin}
 use Rattle.lg_idiom.specs.Takings.{HasTaken, TakesMore, AreToldApart}
 use Rattle.lg_idiom.specs.declared.taken.Taken.{Taken}
 use Rattle.lg_idiom.proofs.Beginning.{rising_append}
@@ -239,3 +239,10 @@ module _ (dict : Dictionary) (tokens : List Token) where
       let second = chain_is d.start two.words two.fitting d two refl in
       let ranks : c.rank ≡ d.rank = one_place (slice_cmp nat_cmp) nat_list_cmp_total two.words c.rank d.rank d.word two.fitting.rise (first.0 ∙ ap Some words) second.0 in
       first.1 ∙ (λ i. chain_of dict d.start (ranks i) (words i)) ∙ sym second.1
+
+  -- the chains that are taken lie within the sentence
+  pub taken_within : (some : List Chain) → AreTakenOf dict tokens some → (c : Chain) → Contains some c → LiesWithin (length tokens) c
+  taken_within some of c m =
+      let is = (of.all.exactly c).0 (taken_in of.chains 0 some of.are_taken c m) in
+      let inside = lies c.start c.word ((is.fitting.exactly c.word).0 (contains_at is.words c.rank c.word is.ranked)) in
+      omega (arith, inside, is.counted)

@@ -7,3 +7,4 @@ pub mod Sorting
 pub mod Rising
 pub mod Chains
 pub mod Added
+pub mod Rows

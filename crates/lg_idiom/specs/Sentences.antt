@@ -1,8 +1,9 @@
 -- The chains of a sentence, start by start, and what they add to its positions.
-use Rattle.std.specs.Prelude.{◌≡◌, ◌↔◌, ℕ, suc, ◌+◌, ◌<◌, ◌≤◌, List, [], ◌∷◌, length, map, filter, slice_get, Some, IsSome}
+use Rattle.std.specs.Prelude.{◌≡◌, ◌↔◌, ℕ, suc, ◌+◌, ◌<◌, ◌≤◌, List, [], ◌∷◌, ◌++◌, length, map, filter, slice_get, Some, IsSome, if◌then◌else◌, ◌&&◌, nat_le, nat_lt}
 use Rattle.std.specs.List.{Contains}
 use Rattle.std.specs.List.Sorted.{IsStrictlySortedBy}
 use Rattle.std.specs.FinMap.{get}
+use Rattle.std.specs.Global.{Vec}
 use Rattle.std.specs.Option.{option_map_or}
 use Rattle.lg_gram.specs.Limits.{POSITIONS}
 use Rattle.lg_gram.specs.Trees.{empty}
@@ -71,3 +72,20 @@ added_at chains p = map (added_by p) (filter (covers p) chains)
 pub record AreAddedTo (chains : List Chain) (count : ℕ) (positions : List (List WordTree)) : Type 0 where
   pub all : length positions ≡ count
   pub each : (p : ℕ) → p < count → slice_get positions p ≡ Some (added_at chains p)
+
+-- it ends by this position
+abbrev pub LiesWithin : ℕ → Chain → Type 0
+LiesWithin end c = c.start + c.count ≤ end
+
+-- the words of each position
+abbrev pub rows : List (Vec WordTree) → List (List WordTree)
+rows positions = map (λ v. v.items) positions
+
+-- what a chain adds to a position before this end
+abbrev pub added_before : Chain → ℕ → ℕ → List WordTree
+added_before c end p = if nat_le c.start p && nat_lt p end then added_by p c ∷ [] else []
+
+-- a chain has added it, to each position
+pub record HasAdded (c : Chain) (end : ℕ) (old new : List (List WordTree)) : Type 0 where
+  pub same_length : length new ≡ length old
+  pub each : (p : ℕ) (words : List WordTree) → slice_get old p ≡ Some words → slice_get new p ≡ Some (words ++ added_before c end p)

@@ -73,13 +73,6 @@ impl Chain {
         }))
     }
 
-    /// Whether the chain adds a formula to this position.
-    pub(crate) fn covers(&self, position: usize) -> bool
-        ensures { result ≡ (nat_le self.now.start position && nat_lt position (self.now.start + self.now.count)) }
-    {
-        self.start <= position && position < self.start + self.count
-    }
-
     /// The compound.
     pub(crate) fn word(&self) -> &[u8]
         ensures { result.now ≡ self.now.word }
@@ -92,6 +85,13 @@ impl Chain {
         ensures { result ≡ self.now.start }
     {
         self.start
+    }
+
+    /// The position after its last one.
+    pub(crate) fn end(&self) -> usize
+        ensures { result ≡ self.now.start + self.now.count }
+    {
+        self.start + self.count
     }
 
     /// The formula that it adds to the position of this number among its own.

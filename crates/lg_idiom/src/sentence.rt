@@ -1,12 +1,13 @@
 //! The idioms of a sentence.
 ghost use Rattle.std.specs.Prelude.{◌≡◌, ◌≤◌, length, IfOk};
 ghost use Rattle.lg_gram.specs.Limits.{POSITIONS};
-ghost use Rattle.lg_idiom.specs.Sentences.{AddIdioms, AreTakenOf, AreAddedTo};
+ghost use Rattle.lg_idiom.specs.Sentences.{AddIdioms, AreTakenOf};
 
+use crate::adding::positions_of;
 use crate::chain::Chain;
 use crate::fitting::fitting;
 use crate::order::by_word;
-use crate::taken::{Taken, added};
+use crate::taken::Taken;
 use lg_base::NoMemory;
 use lg_dict::View;
 use lg_eprune::PositionExprs;
@@ -21,8 +22,8 @@ use std::alloc::Global;
 /// have names of their own, and the last one has the compound's formula too. Left out is what has a rank above 999,999 among those of
 /// its start or whose last formula passes a limit, and by start and rank what would bring the choices of all above 4,000,000.
 ///
-/// The time is linear in the compounds that begin with the text of a token, and for each position in the idioms that are added. The
-/// only error is running out of memory.
+/// The time is linear in the tokens, in the compounds that begin with the text of a token, and in what is added, but for the sorting
+/// of the idioms. The only error is running out of memory.
 pub fn idioms(alloc: Global, view: &View, tokens: &Tokens) -> Result<PositionExprs, NoMemory>
     requires { length tokens.now ≤ POSITIONS }
     ensures { IfOk result (AddIdioms view.now tokens.now) }
@@ -43,15 +44,4 @@ fn taken_of(alloc: Global, view: &View, tokens: &[Token]) -> Result<Vec<Chain>, 
         taken.take_words(alloc, view, start, words.items())?;
     }
     Ok(taken.into_chains())
-}
-
-// What these chains add to each of so many positions.
-fn positions_of(alloc: Global, chains: &[Chain], count: usize) -> Result<PositionExprs, NoMemory>
-    ensures { IfOk result (AreAddedTo chains.now count) }
-{
-    let mut positions = Vec::with_capacity(alloc, count)?;
-    for position in 0..count {
-        positions.push(added(alloc, chains, position)?)?;
-    }
-    Ok(PositionExprs::of(positions))
 }

@@ -1,13 +1,11 @@
-//! Which chains are taken, and what they add to a position.
-ghost use Rattle.std.specs.Prelude.{◌≡◌, true, [], ◌∷◌, All, IfOk, OnOk};
-ghost use Rattle.lg_idiom.specs.Steps.{covers, added_by};
+//! Which chains are taken.
+ghost use Rattle.std.specs.Prelude.{◌≡◌, [], ◌∷◌, All, OnOk};
 ghost use Rattle.lg_idiom.specs.Takings.{HasTaken, TakesMore};
-ghost use Rattle.lg_idiom.specs.Sentences.{IsPlaced, chain_of, chains_from, added_at};
+ghost use Rattle.lg_idiom.specs.Sentences.{IsPlaced, chain_of, chains_from};
 
 use crate::chain::Chain;
 use lg_base::{NoMemory, Text};
 use lg_dict::{View, parts};
-use lg_eprune::{WordExpr, WordExprs};
 use std::alloc::Global;
 
 // The choices of all chains that are taken.
@@ -81,26 +79,4 @@ impl Taken {
     {
         self.chains
     }
-}
-
-/// What these chains add to a position, in their order.
-pub(crate) fn added(alloc: Global, chains: &[Chain], position: usize) -> Result<WordExprs, NoMemory>
-    ensures { IfOk result (λ words. words ≡ added_at chains.now position) }
-{
-    let mut words = Vec::new(alloc);
-    for chain in chains {
-        if chain.covers(position) {
-            words.push(added_by(alloc, chain, position)?)?;
-        }
-    }
-    Ok(WordExprs::of(words))
-}
-
-fn added_by(alloc: Global, chain: &Chain, position: usize) -> Result<WordExpr, NoMemory>
-    requires { covers position chain.now ≡ true }
-    ensures { IfOk result (λ word. word ≡ added_by position chain.now) }
-{
-    let formula = chain.formula_at(alloc, position - chain.start())?;
-    let word = Text::of(alloc, chain.word())?;
-    Ok(WordExpr { word, formula })
 }
