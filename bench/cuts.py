@@ -17,7 +17,6 @@ import random
 import re
 import resource
 import shlex
-import shutil
 import signal
 import subprocess
 import sys
@@ -99,7 +98,7 @@ LIMITS = [
     ("list of 1,000,001", "s", b"list 1000000 1000001 x x", "s: line 1: number"),
     ("list from 1,000,001", "s", b"list 1000001 1 x x", "s: line 1: number"),
     ("200 brackets of an edit", "s", repeated("set x: ", "(", 200, "A+" + ")" * 200 + ";"), None),
-    ("201 brackets of an edit", "s", repeated("set x: ", "(", 201, "A+" + ")" * 201 + ";"), None),
+    ("201 brackets of an edit", "s", repeated("set x: ", "(", 201, "A+" + ")" * 201 + ";"), "s: line 1: edit"),
     ("no bytes", "d", b"", None),
     ("no bytes", "k", b"", None),
     ("no bytes", "s", b"", None),
@@ -191,7 +190,6 @@ def repeat_word(rng, text):
 def nest(rng, text):
     start, end = part_of(rng, text)
     count = rng.choice(COUNTS)
-    opening, closing = rng.choice([b"()", b"[]", b"{}"])[0:1], b""
     opening, closing = rng.choice([(b"(", b")"), (b"[", b"]"), (b"{", b"}")])
     return text[:start] + opening * count + text[start:end] + closing * rng.choice([count, count, count - 1]) + text[end:]
 
@@ -324,6 +322,20 @@ def bound():
     resource.setrlimit(resource.RLIMIT_AS, (ADDRESSES, ADDRESSES))
 
 
+def ended(child):
+    """How a process ends, and what it used. One that goes on for too long is killed."""
+    end = time.monotonic() + WAIT
+    pause = 0.0005
+    while True:
+        pid, status, used = os.wait4(child.pid, os.WNOHANG)
+        if pid:
+            return status, used
+        if time.monotonic() > end:
+            os.kill(child.pid, signal.SIGKILL)
+        time.sleep(pause)
+        pause = min(pause * 1.5, 0.05)
+
+
 def judge(case, folder):
     """Runs the case in the folder, and notes how it ended."""
     for name, text in case.texts.items():
@@ -331,17 +343,7 @@ def judge(case, folder):
             file.write(text)
     with open(os.path.join(folder, ".out"), "w+b") as out, open(os.path.join(folder, ".err"), "w+b") as err:
         child = subprocess.Popen([PROGRAM, *case.words], cwd=folder, stdin=subprocess.DEVNULL, stdout=out, stderr=err, preexec_fn=bound)
-        end = time.monotonic() + WAIT
-        used = None
-        while used is None:
-            pid, status, usage = os.wait4(child.pid, os.WNOHANG)
-            if pid:
-                used = usage
-            elif time.monotonic() > end:
-                child.send_signal(signal.SIGKILL)
-                end += WAIT
-            else:
-                time.sleep(0.0005 if usage.ru_utime < 1 else 0.05)
+        status, used = ended(child)
         child.returncode = case.status = os.waitstatus_to_exitcode(status)
         case.seconds = used.ru_utime + used.ru_stime
         case.megabytes = used.ru_maxrss / 1024
@@ -409,21 +411,23 @@ def main():
     parser.add_argument("--cases", type=int, default=10_000)
     parser.add_argument("--seed", type=int, default=1)
     parser.add_argument("--jobs", type=int, default=2)
-    parser.add_argument("--keep", default=os.path.join(tempfile.gettempdir(), "lgparse-cuts"))
+    parser.add_argument("--keep", help="where what fails is kept; a new folder if it is not given")
     parser.add_argument("--only", type=int)
     given = parser.parse_args()
     if not os.path.exists(PROGRAM):
         sys.exit("build the program first: bin/lgparse --build")
-    shutil.rmtree(given.keep, ignore_errors=True)
+    where = given.keep or tempfile.mkdtemp(prefix="lgparse-cuts-")
     numbers = [given.only] if given.only is not None else [*range(-len(LIMITS), given.cases)]
     chunks = [numbers[i : i + 100] for i in range(0, len(numbers), 100)]
     with ProcessPoolExecutor(given.jobs) as pool:
-        sums = total(pool.map(work, [given.seed] * len(chunks), chunks, [given.keep] * len(chunks)))
+        sums = total(pool.map(work, [given.seed] * len(chunks), chunks, [where] * len(chunks)))
     for text in sums.failed:
         print(text)
     statuses = ", ".join(f"{count} with status {status}" for status, count in sorted(sums.statuses.items()))
-    print(f"seed {given.seed}: {sums.cases} cases, {statuses}; {len(sums.failed)} not as they must be" + (f", kept in {given.keep}" if sums.failed else ""))
+    print(f"seed {given.seed}: {sums.cases} cases, {statuses}; {len(sums.failed)} not as they must be" + (f", kept in {where}" if sums.failed else ""))
     print(f"longest {sums.longest[0]:.2f} processor s (case {sums.longest[1]}), largest {sums.largest[0]:.0f} MB (case {sums.largest[1]})")
+    if not given.keep and not sums.failed:
+        os.rmdir(where)
     sys.exit(bool(sums.failed))
 
 

@@ -3,7 +3,8 @@
 
 What must hold. Each run ends within a minute, by its own status. Where no call that failed was needed, the run ends as usual. Else
 
-    memory refused, once or from then on    as usual, or status 5 with `lgparse: out of memory`
+    memory refused, once or from then on    as usual, or status 5 with `lgparse: out of memory`; without that line and without output, while
+                                            the words of the command line are taken
     a file does not open, a read fails      status 3 with `lgparse: cannot read NAME`, of the file that was asked for, and nothing written
     the same for want of memory             status 5
     a write to standard output fails        status 4 with `lgparse: cannot write the output`
@@ -113,6 +114,7 @@ FAULTS = [
 ]
 
 NO_MEMORY = (5, b"lgparse: out of memory\n")
+NO_WORDS = (5, b"")
 NO_OUTPUT = (4, b"lgparse: cannot write the output\n")
 
 
@@ -251,7 +253,7 @@ def is_right(ending, endings, call, count, how, told):
         return False
     end = (ending.status, ending.err)
     if call in ("memory", "thread"):
-        return end == NO_MEMORY
+        return end == NO_MEMORY or end == NO_WORDS and not ending.out
     if how == errno.EINTR and count < 1000 or how < 0:
         return False
     if call == "output":
@@ -263,12 +265,12 @@ def is_right(ending, endings, call, count, how, told):
 
 class Tally:
     def __init__(self):
-        self.runs = self.refused = self.moved = 0
+        self.refused = self.without_line = 0
         self.wrong = []
 
     def add(self, words, call, first, count, how, ending, endings, told):
-        self.runs += 1
         self.refused += told.faults > 0
+        self.without_line += (ending.status, ending.err) == NO_WORDS
         if not is_right(ending, endings, call, count, how, told):
             last = first + count - 1
             self.wrong.append(f"FAULT_CALL={call} FAULT_FROM={first} FAULT_TO={last} FAULT_HOW={how} {shlex.join(words)}: {ending}")
@@ -314,7 +316,7 @@ def main():
     given = parser.parse_args()
     runner = Runner(given.program, given.folder)
     make_inputs(runner.folder)
-    wrong, sums = [], {}
+    wrong, sums, without_line = [], {}, 0
     with ThreadPoolExecutor(given.jobs) as pool:
         for name, line in INPUTS:
             if given.inputs and name not in given.inputs:
@@ -325,13 +327,15 @@ def main():
             for call, count, how in FAULTS:
                 tally = tried(runner, pool, words, endings, call, count, how, given.most)
                 sums[call] = sums.get(call, 0) + tally.refused
+                without_line += tally.without_line
                 shown.append((call, tally.refused))
                 wrong += [f"{name_of(call, count, how)}: {text}" for text in tally.wrong]
             told = ", ".join(f"{call} {sum(n for c, n in shown if c == call)}" for call in dict.fromkeys(c for c, _ in shown))
             print(f"{name:30} {len(endings):3} endings, at fault: {told}", flush=True)
     for text in wrong:
         print(f"WRONG {text}")
-    print("runs with a fault: " + ", ".join(f"{call} {count}" for call, count in sums.items()) + f"; {len(wrong)} of them not as they must be")
+    print("runs with a fault: " + ", ".join(f"{call} {count}" for call, count in sums.items()))
+    print(f"{without_line} ended with status 5 and no line; {len(wrong)} not as they must")
     sys.exit(bool(wrong))
 
 
