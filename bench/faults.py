@@ -36,8 +36,8 @@ INPUTS = [
     ("walls, not pruned", "one --prune off walls.short 'The big cat ran.'"),
     ("walls, 4 workers", "one --prune off --workers 4 walls.short 'The big cat ran.'"),
     ("walls, 16 workers", "one --workers 16 walls.short 'The big cat ran.'"),
-    ("4 workers", "one --want 2 --workers 4 mixed.dict 'x x x x x x x x x x x x'"),
-    ("16 workers", "one --want 2 --workers 16 mixed.dict 'x x x x x x x x x x x x'"),
+    ("4 workers", "one --want 1 --workers 4 kinds.dict 'f m l'"),
+    ("16 workers", "one --want 1 --workers 16 kinds.dict 'f m l'"),
     ("a rule", "run rule.dict rule.know rule.script"),
     ("a session", "run attachment.dict session.know session.script"),
     ("totals", "run --usage on edits.dict none.know edits.script"),
@@ -57,12 +57,14 @@ INPUTS = [
     ("three sessions", "run edits.dict none.know one.script other.script third.script"),
 ]
 
-# The files that they name and that are no samples.
+KINDS = "ABCDEFGHIJKLMNOPQRST"
+
+# The files that they name and that are no samples. `kinds.dict` has words with so many disjuncts that workers start.
 TEXTS = {
     "edits.dict": "x: B+; y: A- or B-;",
     "edits.script": "parse x y\nset x: A+;\nparse x y\nmore\n",
     "walls.short": 'LEFT-WALL: Wd+ & {Xp+}; the: D+; big: A+; cat.n: {@A-} & D- & Wd- & S+; ran.v: S-; ".": Xp-;',
-    "mixed.dict": "x: {A- or B-} & {@C-} & {A+ or B+} & {@C+};",
+    "kinds.dict": "<r>: " + " or ".join(f"{kind}+" for kind in KINDS) + "; <l>: " + " or ".join(f"{kind}-" for kind in KINDS) + "; f: <r>; m: <l> & <r>; l: <l>;",
     "rule.dict": "x: (A+ & B+) or [C+ & B+]; y: A- or C-; z: B-;",
     "rule.know": "none: A { B };",
     "rule.script": "parse x y z\n",
@@ -239,28 +241,37 @@ def usual(runner, words):
     return found
 
 
-def is_right(ending, endings, call, count, how, told):
-    """Whether a run with these calls at fault ended as it must."""
-    if ending in endings:
-        # a call that was needed may not fail unseen
-        if call == "memory" or call == "thread" or told.faults == 0 or how < 0:
-            return True
-        return how == errno.EINTR and count < 1000 or call == "errors" and not ending.err
-    if call == "errors":
-        return any(
-            (e.status, e.out) == (ending.status, ending.out) and e.err.startswith(ending.err) and e.err != ending.err for e in endings)
-    if not any(e.out.startswith(ending.out) for e in endings):
-        return False
+def is_lasting(count, how):
+    """Whether calls go on to fail: those that are interrupted a few times are tried again."""
+    return how >= 0 and (how != errno.EINTR or count == ALL)
+
+
+def is_refusal(ending, call, how, told):
+    """Whether this is how a run ends in which such a call failed, but for what was written to standard output."""
     end = (ending.status, ending.err)
     if call in ("memory", "thread"):
         return end == NO_MEMORY or end == NO_WORDS and not ending.out
-    if how == errno.EINTR and count < 1000 or how < 0:
-        return False
     if call == "output":
         return end == NO_OUTPUT
     if how == errno.ENOMEM:
         return end == NO_MEMORY and not ending.out
     return end == (3, f"lgparse: cannot read {told.name}\n".encode()) and not ending.out
+
+
+def is_front(ending, endings):
+    """Whether the line on standard error is cut, and all else as usual."""
+    return any((e.status, e.out) == (ending.status, ending.out) and e.err.startswith(ending.err) and e.err != ending.err for e in endings)
+
+
+def is_right(ending, endings, call, count, how, told):
+    """Whether a run with these calls at fault ended as it must."""
+    if told.faults == 0 or not is_lasting(count, how):
+        return ending in endings
+    if call == "errors":
+        return is_front(ending, endings)
+    if call in ("memory", "thread") and ending in endings:
+        return True
+    return is_refusal(ending, call, how, told) and any(e.out.startswith(ending.out) for e in endings)
 
 
 class Tally:
@@ -311,9 +322,9 @@ def main():
     parser.add_argument("program")
     parser.add_argument("folder")
     parser.add_argument("--jobs", type=int, default=2)
-    parser.add_argument("--most", type=int, default=4000)
+    parser.add_argument("--most", type=int, default=10000)
     parser.add_argument("inputs", nargs="*")
-    given = parser.parse_args()
+    given = parser.parse_intermixed_args()
     runner = Runner(given.program, given.folder)
     make_inputs(runner.folder)
     wrong, sums, without_line = [], {}, 0

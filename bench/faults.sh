@@ -5,7 +5,7 @@
 #
 #   bench/faults.sh [--jobs N] [--most N] [NAME..]
 #
-# NAME.. are inputs, all by default; N runs are made side by side (2), and of an input with more than N allocations (4000) every second, third, ..
+# NAME.. are inputs, all by default; N runs are made side by side (2), and of an input with more than N allocations (10000) every second, third, ..
 # one is refused.
 source "$(dirname -- "$(readlink -f -- "$0")")/begin.sh"
 

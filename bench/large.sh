@@ -3,18 +3,19 @@
 # could take much. A line for each: its name, the status, seconds by the clock, processor seconds, the most memory, and the last line that was
 # written before a journal, cut.
 #
-#   bench/large.sh [WORD]      those alone whose names have WORD in them
+#   bench/large.sh [WORD [GIGABYTES]]      those alone whose names have WORD in them
 #
-# A run is ended after ten minutes, or where it asks for more than 12 GB of addresses.
+# A run is ended after ten minutes, and has at most 12 GB of addresses, or so many whole ones.
 source "$(dirname -- "$(readlink -f -- "$0")")/begin.sh"
 program=$(readlink -f -- "$program")
 cd -- "$folder" || exit 70
 only=${1-}
+most=$((${2-12} * 1000000))
 
 repeated() { python3 -c 'import sys; sys.stdout.write(sys.argv[1] * int(sys.argv[2]))' "$1" "$2"; }
 
 # filled FILE BYTES PART: so many bytes of a part again and again, and spaces behind the last whole one.
-filled() { python3 -c 'import sys; n = int(sys.argv[1]); p = sys.argv[2].encode().decode("unicode_escape"); sys.stdout.write((p * (n // len(p))).ljust(n))' "$2" "$3" >"$1"; }
+filled() { python3 -c 'import sys; n = int(sys.argv[1]); p = sys.argv[2].encode().decode("unicode_escape").encode(); sys.stdout.buffer.write((p * (n // len(p))).ljust(n))' "$2" "$3" >"$1"; }
 
 wanted() { [[ $1 == *"$only"* ]]; }
 
@@ -23,7 +24,7 @@ takes() {
   local name=$1 said status seconds user system memory
   shift
   said=$(
-    (ulimit -v 12000000; exec timeout 600 /usr/bin/time -q -o took -f '%e %U %S %M' "$program" "$@") 2>&1 </dev/null |
+    (ulimit -v "$most"; exec timeout 600 /usr/bin/time -q -o took -f '%e %U %S %M' "$program" "$@") 2>&1 </dev/null |
       awk '!/^(done|edit |journal )/ { last = substr($0, 1, 60) } END { print last }'
     exit "${PIPESTATUS[0]}"
   )
