@@ -1,4 +1,4 @@
-//! Tests of whole runs: pages and documents, looks, and what is refused.
+//! Tests of whole runs: pages and documents, looks, what is refused, cut texts, limits and faults.
 #![tactic(auto)]
 
 #[cfg(test)]

@@ -1,5 +1,8 @@
 //! What no clause says: that runs come to an end other than running out of memory, and pages and lines that are known from
 //! elsewhere.
+mod cuts;
+mod faults;
+mod limits;
 mod looks;
 mod refusals;
 mod rows;
