@@ -1,7 +1,9 @@
-//! Tests of tokens and of disjuncts: outside values, and calls that succeed.
+//! Tests of tokens, of idioms and of disjuncts: outside values, and calls that succeed.
 #![tactic(auto)]
 
 #[cfg(test)]
 mod disj;
+#[cfg(test)]
+mod idiom;
 #[cfg(test)]
 mod token;

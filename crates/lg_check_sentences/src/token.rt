@@ -29,25 +29,36 @@ fn expect(
     Ok(())
 }
 
-// A dictionary of the words that stand between blanks.
+// A dictionary of the words that stand between blanks, with the formula `A+`.
 fn dictionary(alloc: Global, words: &[u8]) -> Result<Dict, Fail> {
+    dictionary_of(alloc, words, one_leaf()?)
+}
+
+pub(crate) fn one_leaf() -> Result<Expr, Fail> {
+    let connector = Connector::of(b"A", b"", false, true).ok_or("a name")?;
+    Ok(Expr::Conn(connector))
+}
+
+// The same with this formula.
+pub(crate) fn dictionary_of(alloc: Global, words: &[u8], formula: Expr) -> Result<Dict, Fail> {
     let mut entries = Vec::new(alloc);
-    entries.push(entry(alloc, words_in(alloc, words)?)?)?;
+    entries.push(entry(alloc, words_in(alloc, words)?, formula)?)?;
     let dict = Dict::of(alloc, entries)?;
     Ok(dict)
 }
 
-fn entry(alloc: Global, words: Texts) -> Result<Entry, Fail>
+fn entry(alloc: Global, words: Texts, formula: Expr) -> Result<Entry, Fail>
     requires { AllPairs (λ a b. a ≢ b) words }
     ensures { IfOk result (λ entry. AreEntries (entry ∷ [])) }
 {
-    let connector = Connector::of(b"A", b"", false, true).ok_or("a name")?;
-    let formula = Formula::of(Expr::Conn(connector)).ok_or("a formula")?;
+    let formula = Formula::of(formula).ok_or("a formula")?;
+    // the call tells that the formula is within the limits
+    let _expr = formula.expr();
     Ok(Entry {
         words,
         macros: Texts::of(Vec::new(alloc)),
         formula,
-        level: 0,
+        level: 200,
         line: 1,
     })
 }
