@@ -1,17 +1,16 @@
 -- Legal answers by one journal that name the same versions are the same.
-use Rattle.std.proofs.Common.{◌≡◌, ℕ, zero, suc, ◌+◌, ◌<◌, Bool, true, false, cond, List, [], ◌∷◌, length, map, Option, Some, None, slice_get, refl, sym, ap, ◌∙◌, subst, arith, true≢false}
+use Rattle.std.proofs.Common.{◌≡◌, ℕ, suc, ◌+◌, ◌<◌, Bool, true, false, cond, List, [], ◌∷◌, length, map, Option, Some, None, slice_get, refl, sym, ap, ◌∙◌, subst, arith, true≢false}
 use Rattle.std.specs.List.{filter, enumerate_from}
 use Rattle.std.proofs.lemmas.Option.{none-some}
-use Rattle.lg_gram.specs.declared.edit.EditRefusal.{EditRefusal}
 use Rattle.lg_gram.specs.declared.listing.Bound.{Bound}
 use Rattle.lg_gram.specs.declared.listing.Page.{Page}
 use Rattle.lg_gram.specs.declared.listing.Stats.{Stats}
 use Rattle.lg_gram.specs.declared.listing.Token.{Token}
 use Rattle.lg_gram.specs.declared.reply.Place.{Place}
 use Rattle.lg_gram.specs.declared.reply.Reply.{Reply}
-use Rattle.lg_gram.specs.declared.reply.Reply.TheVariants.{Listed, Beyond, Published, Refused, At, NoListing}
+use Rattle.lg_gram.specs.declared.reply.Reply.TheVariants.{Listed, Beyond, Published, Refused, At}
 use Rattle.lg_dict.specs.Dictionary.{Dictionary}
-use Rattle.lg_edit.specs.Edits.{EditView, accept}
+use Rattle.lg_edit.specs.Edits.{accept}
 use Rattle.lg_token.specs.Bounds.{AreListed, IsBeyond, bound_of}
 use Rattle.lg_token.specs.Tokens.{AreTokens}
 use Rattle.lg_script.specs.Commands.{CommandView, parses, lists}

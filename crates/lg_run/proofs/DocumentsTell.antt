@@ -1,10 +1,10 @@
 -- The document of a run determines every answer: it shows the journal and the versions, and these determine the answers.
-use Rattle.std.proofs.Common.{◌≡◌, ℕ, suc, ◌+◌, false, List, [], ◌∷◌, ◌++◌, length, map, Option, Some, None, slice_get, refl, sym, ap, subst, ◌∙◌, arith}
+use Rattle.std.proofs.Common.{◌≡◌, ℕ, suc, ◌+◌, List, [], ◌∷◌, ◌++◌, length, map, Option, Some, None, slice_get, refl, sym, ap, subst, ◌∙◌, arith}
 use Rattle.lg_gram.specs.declared.reply.Place.{Place}
 use Rattle.lg_gram.specs.declared.reply.Reply.{Reply}
 use Rattle.lg_gram.specs.declared.reply.Reply.TheVariants.{Listed, Beyond, Published, Refused, At, NoListing}
 use Rattle.lg_script.specs.Commands.{CommandView}
-use Rattle.lg_script.specs.Histories.{numbered, reply_version}
+use Rattle.lg_script.specs.Histories.{reply_version}
 use Rattle.lg_session.specs.Legal.{AnswersAll}
 use Rattle.lg_text.specs.Shown.{Answered, Shown, shown_of, shown_version}
 use Rattle.lg_run.specs.Determined.{versions_named, AreAnswersBy, AnswersAreDetermined, DocumentsTellAnswers}

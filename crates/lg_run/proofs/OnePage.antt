@@ -15,7 +15,7 @@ use Rattle.std.proofs.lemmas.Map.Keys.{Less-from_sorted}
 use Rattle.std.proofs.lemmas.Map.Lookups.{exact_unsigned}
 use Rattle.std.proofs.lemmas.Option.{slice_get_within, slice_get-get_or, get_or_from_slice_get}
 use Rattle.lg_gram.specs.Disjuncts.{disjunct_cmp}
-use Rattle.lg_gram.specs.Linkages.{Linkage, linkage_cmp, pair_cmp}
+use Rattle.lg_gram.specs.Linkages.{Linkage, pair_cmp}
 use Rattle.lg_gram.specs.Problems.{IsPosition}
 use Rattle.lg_gram.specs.declared.disjunct.Disjunct.{Disjunct}
 use Rattle.lg_gram.specs.declared.linkage.Link.{Link}
@@ -35,7 +35,7 @@ use Rattle.lg_rank.specs.Fronts.{IsFront, IsAll}
 use Rattle.lg_rank.proofs.Elements.{less_not}
 use Rattle.lg_rank.proofs.Nexts.{fronts_agree}
 use Rattle.lg_token.specs.Tokens.{AreTokens}
-use Rattle.lg_answer.specs.Candidates.{IsCandidate, AreFirst, AreAll, IsBehind}
+use Rattle.lg_answer.specs.Candidates.{IsCandidate, AreAll, IsBehind}
 use Rattle.lg_answer.specs.Pages.{passed, IsPage, AreStats}
 use Rattle.lg_answer.specs.Problems.{IsOfWords, IsPositionOf, IsProblemOf}
 use Rattle.lg_answer.specs.declared.options.Nulls.{Nulls}

@@ -1,5 +1,5 @@
 -- No text of a legal answer has a line feed, if no text of the scripts has one, nor of the dictionary.
-use Rattle.std.proofs.Common.{◌≡◌, ◌≢◌, ℕ, zero, suc, ◌+◌, ◌-◌, ◌||◌, Bool, true, false, eqb, List, [], ◌∷◌, length, map, take, drop, All, Contains, Option, Some, None, IfSome, slice_get, slice_index_or, refl, sym, ap, subst, ◌∙◌, arith, codes}
+use Rattle.std.proofs.Common.{◌≡◌, ◌≢◌, ℕ, zero, suc, ◌+◌, ◌-◌, ◌||◌, Bool, true, false, eqb, List, [], ◌∷◌, length, take, drop, Option, Some, None, IfSome, slice_get, slice_index_or, refl, sym, subst, arith}
 use borrow.Author.Tests.{eqb-true}
 use Rattle.std.specs.List.{AllByRecursion, list_any}
 use Rattle.std.proofs.lemmas.List.Elements.{All-from_recursion, All-contains, recursion_from_All}
@@ -7,13 +7,12 @@ use Rattle.std.proofs.lemmas.Option.{get_or_from_slice_get, slice_get_within}
 use Rattle.lg_gram.specs.Connectors.{Connector, connector_text}
 use Rattle.lg_gram.specs.Disjuncts.{choice_of}
 use Rattle.lg_gram.specs.Linkages.{Linkage}
-use Rattle.lg_gram.specs.Measures.{Choice, choices_of}
+use Rattle.lg_gram.specs.Measures.{choices_of}
 use Rattle.lg_gram.specs.Rules.{Good}
 use Rattle.lg_gram.specs.declared.disjunct.Disjunct.{Disjunct}
 use Rattle.lg_gram.specs.declared.edit.EditRefusal.{EditRefusal}
 use Rattle.lg_gram.specs.declared.edit.EditRefusal.TheVariants.{UnknownMacro, TooDeep, TooManyNodes, TooManyChoices, SideTooLong, NoSuchWord}
 use Rattle.lg_gram.specs.declared.listing.Page.{Page}
-use Rattle.lg_gram.specs.declared.listing.PageItem.{PageItem}
 use Rattle.lg_gram.specs.declared.listing.Token.{Token}
 use Rattle.lg_gram.specs.declared.reply.Place.{Place}
 use Rattle.lg_gram.specs.declared.reply.Reply.{Reply}
@@ -25,7 +24,6 @@ use Rattle.lg_token.specs.Spans.{LiesIn, is_piece, is_left_wall, is_right_wall, 
 use Rattle.lg_token.specs.Tokens.{AreTokens}
 use Rattle.lg_answer.specs.Problems.{IsOfWords}
 use Rattle.lg_answer.specs.declared.options.Options.{Options}
-use Rattle.lg_answer.proofs.Places.{at_place}
 use Rattle.lg_script.specs.Commands.{CommandView, parses, lists, goes_on, makes, asks}
 use Rattle.lg_script.specs.Histories.{numbered, command_in, command_at, after_command, dictionary_after, names_in, unknown_name}
 use Rattle.lg_script.specs.SingleLines.{IsSingleLine, edit_texts, HasSingleLines}

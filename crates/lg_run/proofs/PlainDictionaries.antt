@@ -1,32 +1,27 @@
 -- No text of a dictionary that is read has a line feed, nor of one that edits make of it.
-use Rattle.std.proofs.Common.{◌≡◌, ◌≢◌, ℕ, ◌+◌, Bool, true, false, cond, List, [], ◌∷◌, ◌++◌, length, map, Option, Some, None, is_none, refl, sym, ap, subst, ◌∙◌, true≢false, if◌then◌else◌}
+use Rattle.std.proofs.Common.{◌≡◌, ℕ, Bool, true, false, List, [], ◌∷◌, map, Some, None, is_none, sym, ap, subst, ◌∙◌, true≢false, if◌then◌else◌}
 use Rattle.std.specs.List.{AllByRecursion, flat_map, list_any}
 use Rattle.lg_gram.specs.declared.entry.Item.{Item}
 use Rattle.lg_gram.specs.declared.entry.ItemKind.{ItemKind}
 use Rattle.lg_gram.specs.declared.entry.ItemKind.TheVariants as kinds
 use Rattle.lg_gram.specs.EntryViews.{EntryView}
-use Rattle.lg_gram.specs.Filled.{Formulas, filled, macro_names}
 use Rattle.lg_gram.specs.Trees.{Tree}
-use Rattle.lg_lex.specs.Classes.{line_feed}
 use Rattle.lg_lex.specs.declared.run.Separators.TheVariants.{WhiteSpace}
 use Rattle.lg_lex.specs.Marked.{without_mark}
 use Rattle.lg_lex.specs.Runs.{is_separator, AreInner, AreRuns}
 use Rattle.lg_lex.specs.Tokens.{Token}
 use Rattle.lg_dict.specs.Dictionary.{Dictionary, macros_of}
-use Rattle.lg_dictread.specs.Definitions.{same_text, Lines, Defined, both, Given, gives, FileGives, missing, long, at_fault, runs, KindGives, ItemGives, on_line, defined_as, ItemsAnswer, define, refuse_items, with_defined, ItemsGive, no_item, defines, twice, unread}
-use Rattle.lg_dictread.specs.Entries.{Written}
+use Rattle.lg_dictread.specs.Definitions.{same_text, Lines, Defined, gives, FileGives, runs, KindGives, on_line, defined_as, ItemsAnswer, define, refuse_items, with_defined, ItemsGive, no_item, defines, twice, unread}
 use Rattle.lg_dictread.specs.Findings.{Found, Asked}
 use Rattle.lg_dictread.specs.Lines.{line_of}
 use Rattle.lg_dictread.specs.Texts as texts
 use Rattle.lg_dictread.specs.Texts.{Earlier, rules_after, Meaning, then_entry, EntryOutcome, means, fails, EntryGives, TextAnswer, stands, refuse, with_meaning, TextIs, DictionaryGives}
-use Rattle.lg_edit.specs.Edits.{EditView, puts, sets, removes, names_of, accept, edited, after_edit, formula_in, level_in}
+use Rattle.lg_edit.specs.Edits.{EditView, puts, sets, removes, names_of, accept, edited, formula_in, level_in}
 use Rattle.lg_expr.proofs.AllOf.{all_append, all_left, all_right}
-use Rattle.lg_script.specs.Commands.{makes}
-use Rattle.lg_script.specs.SingleLines.{IsSingleLine, connector_texts, edit_texts, HasSingleLines}
+use Rattle.lg_script.specs.SingleLines.{IsSingleLine, connector_texts, edit_texts}
 use Rattle.lg_script.proofs.PlainExpressions.{expression_plain, connectors_single}
 use Rattle.lg_script.proofs.PlainTokens.{IsPlain, ArePlainTokens, tokens_plain, items_single}
 use Rattle.lg_script.proofs.SingleLines.{items_before}
-use Rattle.lg_run.specs.Inputs.{dictionary_from}
 use Rattle.lg_run.specs.PlainInputs.{IsPlainTree, IsPlainDictionary, DictionariesArePlain, EditsKeepPlain}
 use Rattle.lg_run.proofs.PlainMaps.{of_entries, of_inserted, of_removed}
 use Rattle.lg_run.proofs.PlainTrees.{ArePlainFormulas, filled_plain}

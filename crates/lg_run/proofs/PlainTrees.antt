@@ -1,9 +1,9 @@
 -- No connector of a formula has a line feed: none of an expression with its macros put in, and none of a choice.
-use Rattle.std.proofs.Common.{◌≡◌, ℕ, Bool, true, false, List, [], ◌∷◌, ◌++◌, map, Option, Some, None, ℤ, pos, refl, if◌then◌else◌}
+use Rattle.std.proofs.Common.{◌≡◌, ℕ, Bool, true, false, List, [], ◌∷◌, map, Option, Some, None, ℤ, pos, refl, if◌then◌else◌}
 use Rattle.std.specs.List.{AllByRecursion, flat_map}
 use Rattle.lg_gram.specs.Connectors.{Connector, connector_text}
 use Rattle.lg_gram.specs.Filled.{Formulas, put_in, filled, filled_in}
-use Rattle.lg_gram.specs.Measures.{Choice, no_connectors, single, joined, dearer, choices_of, picks_of, choices_of_any}
+use Rattle.lg_gram.specs.Measures.{Choice, joined, dearer, choices_of, picks_of, choices_of_any}
 use Rattle.lg_gram.specs.RawTrees.{RawTree, RawTrees, raw_empty, raw_leaf, named, raw_all, raw_one, raw_priced, no_raw_trees, raw_tree}
 use Rattle.lg_gram.specs.Trees.{Tree, Trees, empty, leaf, all_of, one_of, priced, no_trees, tree}
 use Rattle.lg_expr.proofs.AllOf.{all_append, all_left, all_right}

@@ -1,5 +1,5 @@
 -- What inputs that were accepted are, and so what the document of their run shows.
-use Rattle.std.proofs.Common.{◌≡◌, ℕ, suc, ◌+◌, ◌≤◌, ◌<◌, ◌^◌, List, [], ◌∷◌, ◌++◌, length, All, Ok, Err, refl, sym, ap, subst, ◌∙◌, arith}
+use Rattle.std.proofs.Common.{◌≡◌, ℕ, suc, ◌≤◌, ◌<◌, ◌^◌, List, [], ◌∷◌, length, Ok, Err, refl, sym, ap, subst, arith}
 use Rattle.std.specs.List.{AllByRecursion}
 use Rattle.lg_base.specs.Contents.{Contents}
 use Rattle.lg_dict.specs.Dictionary.{Dictionary}
@@ -16,9 +16,9 @@ use Rattle.lg_script.specs.SingleLines.{HasSingleLines, ScriptsHaveSingleLines}
 use Rattle.lg_token.specs.Spans.{LieInOrder}
 use Rattle.lg_token.specs.Tokens.{AreTokens}
 use Rattle.lg_gram.specs.declared.listing.Token.{Token}
-use Rattle.lg_run.specs.Inputs.{Found, accepted, refused, missing, given, Followed, both, ends_refused, ends_missing, FileIs, absent, long, whole, dictionary_from, found_in, DictionaryReads, reads, DictionaryInput, KnowledgeInput, found_script, ScriptReads, reads_script, ScriptInput, ScriptsInput, EditsRead, few, Given, RunGiven, ScriptsGiven, KnowledgeGiven}
+use Rattle.lg_run.specs.Inputs.{Found, accepted, Followed, both, FileIs, whole, dictionary_from, found_in, DictionaryReads, reads, DictionaryInput, found_script, ScriptReads, reads_script, ScriptInput, ScriptsInput, EditsRead, few, Given, RunGiven, KnowledgeGiven}
 use Rattle.lg_run.specs.PlainInputs.{IsPlainDictionary}
-use Rattle.lg_run.specs.Shown.{HasShortScripts, HasPlainTexts, RunsAreShown, IsRunOf, RunsOfInputsAreShown}
+use Rattle.lg_run.specs.Shown.{HasShortScripts, RunsAreShown, IsRunOf, RunsOfInputsAreShown}
 use Rattle.lg_run.specs.Words.{Run, TaskIs, run}
 use Rattle.lg_run.specs.declared.setup.Setup.{Setup}
 use Rattle.lg_run.proofs.PlainAnswers.{texts_plain}

@@ -1,4 +1,4 @@
-use Rattle.std.proofs.Common.{◌≡◌, ℕ, true, List, map, Some, refl, ap, sym, ◌∙◌, map-id}
+use Rattle.std.proofs.Common.{◌≡◌, ℕ, List, map, Some, refl, ap, sym, ◌∙◌, map-id}
 use Rattle.lg_gram.specs.declared.listing.Token.{Token}
 use Rattle.lg_gram.specs.declared.reply.Reply.{Reply}
 use Rattle.lg_gram.specs.declared.reply.Reply.TheVariants.{Listed}
