@@ -80,29 +80,32 @@ bytes 'comments of a script' '%\n' script
 bytes 'edits' 'del x\n' script
 bytes 'blanks of a script' ' ' script
 
-# The same with parts that differ, or a beginning of their own.
+# The same with parts that differ. shape NAME END COMMAND: as many whole lines as the command prints, and the end behind them.
 shape() {
-  local name=$1
-  wanted "64 MiB, $name" || return 0
-  shift
-  "$@" | head -c "$size" >big
-  takes "64 MiB, $name" one big b
+  local name="64 MiB, $1" end=$2
+  wanted "$name" || return 0
+  shift 2
+  { "$@" | head -c "$((size - 64))" | sed '$d'; echo "$end"; } >big
+  takes "$name" one big b
   rm -f big
 }
-different() { seq -f 'w%.0f' 20000000; }
-entries() { seq -f 'w%.0f: A+;' 6000000; }
-formulas() { seq -f 'w%.0f: A+ & [B-].5 or {@C+};' 3000000; }
-macros() { seq -f '<m%.0f>: A+;' 6000000; }
-chain_of_macros() { echo '<m0>: A+;'; seq 1 199 | awk '{ printf "<m%d>: <m%d>;\n", $1, $1 - 1 }'; seq -f 'w%.0f: <m199>;' 6000000; }
-one_formula() { printf 'a: A+'; repeated ' or A+' 11184808; printf ';'; }
-one_side() { printf 'a: A+'; repeated ' & A+' 13421770; printf ';'; }
-shape 'words, each another' different
-shape 'entries, each of another word' entries
-shape 'formulas' formulas
-shape 'macros' macros
-shape 'macros of macros' chain_of_macros
-shape 'one formula' one_formula
-shape 'one side' one_side
+shape 'words, each another' ': A+;' seq -f 'w%.0f' 20000000
+shape 'entries, each of another word' '' seq -f 'w%.0f: A+;' 6000000
+different() { seq 3000000 | awk '{ printf "w%d: A+ & [B-].%03d or {@C+ & [D-]%d};\n", $1, $1 % 1000, $1 / 1000 }'; }
+shape 'entries, each of another formula' '' different
+shape 'macros' '' seq -f '<m%.0f>: A+;' 6000000
+of_macros() { echo '<m0>: A+;'; seq 1 199 | awk '{ printf "<m%d>: <m%d>;\n", $1, $1 - 1 }'; seq -f 'w%.0f: <m199>;' 6000000; }
+shape 'entries of a macro of 200 levels' '' of_macros
+
+# One line. line NAME FRONT PART COUNT BACK
+line() {
+  wanted "64 MiB, $1" || return 0
+  { printf '%s' "$2"; repeated "$3" "$4"; printf '%s' "$5"; } >big
+  takes "64 MiB, $1" one big b
+  rm -f big
+}
+line 'one formula' 'a: A+' ' or A+' 11184808 ';'
+line 'one side' 'a: A+' ' & A+' 13421770 ';'
 
 if wanted '64 MiB, one rule'; then
   { printf 'none: A {'; repeated ' B' 33554420; printf ' };'; } >big
@@ -139,12 +142,12 @@ at '256 connectors on a side' 'x: A+' ' & A+' 255 ';'
 at '200 levels' 'x: ' '(' 200 "A+$(repeated ')' 200);"
 at '201 levels' 'x: ' '(' 201 "A+$(repeated ')' 201);"
 at '200 levels of braces' 'x: ' '{' 200 "A+$(repeated '}' 200);"
-if wanted '255 links at a word'; then
+if wanted '251 links at a word'; then
   { printf 'x: A+'; repeated ' & A+' 250; echo '; y: A-;'; } >entry
   takes '251 links at a word' one entry "x$(repeated ' y' 251)"
 fi
 
-# Choices of a sentence: equal ones; different ones to one side; and those of two sides, which match one another. choices NAME DICT WORDS
+# Choices of a sentence: equal ones; different ones to one side, which nothing joins; and those of two sides, which match one another. choices NAME DICT WORDS
 choices() {
   wanted "$1" || return 0
   echo "$2" >choices
@@ -152,15 +155,23 @@ choices() {
 }
 ten='A+ or A+ or A+ or A+ or A+ or A+ or A+ or A+ or A+ or A+'
 different='A+ or B+ or C+ or D+ or E+ or F+ or G+ or H+ or I+ or J+'
-left=${different//+/-}
 choices '4,000,000 choices, all equal' "<t>: $ten; x: <t> & <t> & <t> & <t> & <t> & <t>;" 'x x x x'
 choices '4,000,001 choices' "<t>: $ten; x: <t> & <t> & <t> & <t> & <t> & <t>; y: A-;" 'x x x x y'
 choices '4,000,000 choices, each another' "<t>: $different; x: <t> & <t> & <t> & <t> & <t> & <t>;" 'x x x x'
-for sides in 1 2 3; do
-  both="(<l>$(repeated ' \& <l>' $((sides - 1)))) \& (<t>$(repeated ' \& <t>' $((sides - 1))))"
-  both=${both//\\/}
-  choices "choices, $((100 ** sides)) a word, which match" "<t>: $different; <l>: $left; x: $both; a: <t>$(repeated ' & <t>' $((sides - 1))); z: <l>$(repeated ' & <l>' $((sides - 1)));" 'a x x z'
+# kinds COUNT SIGN: so many connectors of different kinds, to be chosen from.
+kinds() {
+  python3 -c 'import itertools, string, sys
+print(" or ".join("".join(name) + sys.argv[2] for name in itertools.islice(itertools.product(string.ascii_uppercase, repeat=2), int(sys.argv[1]))))' "$1" "$2"
+}
+for count in 9 99 299 499; do
+  choices "$(((count + 1) ** 2)) choices a word, which match" "x: {$(kinds "$count" -)} & {$(kinds "$count" +)};" 'x x x x'
 done
+triples() { kinds 333 "*$1"; kinds 333 "a$1"; kinds 333 "b$1"; }
+if wanted '1000000 choices a word, which match'; then
+  less=$(triples - | paste -s -d '|')
+  more=$(triples + | paste -s -d '|')
+  choices '1000000 choices a word, which match' "x: {${less//|/ or }} & {${more//|/ or }};" 'x x x x'
+fi
 
 # Tokens of a sentence. tokens NAME DICT WORD COUNT
 tokens() {
@@ -203,13 +214,15 @@ if wanted '100,000 edits'; then
 fi
 # wants COUNT WORDS: so many of the linkages of a sentence of so many words, each of which is joined to the next one in two ways.
 wants() {
-  wanted "$1 wanted" || return 0
+  local name="$1 wanted of 2^$(($2 - 1)), of $2 words"
+  wanted "$name" || return 0
   echo 'f: A+ or [B+]; m: (A- or B-) & (A+ or [B+]); l: A- or B-;' >two
-  takes "$1 wanted of 2^$(($2 - 1)), of $2 words" one --want "$1" --examine "$1" two "f $(repeated 'm ' $(($2 - 2)))l"
+  takes "$name" one --want "$1" --examine "$1" two "f $(repeated 'm ' $(($2 - 2)))l"
 }
 wants 10000 22
 wants 100000 22
 wants 1000000 22
+wants 100000 60
 wants 1000000 60
 wants 1000001 22
 
