@@ -13,9 +13,9 @@ loop-position-init c = record {
 pub loop-position-preserved : goal.loop-position-preserved
 loop-position-preserved c = record {
   members = members_more c.args.positions.now c.loop-position.position c.index-positions-position.result c.loop-position.lefts.items c.loop-position.rights.items c.push_members.new.lefts.items c.push_members.new.rights.items
-    c.loop-position.members.items c.push_members.new.members.items c.loop-position-test.true c.index-positions-position.is
-    (subst (λ z. AddsMembers c.loop-position.position z c.loop-position.lefts.items c.loop-position.rights.items c.push_members.new.lefts.items c.push_members.new.rights.items c.loop-position.members.items c.push_members.new.members.items) c.items.ensures c.in_ok-push_members.ensures.added)
-    c.loop-position.invariant.members;
+      c.loop-position.members.items c.push_members.new.members.items c.loop-position-test.true c.index-positions-position.is
+      (subst (λ z. AddsMembers c.loop-position.position z c.loop-position.lefts.items c.loop-position.rights.items c.push_members.new.lefts.items c.push_members.new.rights.items c.loop-position.members.items c.push_members.new.members.items) c.items.ensures c.in_ok-push_members.ensures.added)
+      c.loop-position.invariant.members;
   lefts = grows_more c.args.lefts.now.items c.loop-position.lefts.items c.push_members.new.lefts.items c.loop-position.invariant.lefts c.push_members.ensures.lefts;
   rights = grows_more c.args.rights.now.items c.loop-position.rights.items c.push_members.new.rights.items c.loop-position.invariant.rights c.push_members.ensures.rights;
 }
