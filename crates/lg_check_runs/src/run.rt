@@ -1,5 +1,6 @@
 //! What no clause says: that runs come to an end other than running out of memory, and pages and lines that are known from
 //! elsewhere.
+mod exports;
 mod looks;
 mod refusals;
 mod rows;
