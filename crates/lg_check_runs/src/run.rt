@@ -1,6 +1,7 @@
 //! What no clause says: that runs come to an end other than running out of memory, and pages and lines that are known from
 //! elsewhere.
 mod exports;
+mod kept;
 mod looks;
 mod refusals;
 mod rows;
