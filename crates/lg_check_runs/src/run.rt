@@ -1,7 +1,9 @@
 //! What no clause says: that runs come to an end other than running out of memory, and pages and lines that are known from
 //! elsewhere.
 mod cuts;
+mod exports;
 mod faults;
+mod kept;
 mod limits;
 mod looks;
 mod refusals;
