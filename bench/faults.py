@@ -3,8 +3,7 @@
 
 What must hold. Each run ends within a minute, by its own status. Where no call that failed was needed, the run ends as usual. Else
 
-    memory refused, once or from then on    as usual, or status 5 with `lgparse: out of memory`; without that line and without output, while
-                                            the words of the command line are taken
+    memory refused, once or from then on    as usual, or status 5 with `lgparse: out of memory`
     a file does not open, a read fails      status 3 with `lgparse: cannot read NAME`, of the file that was asked for, and nothing written
     the same for want of memory             status 5
     a write to standard output fails        status 4 with `lgparse: cannot write the output`
@@ -52,6 +51,8 @@ INPUTS = [
     ("a refused script", "run first.dict none.know broken.script"),
     ("a word file of a refused word", "one twice.dict x"),
     ("an absent file", "one absent.dict x"),
+    ("a version", "export edits.dict edits.script 1"),
+    ("more versions than there are", "export edits.dict edits.script 9"),
     ("two sessions", "run first.dict none.know two.a.script two.b.script"),
     ("two sessions with one word", "run edits.dict none.know one.script other.script"),
     ("three sessions", "run edits.dict none.know one.script other.script third.script"),
@@ -116,7 +117,6 @@ FAULTS = [
 ]
 
 NO_MEMORY = (5, b"lgparse: out of memory\n")
-NO_WORDS = (5, b"")
 NO_OUTPUT = (4, b"lgparse: cannot write the output\n")
 
 
@@ -250,7 +250,7 @@ def is_refusal(ending, call, how, told):
     """Whether this is how a run ends in which such a call failed, but for what was written to standard output."""
     end = (ending.status, ending.err)
     if call in ("memory", "thread"):
-        return end == NO_MEMORY or end == NO_WORDS and not ending.out
+        return end == NO_MEMORY
     if call == "output":
         return end == NO_OUTPUT
     if how == errno.ENOMEM:
@@ -276,12 +276,11 @@ def is_right(ending, endings, call, count, how, told):
 
 class Tally:
     def __init__(self):
-        self.refused = self.without_line = 0
+        self.refused = 0
         self.wrong = []
 
     def add(self, words, call, first, count, how, ending, endings, told):
         self.refused += told.faults > 0
-        self.without_line += (ending.status, ending.err) == NO_WORDS
         if not is_right(ending, endings, call, count, how, told):
             last = first + count - 1
             self.wrong.append(f"FAULT_CALL={call} FAULT_FROM={first} FAULT_TO={last} FAULT_HOW={how} {shlex.join(words)}: {ending}")
@@ -327,7 +326,7 @@ def main():
     given = parser.parse_intermixed_args()
     runner = Runner(given.program, given.folder)
     make_inputs(runner.folder)
-    wrong, sums, without_line = [], {}, 0
+    wrong, sums = [], {}
     with ThreadPoolExecutor(given.jobs) as pool:
         for name, line in INPUTS:
             if given.inputs and name not in given.inputs:
@@ -338,7 +337,6 @@ def main():
             for call, count, how in FAULTS:
                 tally = tried(runner, pool, words, endings, call, count, how, given.most)
                 sums[call] = sums.get(call, 0) + tally.refused
-                without_line += tally.without_line
                 shown.append((call, tally.refused))
                 wrong += [f"{name_of(call, count, how)}: {text}" for text in tally.wrong]
             told = ", ".join(f"{call} {sum(n for c, n in shown if c == call)}" for call in dict.fromkeys(c for c, _ in shown))
@@ -346,7 +344,7 @@ def main():
     for text in wrong:
         print(f"WRONG {text}")
     print("runs with a fault: " + ", ".join(f"{call} {count}" for call, count in sums.items()))
-    print(f"{without_line} ended with status 5 and no line; {len(wrong)} not as they must")
+    print(f"{len(wrong)} not as they must")
     sys.exit(bool(wrong))
 
 
