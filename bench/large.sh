@@ -250,3 +250,19 @@ if wanted '20,000 words of a stem, 252 times'; then
   { printf 'parse'; repeated ' a' 252; echo; } >same
   runs '20,000 words of a stem, 252 times' stem same
 fi
+# Rules on a sentence of 251 words, each of which is joined to the next one in two ways.
+if wanted 'rules on 251 words'; then
+  echo 'x: {A- or B-} & {A+ or B+};' >chain
+  echo "list 1 1 $(repeated 'x ' 251)" >one
+  echo "list 1 1000 $(repeated 'x ' 251)" >thousand
+  letters() { python3 -c 'import itertools, string, sys
+for name in itertools.islice(itertools.product(string.ascii_uppercase, repeat=3), int(sys.argv[1])): print("".join(name))' "$1"; }
+  { echo 'ignore:'; letters 10000; echo '; none: A {B};'; } >ignored
+  { letters 1000 | sed 's/.*/start: a &;/'; echo 'start: a A; start: b B;'; for _ in {1..1500}; do echo 'bounded: a; bounded: b;'; done; } >bounded
+  echo 'cycle: B;' >cycle
+  takes 'no rules on 251 words, 1,000 linkages' run chain none thousand
+  takes 'rules on 251 words: a cycle, 1,000 linkages' run chain cycle thousand
+  takes 'rules on 251 words: 10,000 ignored patterns' run chain ignored one
+  takes 'rules on 251 words: 3,000 bounds, 1,002 starts' run chain bounded one
+  takes 'rules on 251 words: 3,000 bounds, 1,000 linkages' run chain bounded thousand
+fi
