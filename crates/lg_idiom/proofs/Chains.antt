@@ -25,7 +25,7 @@ use Rattle.lg_idiom.specs.declared.taken.Taken.{Taken}
 use Rattle.lg_idiom.proofs.Beginning.{rising_append}
 use Rattle.lg_idiom.proofs.Rising.{same_rising, one_place}
 
-contains_at : {X : Type 0} (xs : List X) (i : ℕ) (x : X) → slice_get xs i ≡ Some x → Contains xs x
+pub contains_at : {X : Type 0} (xs : List X) (i : ℕ) (x : X) → slice_get xs i ≡ Some x → Contains xs x
 contains_at xs i x at = (i, slice_get_within xs i x at, get_or_from_slice_get xs i x x at)
 
 -- the order of chains

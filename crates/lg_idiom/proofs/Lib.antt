@@ -8,3 +8,6 @@ pub mod Rising
 pub mod Chains
 pub mod Added
 pub mod Rows
+pub mod JointTexts
+pub mod Parts
+pub mod Joints

@@ -3,3 +3,4 @@ pub mod Steps
 pub mod Kept
 pub mod Takings
 pub mod Sentences
+pub mod Wholes

@@ -4,8 +4,10 @@
 mod adding;
 mod chain;
 mod fitting;
+pub mod law;
 mod order;
 mod sentence;
 mod taken;
 
+pub use law::joints_join_neighbours;
 pub use sentence::idioms;

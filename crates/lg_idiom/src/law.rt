@@ -1,0 +1,7 @@
+//! The laws of idioms: what chains do in the good linkages of a sentence.
+ghost use Rattle.lg_idiom.specs.Wholes.{JointsJoinNeighbours};
+
+/// In a good linkage each link of a joint joins neighbours. The function does nothing: a caller whose proof needs the fact calls it.
+pub fn joints_join_neighbours()
+    ensures { JointsJoinNeighbours }
+{}
