@@ -27,14 +27,14 @@ at_one a x (suc q) e = absurd (none-some x e)
 -- ---- a disjunct of a chain
 
 -- where its right list has a joint, that is the chain's, to the next position
-right_of_part : (c : Chain) → ((d : Disjunct) → IsDisjunctOf c.word c.formula d → HasNoJoint d)
+pub right_of_part : (c : Chain) → ((d : Disjunct) → IsDisjunctOf c.word c.formula d → HasNoJoint d)
     → (d : Disjunct) (i : ℕ) → Part c d i → (q : ℕ) (x : Connector) → slice_get d.right q ≡ Some x → IsJoint x.caps → x ≡ joint_of c i true
 right_of_part c none d zero (begins l r cost) q x at joint = sym (at_one (joint_of c 0 true) x q (ap (λ xs. slice_get xs q) (sym r) ∙ at)).0
 right_of_part c none d (suc k) (goes_on _ more l r cost) q x at joint = sym (at_one (joint_of c (suc k) true) x q (ap (λ xs. slice_get xs q) (sym r) ∙ at)).0
 right_of_part c none d (suc k) (ends _ own last l is) q x at joint = absurd (none (record d { left = own }) is x (Contains-append_right own d.right x (contains_at d.right q x at)) joint)
 
 -- where its left list has a joint, that is the chain's, from the position before, and stands first
-left_of_part : (c : Chain) → ((d : Disjunct) → IsDisjunctOf c.word c.formula d → HasNoJoint d)
+pub left_of_part : (c : Chain) → ((d : Disjunct) → IsDisjunctOf c.word c.formula d → HasNoJoint d)
     → (d : Disjunct) (i : ℕ) → Part c d i → (q : ℕ) (x : Connector) → slice_get d.left q ≡ Some x → IsJoint x.caps → (k : ℕ) × (i ≡ suc k) × (x ≡ joint_of c k false) × (q ≡ 0)
 left_of_part c none d zero (begins l r cost) q x at joint = absurd (none-some x (ap (λ xs. slice_get xs q) (sym l) ∙ at))
 left_of_part c none d (suc k) (goes_on _ more l r cost) q x at joint =

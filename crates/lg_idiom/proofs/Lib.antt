@@ -11,3 +11,4 @@ pub mod Rows
 pub mod JointTexts
 pub mod Parts
 pub mod Joints
+pub mod Using

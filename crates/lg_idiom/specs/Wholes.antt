@@ -1,10 +1,10 @@
 -- What chains do in the linkages of a sentence.
-use Rattle.std.specs.Prelude.{◌≡◌, ◌⊎◌, ◌↔◌, ℕ, ◌+◌, ◌-◌, ◌<◌, ◌≤◌, ◌==◌, List, [], ◌++◌, length, drop, Contains, Some, None, IfSome, if◌then◌else◌, slice_index_or}
+use Rattle.std.specs.Prelude.{◌≡◌, ◌⊎◌, ◌↔◌, ℕ, ◌+◌, ◌-◌, ◌<◌, ◌≤◌, ◌==◌, true, List, [], ◌++◌, length, drop, Contains, Some, None, IfSome, if◌then◌else◌, slice_index_or}
 use Rattle.lg_gram.specs.Connectors.{Connector}
 use Rattle.lg_gram.specs.Disjuncts.{IsDisjunctOf}
 use Rattle.lg_gram.specs.Labels.{label_at}
 use Rattle.lg_gram.specs.Linkages.{Linkage}
-use Rattle.lg_gram.specs.Names.{IsJoint}
+use Rattle.lg_gram.specs.Names.{IsJoint, joint_fits}
 use Rattle.lg_gram.specs.Rules.{Good, HasLink, IsLinked, chosen_at}
 use Rattle.lg_gram.specs.declared.disjunct.Disjunct.{Disjunct}
 use Rattle.lg_gram.specs.declared.linkage.Link.{Link}
@@ -20,10 +20,12 @@ HasNoJoint d = (c : Connector) → Contains (d.left ++ d.right) c → IsJoint c.
 abbrev pub IsAddedAt : List Chain → ℕ → Disjunct → Type 0
 IsAddedAt taken p d = (c : Chain) × Contains taken c × Covers c p × IsDisjunctOf c.word (formula_at c (p - c.start)) d
 
--- chains of several positions, told apart by start and rank, whose compounds' own formulas have no joint
+-- Chains of several positions, told apart by start and rank, whose numbers fit into the names of joints. Their compounds' own formulas have no
+-- joint.
 pub record AreChainsOfIdioms (taken : List Chain) : Type 0 where
   pub apart : (c d : Chain) → Contains taken c → Contains taken d → c.start ≡ d.start → c.rank ≡ d.rank → c ≡ d
   pub several : (c : Chain) → Contains taken c → 2 ≤ c.count
+  pub fits : (c : Chain) → Contains taken c → (i : ℕ) → i + 1 < c.count → joint_fits c.rank c.start i ≡ true
   pub no_joint : (c : Chain) → Contains taken c → (d : Disjunct) → IsDisjunctOf c.word c.formula d → HasNoJoint d
 
 -- A problem with chains laid over a plain one, which has no joint: at each position the plain disjuncts, and those that the chains add.
