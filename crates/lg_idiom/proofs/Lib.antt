@@ -12,3 +12,4 @@ pub mod JointTexts
 pub mod Parts
 pub mod Joints
 pub mod Using
+pub mod Staying

@@ -53,11 +53,11 @@ module _ (taken : List Chain) (plain positions : List (List Disjunct)) (are : Ar
       (are.apart e c n m read.1.0 read.0, read.1.1)
 
   -- a plain disjunct has not the joint of a chain
-  plain_right : (p : ℕ) (d : Disjunct) (q : ℕ) (c : Chain) → Contains taken c → (i : ℕ) → i + 1 < c.count → Contains (slice_index_or plain p []) d → slice_get d.right q ≡ Some (joint_of c i true) → ⊥
+  pub plain_right : (p : ℕ) (d : Disjunct) (q : ℕ) (c : Chain) → Contains taken c → (i : ℕ) → i + 1 < c.count → Contains (slice_index_or plain p []) d → slice_get d.right q ≡ Some (joint_of c i true) → ⊥
   plain_right p d q c m i less in_plain at =
       over.no_joint p d in_plain (joint_of c i true) (Contains-append_right d.left d.right _ (contains_at d.right q _ at)) (joint_here c i _ (are.fits c m i less) refl)
 
-  plain_left : (p : ℕ) (d : Disjunct) (q : ℕ) (c : Chain) → Contains taken c → (i : ℕ) → i + 1 < c.count → Contains (slice_index_or plain p []) d → slice_get d.left q ≡ Some (joint_of c i false) → ⊥
+  pub plain_left : (p : ℕ) (d : Disjunct) (q : ℕ) (c : Chain) → Contains taken c → (i : ℕ) → i + 1 < c.count → Contains (slice_index_or plain p []) d → slice_get d.left q ≡ Some (joint_of c i false) → ⊥
   plain_left p d q c m i less in_plain at =
       over.no_joint p d in_plain (joint_of c i false) (Contains-append_left d.left d.right _ (contains_at d.left q _ at)) (joint_here c i _ (are.fits c m i less) refl)
 

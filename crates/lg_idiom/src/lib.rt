@@ -9,5 +9,5 @@ mod order;
 mod sentence;
 mod taken;
 
-pub use law::{chains_are_whole, joints_join_neighbours};
+pub use law::{chains_are_whole, joints_join_neighbours, plain_linkages_stay};
 pub use sentence::idioms;
