@@ -13,3 +13,4 @@ pub mod Parts
 pub mod Joints
 pub mod Using
 pub mod Staying
+pub mod Laying

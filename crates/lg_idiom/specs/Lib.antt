@@ -4,3 +4,4 @@ pub mod Kept
 pub mod Takings
 pub mod Sentences
 pub mod Wholes
+pub mod Overlays
