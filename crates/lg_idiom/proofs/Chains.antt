@@ -25,7 +25,7 @@ use Rattle.lg_idiom.specs.declared.taken.Taken.{Taken}
 use Rattle.lg_idiom.proofs.Beginning.{rising_append}
 use Rattle.lg_idiom.proofs.Rising.{same_rising, one_place}
 
-contains_at : {X : Type 0} (xs : List X) (i : ℕ) (x : X) → slice_get xs i ≡ Some x → Contains xs x
+pub contains_at : {X : Type 0} (xs : List X) (i : ℕ) (x : X) → slice_get xs i ≡ Some x → Contains xs x
 contains_at xs i x at = (i, slice_get_within xs i x at, get_or_from_slice_get xs i x x at)
 
 -- the order of chains
@@ -107,7 +107,7 @@ two_parts [] h = absurd (true≢false (sym h))
 two_parts (x ∷ []) h = absurd (true≢false (sym h))
 two_parts (x ∷ y ∷ more) h = omega arith
 
-taken_in : (cs : List Chain) (n : ℕ) (ts : List Chain) → AreTaken n cs ts → (c : Chain) → Contains ts c → Contains cs c
+pub taken_in : (cs : List Chain) (n : ℕ) (ts : List Chain) → AreTaken n cs ts → (c : Chain) → Contains ts c → Contains cs c
 taken_in [] n [] (no_chain _) c m = m
 taken_in [] n (t ∷ ts) h c m = elim h [ ]
 taken_in (b ∷ cs) n (b' ∷ ts) (taken _ _ _ _ use_it few rest) c m =
@@ -125,7 +125,7 @@ module _ (dict : Dictionary) (tokens : List Token) where
       let low = slice_get_within tokens (s + (length parts - 1)) last.token last.there in
       omega (arith, low, more)
 
-  lies : (s : ℕ) (word : List ℕ) → FitsAt dict tokens s word → (2 ≤ length (parts_of word)) × (s + length (parts_of word) ≤ length tokens)
+  pub lies : (s : ℕ) (word : List ℕ) → FitsAt dict tokens s word → (2 ≤ length (parts_of word)) × (s + length (parts_of word) ≤ length tokens)
   lies s word fit =
       let several = two_parts (parts_of word) (and_parts _ _ fit.compound).0 in
       (several, lies_within s (parts_of word) fit.parts several)
@@ -146,7 +146,7 @@ module _ (dict : Dictionary) (tokens : List Token) where
       let fit = (fitting.exactly w).0 (contains_at words i w at) in
       record { words = words; fitting = fitting; ranked = at; counted = refl; has = known_formula (get dict.words w) fit.known }
 
-  chain_is : (s : ℕ) (words : List (List ℕ)) → AreFitting dict tokens s words → (c : Chain) → IsChain dict tokens c → c.start ≡ s → (slice_get words c.rank ≡ Some c.word) × (c ≡ chain_of dict s c.rank c.word)
+  pub chain_is : (s : ℕ) (words : List (List ℕ)) → AreFitting dict tokens s words → (c : Chain) → IsChain dict tokens c → c.start ≡ s → (slice_get words c.rank ≡ Some c.word) × (c ≡ chain_of dict s c.rank c.word)
   chain_is s words fitting c is starts =
       let own = subst (λ n. AreFitting dict tokens n is.words) starts is.fitting in
       let same : is.words ≡ words = same_rising (slice_cmp nat_cmp) nat_list_cmp_total is.words words own.rise fitting.rise

@@ -8,3 +8,9 @@ pub mod Rising
 pub mod Chains
 pub mod Added
 pub mod Rows
+pub mod JointTexts
+pub mod Parts
+pub mod Joints
+pub mod Using
+pub mod Staying
+pub mod Laying

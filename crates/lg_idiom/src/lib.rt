@@ -4,8 +4,13 @@
 mod adding;
 mod chain;
 mod fitting;
+pub mod law;
 mod order;
 mod sentence;
 mod taken;
 
+pub use law::{
+    chains_are_whole, joints_join_neighbours, plain_linkages_stay, taken_are_chains,
+    taken_are_laid_over,
+};
 pub use sentence::idioms;

@@ -1,0 +1,5 @@
+use Rattle.lg_idiom.proofs.Laying.{taken_are_chains}
+use Rattle.lg_idiom.proofs.law.taken_are_chains.Goals as goal
+
+pub returns : goal.returns
+returns c = taken_are_chains
