@@ -20,7 +20,7 @@ use Rattle.lg_idiom.proofs.Parts.{Part, begins, goes_on, ends, part_of}
 
 -- ---- lists of one
 
-at_one : (a x : Connector) (q : ℕ) → slice_get (a ∷ []) q ≡ Some x → (a ≡ x) × (q ≡ 0)
+pub at_one : (a x : Connector) (q : ℕ) → slice_get (a ∷ []) q ≡ Some x → (a ≡ x) × (q ≡ 0)
 at_one a x zero e = (same_Some a x e, refl)
 at_one a x (suc q) e = absurd (none-some x e)
 

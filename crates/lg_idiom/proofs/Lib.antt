@@ -14,3 +14,8 @@ pub mod Joints
 pub mod Using
 pub mod Staying
 pub mod Laying
+pub mod Spans
+pub mod Walking
+pub mod Cutting
+pub mod Mending
+pub mod Restoring

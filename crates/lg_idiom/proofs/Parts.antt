@@ -12,7 +12,7 @@ use Rattle.lg_gram.specs.Trees.{Tree, leaf, no_trees, tree}
 use Rattle.lg_gram.specs.declared.disjunct.Disjunct.{Disjunct}
 use Rattle.lg_idiom.specs.Idioms.{Chain, joint_of, pair, later_formula, formula_at}
 
-only : {X : Type 0} (y x : X) → Contains (y ∷ []) x → y ≡ x
+pub only : {X : Type 0} (y x : X) → Contains (y ∷ []) x → y ≡ x
 only y x h =
     elim (contains_cases y [] x h) [
       | inl e ↦ e
@@ -21,10 +21,10 @@ only y x h =
 
 -- ---- a connector, and then a tree
 
-abbrev behind : Connector → Choice → Choice
+abbrev pub behind : Connector → Choice → Choice
 behind a e = joined (single a) (joined e no_connectors)
 
-pair_out : (a : Connector) (t : Tree) (c : Choice) → Contains (choices_of (pair (leaf a) t)) c → (e : Choice) × Contains (choices_of t) e × (behind a e ≡ c)
+pub pair_out : (a : Connector) (t : Tree) (c : Choice) → Contains (choices_of (pair (leaf a) t)) c → (e : Choice) × Contains (choices_of t) e × (behind a e ≡ c)
 pair_out a t c h =
     let (x, in_first, in_rest) = flat_out (λ b. map (joined b) (picks_of (tree t no_trees))) (choices_of (leaf a)) c h in
     let is : single a ≡ x = only (single a) x in_first in
@@ -32,13 +32,13 @@ pair_out a t c h =
     let (e, in_tree, in_one) = flat_out (λ b. map (joined b) (picks_of no_trees)) (choices_of t) y in_picks in
     (e, in_tree, (λ i. joined (is i) (only (joined e no_connectors) y in_one i)) ∙ joined_is)
 
-pair_in : (a : Connector) (t : Tree) (e : Choice) → Contains (choices_of t) e → Contains (choices_of (pair (leaf a) t)) (behind a e)
+pub pair_in : (a : Connector) (t : Tree) (e : Choice) → Contains (choices_of t) e → Contains (choices_of (pair (leaf a) t)) (behind a e)
 pair_in a t e h =
     flat_in (λ b. map (joined b) (picks_of (tree t no_trees))) (choices_of (leaf a)) (single a) (behind a e) (contains_here (single a) [])
     (map_in (joined (single a)) (picks_of (tree t no_trees)) (joined e no_connectors)
     (flat_in (λ b. map (joined b) (picks_of no_trees)) (choices_of t) e (joined e no_connectors) h (contains_here (joined e no_connectors) [])))
 
-same_cost : (z : ℤ) → pos 0 +ℤ (z +ℤ pos 0) ≡ z
+pub same_cost : (z : ℤ) → pos 0 +ℤ (z +ℤ pos 0) ≡ z
 same_cost z = +ℤ_idl (z +ℤ pos 0) ∙ +ℤ_idr z
 
 -- ---- what each position has
@@ -50,7 +50,7 @@ pub data Part (c : Chain) (d : Disjunct) : ℕ → Type 0 where
   goes_on : (k : ℕ) → (suc (suc k) ≡ c.count → ⊥) → d.left ≡ joint_of c k false ∷ [] → d.right ≡ joint_of c (suc k) true ∷ [] → d.cost ≡ pos 0 → Part c d (suc k)
   ends : (k : ℕ) (own : List Connector) → suc (suc k) ≡ c.count → d.left ≡ joint_of c k false ∷ own → IsDisjunctOf c.word c.formula (record d { left = own }) → Part c d (suc k)
 
-one_less : (k : ℕ) → suc k - 1 ≡ k
+pub one_less : (k : ℕ) → suc k - 1 ≡ k
 one_less k = omega arith
 
 later_part : (c : Chain) (k : ℕ) (last : Bool) → nat_eq (suc (suc k)) c.count ≡ last → (d : Disjunct) → IsDisjunctOf c.word (later_formula c (suc k) last) d → Part c d (suc k)

@@ -1,11 +1,13 @@
 -- Lists that rise.
-use Rattle.std.proofs.Common.{◌≡◌, inl, inr, ◌↔◌, ℕ, List, [], ◌∷◌, slice_get, Some, Contains, refl, sym, subst, ◌∙◌, arith, Less}
+use Rattle.std.proofs.Common.{◌≡◌, inl, inr, ◌↔◌, ℕ, List, [], ◌∷◌, slice_get, Some, Contains, ◌⊎◌, refl, ap, sym, subst, ◌∙◌, arith, Less, Equal, Greater}
 use Rattle.std.specs.declared.cmp.Ordering.{Ordering}
 use Rattle.std.specs.Cmp.{IsTotalOrder}
+use Rattle.std.proofs.lemmas.Map.Lookups.{CmpEqualImpliesEq}
+use Rattle.std.specs.Ordering.{ordering_reverse}
 use Rattle.std.specs.List.Sorted.{IsStrictlySortedBy}
 use Rattle.std.proofs.lemmas.Bool.{cases_lt}
 use Rattle.std.proofs.lemmas.Cmp.{tied_itself}
-use Rattle.std.proofs.lemmas.List.Elements.{All-contains}
+use Rattle.std.proofs.lemmas.List.Elements.{All-contains, All-contains_itself, All-weaker, recursion_from_All}
 use Rattle.std.proofs.lemmas.Map.Keys.{Less-from_sorted, sorted_tail}
 use Rattle.std.proofs.lemmas.Map.Views.{All-after_first}
 use Rattle.std.proofs.lemmas.Option.{slice_get_within, get_or_from_slice_get}
@@ -58,3 +60,98 @@ module _ {K : Type 0} (R : K → K → Ordering) (total : IsTotalOrder R) where
           | inr least ↦ omega (arith, more, least)
         ]
       ]
+
+  -- the elements of any list, rising
+  front : (x : K) (xs : List K) → ((y : K) → Contains xs y → R x y ≡ Less) → IsStrictlySortedBy R xs → IsStrictlySortedBy R (x ∷ xs)
+  unfolding IsStrictlySortedBy
+  front x xs less up = (recursion_from_All (λ y. R x y ≡ Less) xs (All-weaker (Contains xs) (λ y. R x y ≡ Less) less xs (All-contains_itself xs)), up)
+
+  nothing : IsStrictlySortedBy R []
+  unfolding IsStrictlySortedBy
+  nothing = tt
+
+  abbrev one_more : K → List K → Type 0
+  one_more x ys = (zs : List K) × IsStrictlySortedBy R zs × ((z : K) → Contains zs z ↔ ((x ≡ z) ⊎ Contains ys z))
+
+  put : (x y : K) (ys : List K) → CmpEqualImpliesEq R → IsStrictlySortedBy R (y ∷ ys) → one_more x ys → (o : Ordering) → R x y ≡ o → one_more x (y ∷ ys)
+  put x y ys exact up rest Less is = (
+    x ∷ y ∷ ys,
+    front x (y ∷ ys) (λ z m. elim (contains_cases y ys z m) [
+      | inl e ↦ subst (λ w. R x w ≡ Less) e is
+      | inr later ↦ total.trans x y z is (after y ys z up later)
+    ]) up,
+    λ z. (
+      λ m. contains_cases x (y ∷ ys) z m,
+      λ h. elim h [
+        | inl e ↦ subst (Contains (x ∷ y ∷ ys)) e (contains_here x (y ∷ ys))
+        | inr m ↦ contains_later x (y ∷ ys) z m
+      ],
+    ),
+  )
+  put x y ys exact up rest Equal is = (
+    y ∷ ys,
+    up,
+    λ z. (
+      λ m. inr m,
+      λ h. elim h [
+        | inl e ↦ subst (Contains (y ∷ ys)) (sym (exact x y is) ∙ e) (contains_here y ys)
+        | inr m ↦ m
+      ],
+    ),
+  )
+  put x y ys exact up (zs, rising, same) Greater is = (
+    y ∷ zs,
+    front y zs (λ z m. elim ((same z).0 m) [
+      | inl e ↦ subst (λ w. R y w ≡ Less) e (total.antisymm y x ∙ ap ordering_reverse is)
+      | inr later ↦ after y ys z up later
+    ]) rising,
+    λ z. (
+      λ m. elim (contains_cases y zs z m) [
+        | inl e ↦ inr (subst (Contains (y ∷ ys)) e (contains_here y ys))
+        | inr later ↦ elim ((same z).0 later) [
+          | inl e ↦ inl e
+          | inr n ↦ inr (contains_later y ys z n)
+        ]
+      ],
+      λ h. elim h [
+        | inl e ↦ contains_later y zs z ((same z).1 (inl e))
+        | inr m ↦ elim (contains_cases y ys z m) [
+          | inl e ↦ subst (Contains (y ∷ zs)) e (contains_here y zs)
+          | inr n ↦ contains_later y zs z ((same z).1 (inr n))
+        ]
+      ],
+    ),
+  )
+
+  insert : CmpEqualImpliesEq R → (x : K) (ys : List K) → IsStrictlySortedBy R ys → one_more x ys
+  insert exact x [] up = (
+    x ∷ [],
+    front x [] (λ z m. absurd (contains_none z m)) nothing,
+    λ z. (
+      λ m. contains_cases x [] z m,
+      λ h. elim h [
+        | inl e ↦ subst (Contains (x ∷ [])) e (contains_here x [])
+        | inr m ↦ absurd (contains_none z m)
+      ],
+    ),
+  )
+  insert exact x (y ∷ ys) up = put x y ys exact up (insert exact x ys (sorted_tail R y ys up)) (R x y) refl
+
+  pub rising_of : CmpEqualImpliesEq R → (xs : List K) → (ys : List K) × IsStrictlySortedBy R ys × ((z : K) → Contains ys z ↔ Contains xs z)
+  rising_of exact [] = ([], nothing, λ z. (λ m. m, λ m. m))
+  rising_of exact (x ∷ xs) =
+      let (ys, up, same) = rising_of exact xs in
+      let (zs, rising, more) = insert exact x ys up in (
+        zs,
+        rising,
+        λ z. (
+          λ m. elim ((more z).0 m) [
+            | inl e ↦ subst (Contains (x ∷ xs)) e (contains_here x xs)
+            | inr n ↦ contains_later x xs z ((same z).0 n)
+          ],
+          λ m. elim (contains_cases x xs z m) [
+            | inl e ↦ (more z).1 (inl e)
+            | inr n ↦ (more z).1 (inr ((same z).1 n))
+          ],
+        ),
+      )

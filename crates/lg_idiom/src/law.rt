@@ -1,6 +1,6 @@
 //! The laws of idioms: what chains do in the good linkages of a sentence.
 ghost use Rattle.lg_idiom.specs.Overlays.{TakenAreChains, TakenAreLaidOver};
-ghost use Rattle.lg_idiom.specs.Wholes.{ChainsAreWhole, JointsJoinNeighbours, PlainLinkagesStay};
+ghost use Rattle.lg_idiom.specs.Wholes.{ChainsAreWhole, ChainsStandForWords, JointsJoinNeighbours, PlainLinkagesStay};
 
 /// In a good linkage each link of a joint joins neighbours. The function does nothing: a caller whose proof needs the fact calls it.
 pub fn joints_join_neighbours()
@@ -27,4 +27,10 @@ pub fn taken_are_chains()
 /// fact calls it.
 pub fn taken_are_laid_over()
     ensures { TakenAreLaidOver }
+{}
+
+/// A good linkage that uses a chain is, without its joints, a good linkage with the compound as a word at the chain's last position; and each
+/// of these in which that position is linked comes so from exactly one. The function does nothing: a caller whose proof needs the fact calls it.
+pub fn chains_stand_for_words()
+    ensures { ChainsStandForWords }
 {}
