@@ -3,7 +3,6 @@
 mod cuts;
 mod exports;
 mod faults;
-mod kept;
 mod limits;
 mod looks;
 mod refusals;
