@@ -3,6 +3,7 @@ use Rattle.std.proofs.Common.{◌≡◌, ℕ, List, [], inl, inr, Option, None, 
 use Rattle.std.specs.Io.KnownBytes.{Appends, Keeps}
 use Rattle.lg_base.specs.Contents.{Contents}
 use Rattle.lg_base.specs.Faults.{Rose}
+use Rattle.lg_base.specs.Sinks.{AppendsFront}
 use Rattle.lg_base.specs.declared.memory.NoMemory.{NoMemory as OutOfMemory}
 use Rattle.lg_dictread.specs.declared.dict_error.DictError.{DictError}
 use Rattle.lg_dictread.specs.declared.dict_error.DictError.TheVariants as errors
@@ -19,7 +20,7 @@ use Rattle.lg_run.specs.Inputs.{Found, Reading, accepted, refused, IsOne, Given,
 use Rattle.lg_run.specs.Lines.{memory_line, dict_line, know_line, script_line}
 use Rattle.lg_run.specs.Stops.{dict_status, know_status, script_status, stop_status, stop_line, EndsAs, EndsWithLine}
 use Rattle.lg_run.specs.Reads.{Comes, TellsStop, IsFaultOf, IsAbout}
-use Rattle.lg_run.specs.Answers.{WhereTold, IsNoTask, Unwritten, Caused, Told, AnswersRefused, AnswersAccepted, names_of, IsRefusal, HasLine, WritesLine, Finishes, last_line, IsStopped}
+use Rattle.lg_run.specs.Answers.{WhereTold, IsNoTask, Unwritten, Caused, Told, AnswersRefused, AnswersAccepted, names_of, IsRefusal, HasLine, WritesLine, WritesLineFront, Finishes, last_line, IsStopped}
 use Rattle.lg_run.specs.declared.stop.Stop.{Stop}
 use Rattle.lg_run.specs.declared.stop.Stop.TheVariants.{Memory, Unreadable, TooLong, Dictionary, Knowledge, Script, TooManyEdits, TooFewVersions, Quoted}
 use Rattle.lg_run.specs.declared.status.Status.{Status}
@@ -190,31 +191,61 @@ module _ (contents : Option Contents) (words : List (List ℕ)) (old new : List 
   stop_fits Usage line is memory refuses fault told = absurd is
   stop_fits WriteFault line is memory refuses fault told = absurd is
 
-  pub stop_written : (stop : Stop) (status : Status) (so : Type 0) (err_old err_new : Option (List ℕ)) → IsStopped status → EndsAs stop status so err_old err_new →
+  -- a stop has its line
+  record HasItsLine (status : Status) (so : Type 0) (err_old err_new : Option (List ℕ)) : Type 0 where
+    line : List ℕ
+    fits : HasLine contents words old new status line
+    written : so → Appends err_old err_new line
+    front : AppendsFront err_old err_new line
+
+  stop_has : (stop : Stop) (status : Status) (so : Type 0) (err_old err_new : Option (List ℕ)) → IsStopped status → EndsAs stop status so err_old err_new →
       IsFaultOf new before now (stop_status stop) (stop_line stop) → ((task : Task) → TaskIs words task → IsAbout (names_of task) new stop) →
-      WhereTold contents words (λ inputs. TellsStop inputs old new (stop_status stop) (stop_line stop)) → so → WritesLine contents words old new status err_old err_new
-  stop_written stop status so err_old err_new is (inl says) fault about told holds = record {
+      WhereTold contents words (λ inputs. TellsStop inputs old new (stop_status stop) (stop_line stop)) → HasItsLine status so err_old err_new
+  stop_has stop status so err_old err_new is (inl says) fault about told = record {
     line = stop_line stop;
     fits = subst (λ (s : Status). HasLine contents words old new s (stop_line stop)) (sym says.same)
         (stop_fits (stop_status stop) (stop_line stop) (subst IsStopped says.same is) (stop_said stop) (λ bad task is. stop_refuses (names_of task) new stop (about task is) bad) fault told);
-    grown = says.written holds;
+    written = says.written;
+    front = says.front;
   }
-  stop_written stop status so err_old err_new is (inr says) fault about told holds = record {
+  stop_has stop status so err_old err_new is (inr says) fault about told = record {
     line = memory_line;
     fits = subst (λ (s : Status). HasLine contents words old new s memory_line) (sym says.same) refl;
-    grown = says.written holds;
+    written = says.written;
+    front = says.front;
   }
 
+  pub stop_written : (stop : Stop) (status : Status) (so : Type 0) (err_old err_new : Option (List ℕ)) → IsStopped status → EndsAs stop status so err_old err_new →
+      IsFaultOf new before now (stop_status stop) (stop_line stop) → ((task : Task) → TaskIs words task → IsAbout (names_of task) new stop) →
+      WhereTold contents words (λ inputs. TellsStop inputs old new (stop_status stop) (stop_line stop)) → so → WritesLine contents words old new status err_old err_new
+  stop_written stop status so err_old err_new is says fault about told holds =
+      let l = stop_has stop status so err_old err_new is says fault about told in
+      record { line = l.line; fits = l.fits; grown = l.written holds }
+
+  pub stop_front : (stop : Stop) (status : Status) (so : Type 0) (err_old err_new : Option (List ℕ)) → IsStopped status → EndsAs stop status so err_old err_new →
+      IsFaultOf new before now (stop_status stop) (stop_line stop) → ((task : Task) → TaskIs words task → IsAbout (names_of task) new stop) →
+      WhereTold contents words (λ inputs. TellsStop inputs old new (stop_status stop) (stop_line stop)) → WritesLineFront contents words old new status err_old err_new
+  stop_front stop status so err_old err_new is says fault about told =
+      let l = stop_has stop status so err_old err_new is says fault about told in
+      record { line = l.line; fits = l.fits; grown = l.front }
+
+  -- a command that has its inputs in hand ends by a line of its status
+  last_fits : (g : Given) (status : Status) (out_old out_new : Option (List ℕ)) → Finishes g status out_old out_new → HasLine contents words old new status (last_line status)
+  last_fits g Done out_old out_new f = refl
+  last_fits g WriteFault out_old out_new f = refl
+  last_fits g NoMemory out_old out_new f = refl
+  last_fits g BadInput out_old out_new f = absurd f
+  last_fits g Usage out_old out_new f = absurd f
+  last_fits g ReadFault out_old out_new f = absurd f
+
   pub last_written : (g : Given) (status : Status) (out_old out_new err_old err_new : Option (List ℕ)) → Finishes g status out_old out_new → Appends err_old err_new (last_line status) → WritesLine contents words old new status err_old err_new
-  last_written g Done out_old out_new err_old err_new f grown = record { line = []; fits = refl; grown = grown }
-  last_written g WriteFault out_old out_new err_old err_new f grown = record { line = last_line WriteFault; fits = refl; grown = grown }
-  last_written g NoMemory out_old out_new err_old err_new f grown = record { line = memory_line; fits = refl; grown = grown }
-  last_written g BadInput out_old out_new err_old err_new f grown = absurd f
-  last_written g Usage out_old out_new err_old err_new f grown = absurd f
-  last_written g ReadFault out_old out_new err_old err_new f grown = absurd f
+  last_written g status out_old out_new err_old err_new f grown = record { line = last_line status; fits = last_fits g status out_old out_new f; grown = grown }
+
+  pub last_front : (g : Given) (status : Status) (out_old out_new err_old err_new : Option (List ℕ)) → Finishes g status out_old out_new → AppendsFront err_old err_new (last_line status) → WritesLineFront contents words old new status err_old err_new
+  last_front g status out_old out_new err_old err_new f grown = record { line = last_line status; fits = last_fits g status out_old out_new f; grown = grown }
 
 -- a stop whose line is told ends so
 pub ends_as : {A : Type 0} (stop : Stop) (status wanted : Status) (line : Result (Vec ℕ A) OutOfMemory) (so : Type 0) (err_old err_new : Option (List ℕ)) → wanted ≡ stop_status stop →
     IfOk line (λ l. l.items ≡ stop_line stop) → EndsWithLine status wanted line so err_old err_new → EndsAs stop status so err_old err_new
-ends_as stop status wanted (Ok line) so err_old err_new same is says = inl (record { same = says.same ∙ same; written = λ h. subst (λ (l : List ℕ). Appends err_old err_new l) is (says.written h) })
+ends_as stop status wanted (Ok line) so err_old err_new same is says = inl (record { same = says.same ∙ same; written = λ h. subst (λ (l : List ℕ). Appends err_old err_new l) is (says.written h); front = subst (AppendsFront err_old err_new) is says.front })
 ends_as stop status wanted (Err e) so err_old err_new same is says = inr says

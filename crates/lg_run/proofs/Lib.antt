@@ -3,6 +3,7 @@ pub mod OptionWords
 pub mod OneTask
 pub mod ClapWords
 pub mod Readings
+pub mod Asking
 pub mod Dictionaries
 pub mod Ends
 pub mod About

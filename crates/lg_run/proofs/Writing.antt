@@ -1,5 +1,5 @@
 -- What is written piece by piece: the pieces so far, and what is left.
-use Rattle.std.proofs.Common.{◌≡◌, ℕ, ◌+◌, List, [], ◌∷◌, ◌++◌, map, Option, length, take, refl, sym, ◌∙◌, ap, subst, append_assoc}
+use Rattle.std.proofs.Common.{◌≡◌, ℕ, ◌+◌, List, [], ◌∷◌, ◌++◌, map, Option, length, take, refl, sym, ◌∙◌, ap, subst, append_assoc, OnOk, OnErr}
 use Rattle.std.proofs.Common.{◌⊎◌, inl, inr, zero, suc}
 use Rattle.std.proofs.lemmas.List.{append-nil}
 use Rattle.std.proofs.lemmas.List.Concat.{flat_map-append}
@@ -103,3 +103,13 @@ next_session look session {more = more} {left = left} here answers last e f p q 
     let others = session_texts look (session + 1) (script_views more) left in
     (λ i. joined (session_texts look session (script_views ((e ∙ ap (λ (l : List Command). l ∷ more) (sym p)) i)) ((f ∙ ap (λ (l : List Reply). l ∷ left) (sym q)) i)) ++ last)
     ∙ ap (λ (l : List ℕ). l ++ last) (flat_map-append (λ (piece : List ℕ). piece) first others) ∙ append_assoc (joined first) (joined others) last
+
+-- what a sink took is a front part, also where it took all
+pub front_put : {T E : Type 0} (old new : Option (List ℕ)) (bytes : List ℕ) (r : Result T E) → OnOk r (Appends old new bytes) → OnErr r (AppendsFront old new bytes) → AppendsFront old new bytes
+front_put old new bytes (Ok x) whole front = written_so_far (written_more new bytes [] (written_none old bytes) (sym (append-nil bytes)) whole)
+front_put old new bytes (Err e) whole front = front
+
+-- and all of it where no fault rose
+pub whole_put : {T E : Type 0} (Whole Fault : Type 0) (r : Result T E) → OnOk r Whole → OnErr r Fault → (Fault → ⊥) → Whole
+whole_put Whole Fault (Ok x) whole failed calm = whole
+whole_put Whole Fault (Err e) whole failed calm = absurd (calm failed)

@@ -123,6 +123,12 @@ pub record WritesLine (contents : Option Contents) (words asked_old asked_new : 
   pub fits : HasLine contents words asked_old asked_new status line
   pub grown : Appends old new line
 
+-- a front part of the line of the status was written, and nothing else
+pub record WritesLineFront (contents : Option Contents) (words asked_old asked_new : List (List ℕ)) (status : Status) (old new : Option (List ℕ)) : Type 0 where
+  pub line : List ℕ
+  pub fits : HasLine contents words asked_old asked_new status line
+  pub grown : AppendsFront old new line
+
 -- how a command ends that has its inputs in hand
 abbrev pub Finishes : Given → Status → Option (List ℕ) → Option (List ℕ) → Type 0
 Finishes given Done old new = (document : List ℕ) × IsDocument given document × Appends old new document

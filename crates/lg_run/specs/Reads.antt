@@ -21,6 +21,11 @@ use Rattle.lg_run.specs.declared.stop.Stop.TheVariants.{Memory, Unreadable, TooL
 abbrev pub AsksInOrder : {A : Type 0} → Reading A → List (List ℕ) → List (List ℕ) → Type 0
 AsksInOrder {A} reading old new = (names : List (List ℕ)) (found : Found A) → reading names found → AsksWithin old new names
 
+-- the names that were asked before stand in front still
+pub record AsksMore (old new : List (List ℕ)) : Type 0 where
+  pub names : List (List ℕ)
+  pub grown : new ≡ old ++ names
+
 -- all that is read was asked, and this comes of it
 pub record Comes {A : Type 0} (reading : Reading A) (old new : List (List ℕ)) (found : Found A) : Type 0 where
   pub names : List (List ℕ)

@@ -3,6 +3,7 @@ use Rattle.std.specs.Prelude.{◌≡◌, ◌⊎◌, ℕ, List, Vec, Result, Ok, 
 use Rattle.lg_base.specs.declared.memory.NoMemory.{NoMemory as OutOfMemory}
 use Rattle.std.specs.declared.option.Option.{Option}
 use Rattle.std.specs.Io.KnownBytes.{Appends}
+use Rattle.lg_base.specs.Sinks.{AppendsFront}
 use Rattle.lg_dictread.specs.declared.dict_error.DictError.{DictError}
 use Rattle.lg_dictread.specs.declared.dict_error.DictError.TheVariants as errors
 use Rattle.lg_dictread.specs.declared.dict_error.WordFileError.TheVariants as causes
@@ -52,10 +53,11 @@ stop_line (TooManyEdits name) = edits_line name.now
 stop_line (TooFewVersions name count) = versions_line name.now count
 stop_line (Quoted name word) = quote_line name.now word
 
--- the status and, where this is so, the line that was written
+-- the status with its line, of which a front part was written, and where this is so all of it
 pub record SaysOf (status wanted : Status) (so : Type 0) (old new : Option (List ℕ)) (line : List ℕ) : Type 0 where
   pub same : status ≡ wanted
   pub written : so → Appends old new line
+  pub front : AppendsFront old new line
 
 -- the status with its line, where there is memory for the line
 abbrev pub EndsWithLine : {A : Type 0} → Status → Status → Result (Vec ℕ A) OutOfMemory → Type 0 → Option (List ℕ) → Option (List ℕ) → Type 0

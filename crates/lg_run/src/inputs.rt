@@ -6,7 +6,7 @@ ghost use Rattle.lg_script.specs.Commands.{script_views};
 ghost use Rattle.lg_run.specs.Commands.{task};
 ghost use Rattle.lg_run.specs.Words.{One, Run, Export, IsShort, AreInRange, SENTENCE, SCRIPTS};
 ghost use Rattle.lg_run.specs.Inputs.{FileIs, DictionaryReads, DictionaryInput, ExportReads, KnowledgeGiven, ScriptsGiven, VersionGiven, InputsAre};
-ghost use Rattle.lg_run.specs.Reads.{AsksInOrder, Tells, HasCause, IsAbout, IsNoFault, given_in};
+ghost use Rattle.lg_run.specs.Reads.{AsksInOrder, AsksMore, Tells, HasCause, IsAbout, IsNoFault, given_in};
 ghost use Rattle.lg_run.specs.Answers.{names_of, IsGivenInBounds};
 
 use crate::command::Command;
@@ -50,6 +50,8 @@ pub enum Inputs<'a> {
 }
 
 /// Reads the inputs of a command that has this setup.
+///
+/// After an error the files have their contents still; the names asked and the count of faults may have grown.
 pub fn read_inputs<'a, F: Files>(
     alloc: Global,
     files: &mut F,
@@ -58,6 +60,8 @@ pub fn read_inputs<'a, F: Files>(
 ) -> Result<Inputs<'a>, Stop<'a>>
     requires short { IsShort (task setup command) }
     requires range { AreInRange setup }
+    ensures unchanged { F.contents files.new ≡ F.contents files.old }
+    ensures asks { AsksMore (F.asked files.old) (F.asked files.new) }
     ensures names { IfSome (F.contents files.old) (λ known. AsksInOrder (InputsAre known (task setup command.entry)) (F.asked files.old) (F.asked files.new)) }
     ensures told { IfSome (F.contents files.old) (λ known. Tells given_in (InputsAre known (task setup command.entry)) (F.asked files.old) (F.asked files.new) result) }
     ensures bounds { IfOk result (λ inputs. IsGivenInBounds (given_in inputs)) }
@@ -103,6 +107,8 @@ fn inputs_of_one<'a, F: Files>(
 ) -> Result<Inputs<'a>, Stop<'a>>
     requires range { AreInRange setup }
     requires short { length sentence.now ≤ SENTENCE }
+    ensures unchanged { F.contents files.new ≡ F.contents files.old }
+    ensures asks { AsksMore (F.asked files.old) (F.asked files.new) }
     ensures names { IfSome (F.contents files.old) (λ known. AsksInOrder (InputsAre known (One setup dictionary.now sentence.now)) (F.asked files.old) (F.asked files.new)) }
     ensures told { IfSome (F.contents files.old) (λ known. Tells given_in (InputsAre known (One setup dictionary.now sentence.now)) (F.asked files.old) (F.asked files.new) result) }
     ensures bounds { IfOk result (λ inputs. IsGivenInBounds (given_in inputs)) }
@@ -131,6 +137,8 @@ fn inputs_of_run<'a, F: Files>(
 ) -> Result<Inputs<'a>, Stop<'a>>
     requires range { AreInRange setup }
     requires scripts { (1 ≤ length scripts.now) × (length scripts.now ≤ SCRIPTS) }
+    ensures unchanged { F.contents files.new ≡ F.contents files.old }
+    ensures asks { AsksMore (F.asked files.old) (F.asked files.new) }
     ensures names { IfSome (F.contents files.old) (λ known. AsksInOrder (InputsAre known (Run setup dictionary.now knowledge.now (map string_bytes scripts.now))) (F.asked files.old) (F.asked files.new)) }
     ensures told { IfSome (F.contents files.old) (λ known. Tells given_in (InputsAre known (Run setup dictionary.now knowledge.now (map string_bytes scripts.now))) (F.asked files.old) (F.asked files.new) result) }
     ensures bounds { IfOk result (λ inputs. IsGivenInBounds (given_in inputs)) }
@@ -155,6 +163,8 @@ fn after_dictionary<'a, F: Files>(
 ) -> Result<Inputs<'a>, Stop<'a>>
     requires range { AreInRange setup }
     requires scripts { (1 ≤ length scripts.now) × (length scripts.now ≤ SCRIPTS) }
+    ensures unchanged { F.contents files.new ≡ F.contents files.old }
+    ensures asks { AsksMore (F.asked files.old) (F.asked files.new) }
     ensures names { IfSome (F.contents files.old) (λ known. AsksInOrder (KnowledgeGiven known setup dict knowledge.now (map string_bytes scripts.now)) (F.asked files.old) (F.asked files.new)) }
     ensures told { IfSome (F.contents files.old) (λ known. Tells given_in (KnowledgeGiven known setup dict knowledge.now (map string_bytes scripts.now)) (F.asked files.old) (F.asked files.new) result) }
     ensures bounds { IfOk result (λ inputs. IsGivenInBounds (given_in inputs)) }
@@ -180,6 +190,8 @@ fn after_knowledge<'a, F: Files>(
     requires range { AreInRange setup }
     requires few { length know.rules < 2 ^ 32 }
     requires scripts { (1 ≤ length scripts.now) × (length scripts.now ≤ SCRIPTS) }
+    ensures unchanged { F.contents files.new ≡ F.contents files.old }
+    ensures asks { AsksMore (F.asked files.old) (F.asked files.new) }
     ensures names { IfSome (F.contents files.old) (λ known. AsksInOrder (ScriptsGiven known setup dict know (map string_bytes scripts.now)) (F.asked files.old) (F.asked files.new)) }
     ensures told { IfSome (F.contents files.old) (λ known. Tells given_in (ScriptsGiven known setup dict know (map string_bytes scripts.now)) (F.asked files.old) (F.asked files.new) result) }
     ensures bounds { IfOk result (λ inputs. IsGivenInBounds (given_in inputs)) }
@@ -206,6 +218,8 @@ fn inputs_of_export<'a, F: Files>(
     script: &'a String,
     number: u32,
 ) -> Result<Inputs<'a>, Stop<'a>>
+    ensures unchanged { F.contents files.new ≡ F.contents files.old }
+    ensures asks { AsksMore (F.asked files.old) (F.asked files.new) }
     ensures names { IfSome (F.contents files.old) (λ known. AsksInOrder (InputsAre known (Export dictionary.now (string_bytes script.now) number)) (F.asked files.old) (F.asked files.new)) }
     ensures told { IfSome (F.contents files.old) (λ known. Tells given_in (InputsAre known (Export dictionary.now (string_bytes script.now) number)) (F.asked files.old) (F.asked files.new) result) }
     ensures bounds { IfOk result (λ inputs. IsGivenInBounds (given_in inputs)) }
@@ -228,6 +242,8 @@ fn version_of<'a, F: Files>(
     script: &'a String,
     number: u32,
 ) -> Result<Inputs<'a>, Stop<'a>>
+    ensures unchanged { F.contents files.new ≡ F.contents files.old }
+    ensures asks { AsksMore (F.asked files.old) (F.asked files.new) }
     ensures names { IfSome (F.contents files.old) (λ known. AsksInOrder (VersionGiven known dictionary.now (string_bytes script.now) number dict.now) (F.asked files.old) (F.asked files.new)) }
     ensures told { IfSome (F.contents files.old) (λ known. Tells given_in (VersionGiven known dictionary.now (string_bytes script.now) number dict.now) (F.asked files.old) (F.asked files.new) result) }
     ensures bounds { IfOk result (λ inputs. IsGivenInBounds (given_in inputs)) }
@@ -270,6 +286,7 @@ fn read_dictionary<'a, F: Files>(
     name: &'a str,
 ) -> Result<Dict, Stop<'a>>
     ensures unchanged { F.contents files.new ≡ F.contents files.old }
+    ensures asks { AsksMore (F.asked files.old) (F.asked files.new) }
     ensures names { IfSome (F.contents files.old) (λ known. AsksInOrder (DictionaryInput known name.now) (F.asked files.old) (F.asked files.new)) }
     ensures told { IfSome (F.contents files.old) (λ known. Tells (λ d. d) (DictionaryInput known name.now) (F.asked files.old) (F.asked files.new) result) }
     ensures cause { HasCause (F.asked files.new) (F.faults files.old) (F.faults files.new) result }
@@ -288,6 +305,7 @@ pub(crate) fn read_file<'a, F: Files>(
     name: &'a str,
 ) -> Result<Vec<u8>, Stop<'a>>
     ensures unchanged { F.contents files.new ≡ F.contents files.old }
+    ensures asks { AsksMore (F.asked files.old) (F.asked files.new) }
     ensures names { IfSome (F.contents files.old) (λ known. AsksInOrder (FileIs known name.now) (F.asked files.old) (F.asked files.new)) }
     ensures told { IfSome (F.contents files.old) (λ known. Tells (λ bytes. bytes.items) (FileIs known name.now) (F.asked files.old) (F.asked files.new) result) }
     ensures limited { IfOk result (λ bytes. length bytes.items ≤ FILE) }
@@ -310,6 +328,7 @@ fn take_apart<'a, F: Files>(
     bytes: &[u8],
 ) -> Result<Dict, Stop<'a>>
     ensures unchanged { F.contents files.new ≡ F.contents files.old }
+    ensures asks { AsksMore (F.asked files.old) (F.asked files.new) }
     ensures names { IfSome (F.contents files.old) (λ known. AsksInOrder (DictionaryReads known name.now bytes.now) (F.asked files.old) (F.asked files.new)) }
     ensures told { IfSome (F.contents files.old) (λ known. Tells (λ d. d) (DictionaryReads known name.now bytes.now) (F.asked files.old) (F.asked files.new) result) }
     ensures cause { HasCause (F.asked files.new) (F.faults files.old) (F.faults files.new) result }

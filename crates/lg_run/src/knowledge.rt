@@ -2,7 +2,7 @@
 ghost use Rattle.std.specs.Prelude.{◌≡◌, ◌≤◌, ◌<◌, ◌^◌, ℕ, List, length, IfSome, IfOk, IfErr, [], ◌∷◌};
 ghost use Rattle.lg_dictread.specs.Limits.{FILE};
 ghost use Rattle.lg_run.specs.Inputs.{KnowledgeReads, KnowledgeInput};
-ghost use Rattle.lg_run.specs.Reads.{AsksInOrder, Tells, HasCause, IsAbout, IsNoFault};
+ghost use Rattle.lg_run.specs.Reads.{AsksInOrder, AsksMore, Tells, HasCause, IsAbout, IsNoFault};
 
 use crate::inputs::read_file;
 use crate::stop::Stop;
@@ -17,6 +17,7 @@ pub(crate) fn read_know<'a, F: Files>(
     name: &'a str,
 ) -> Result<Knowledge, Stop<'a>>
     ensures unchanged { F.contents files.new ≡ F.contents files.old }
+    ensures asks { AsksMore (F.asked files.old) (F.asked files.new) }
     ensures names { IfSome (F.contents files.old) (λ known. AsksInOrder (KnowledgeInput known name.now) (F.asked files.old) (F.asked files.new)) }
     ensures told { IfSome (F.contents files.old) (λ known. Tells (λ know. know) (KnowledgeInput known name.now) (F.asked files.old) (F.asked files.new) result) }
     ensures few { IfOk result (λ know. length know.rules < 2 ^ 32) }

@@ -7,7 +7,7 @@ ghost use Rattle.lg_script.specs.EditNumbers.{edit_counts};
 ghost use Rattle.lg_script.specs.Codes.{AreScripts};
 ghost use Rattle.lg_run.specs.Words.{SCRIPTS};
 ghost use Rattle.lg_run.specs.Inputs.{Followed, ScriptReads, ScriptInput, ScriptsInput, EditsRead, EDITS};
-ghost use Rattle.lg_run.specs.Reads.{AsksInOrder, Tells, HasCause, IsAbout, IsNoFault};
+ghost use Rattle.lg_run.specs.Reads.{AsksInOrder, AsksMore, Tells, HasCause, IsAbout, IsNoFault};
 
 use crate::inputs::read_file;
 use crate::stop::Stop;
@@ -26,6 +26,8 @@ pub(crate) fn read_scripts<'a, F: Files>(
 ) -> Result<Scripts, Stop<'a>>
     requires some { 1 ≤ length names.now }
     requires few { length names.now ≤ SCRIPTS }
+    ensures unchanged { F.contents files.new ≡ F.contents files.old }
+    ensures asks { AsksMore (F.asked files.old) (F.asked files.new) }
     ensures names { IfSome (F.contents files.old) (λ known. AsksInOrder (Followed (ScriptsInput known (map string_bytes names.now)) (EditsRead (map string_bytes names.now))) (F.asked files.old) (F.asked files.new)) }
     ensures told { IfSome (F.contents files.old) (λ known. Tells script_views (Followed (ScriptsInput known (map string_bytes names.now)) (EditsRead (map string_bytes names.now))) (F.asked files.old) (F.asked files.new) result) }
     ensures bounds { IfOk result (λ scripts. AreScripts (script_views scripts)) }
@@ -45,6 +47,8 @@ fn read_each<'a, F: Files>(
     files: &mut F,
     names: &'a [String],
 ) -> Result<Vec<Commands>, Stop<'a>>
+    ensures unchanged { F.contents files.new ≡ F.contents files.old }
+    ensures asks { AsksMore (F.asked files.old) (F.asked files.new) }
     ensures names { IfSome (F.contents files.old) (λ known. AsksInOrder (ScriptsInput known (map string_bytes names.now)) (F.asked files.old) (F.asked files.new)) }
     ensures told { IfSome (F.contents files.old) (λ known. Tells (λ scripts. script_views scripts.items) (ScriptsInput known (map string_bytes names.now)) (F.asked files.old) (F.asked files.new) result) }
     ensures each { IfOk result (λ scripts. (length scripts.items ≡ length names.now) × All AreInBounds (script_views scripts.items)) }
@@ -105,6 +109,7 @@ fn read_commands<'a, F: Files>(
     name: &'a str,
 ) -> Result<Commands, Stop<'a>>
     ensures unchanged { F.contents files.new ≡ F.contents files.old }
+    ensures asks { AsksMore (F.asked files.old) (F.asked files.new) }
     ensures names { IfSome (F.contents files.old) (λ known. AsksInOrder (ScriptInput known name.now) (F.asked files.old) (F.asked files.new)) }
     ensures told { IfSome (F.contents files.old) (λ known. Tells (λ commands. map command_view commands) (ScriptInput known name.now) (F.asked files.old) (F.asked files.new) result) }
     ensures bounds { IfOk result (λ commands. AreInBounds (map command_view commands)) }

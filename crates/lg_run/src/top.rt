@@ -2,14 +2,15 @@
 ghost use Rattle.std.specs.Prelude.{◌≡◌, ◌↔◌, ◌≤◌, ◌++◌, length, OnOk, map, string_bytes};
 ghost use Rattle.std.specs.Io.KnownBytes.{Appends};
 ghost use Rattle.lg_base.specs.Faults.{Rose};
-ghost use Rattle.lg_base.specs.Sinks.{HasWriteCause};
+ghost use Rattle.lg_base.specs.Sinks.{AppendsFront, HasWriteCause};
 ghost use Rattle.lg_script.specs.Commands.{script_views};
 ghost use Rattle.lg_run.specs.Words.{SENTENCE, AreInRange};
 ghost use Rattle.lg_run.specs.Inputs.{OneGiven, RunGiven};
-ghost use Rattle.lg_run.specs.Reads.{AsksInOrder, given_in};
+ghost use Rattle.lg_run.specs.Lines.{line_about};
+ghost use Rattle.lg_run.specs.Reads.{AsksInOrder, AsksMore, given_in};
 ghost use Rattle.lg_run.specs.Written.{HasHaltCause};
-ghost use Rattle.lg_run.specs.Stops.{dict_status, know_status, script_status, EndsAs, EndsWithLine};
-ghost use Rattle.lg_run.specs.Answers.{WhereTold, IsNoTask, Unwritten, Caused, Told, AnswersRefused, AnswersAccepted, WritesLine, Finishes, Documents, last_line, IsStopped, IsGivenInBounds};
+ghost use Rattle.lg_run.specs.Stops.{dict_status, know_status, script_status, SaysOf, EndsAs, EndsWithLine};
+ghost use Rattle.lg_run.specs.Answers.{WhereTold, IsNoTask, Unwritten, Caused, Told, AnswersRefused, AnswersAccepted, WritesLine, WritesLineFront, Finishes, Documents, last_line, IsStopped, IsGivenInBounds};
 
 use crate::command::command_of;
 use crate::inputs::{Inputs, read_inputs};
@@ -38,6 +39,9 @@ use std::thread::Threads;
 ///
 /// `words` is the command line without the program's name. The gate is called before each command of each session; it is no matter
 /// of what is written.
+///
+/// However it ends, the files have their contents still; the names asked and the counts of faults may have grown, and each sink
+/// may have got a front part of what was to be written.
 pub fn run<R: Threads + Sync, F: Files, O: Sink, E: Sink, G: Gate>(
     rt: &R,
     alloc: Global,
@@ -70,6 +74,15 @@ pub fn run<R: Threads + Sync, F: Files, O: Sink, E: Sink, G: Gate>(
     // Each status has its line.
     ensures line { ¬ Rose (E.faults err.old) (E.faults err.new) →
         WritesLine (F.contents files.old) (map string_bytes words.now) (F.asked files.old) (F.asked files.new) result (E.written err.old) (E.written err.new) }
+
+    // However it ends: the files have their contents still, the names asked only grow, no count of faults falls, and a front
+    // part of the line was written.
+    ensures unchanged { F.contents files.new ≡ F.contents files.old }
+    ensures asks { AsksMore (F.asked files.old) (F.asked files.new) }
+    ensures file_faults { F.faults files.old ≤ F.faults files.new }
+    ensures out_faults { O.faults out.old ≤ O.faults out.new }
+    ensures err_faults { E.faults err.old ≤ E.faults err.new }
+    ensures line_front { WritesLineFront (F.contents files.old) (map string_bytes words.now) (F.asked files.old) (F.asked files.new) result (E.written err.old) (E.written err.new) }
 {
     inputs_have_one_verdict();
     words_have_one_task();
@@ -99,6 +112,9 @@ fn finish<R: Threads + Sync, O: Sink, E: Sink, G: Gate>(
     ensures caused { result ≡ Status.WriteFault → Rose (O.faults out.old) (O.faults out.new) }
     ensures line { ¬ Rose (E.faults err.old) (E.faults err.new) →
         Appends (E.written err.old) (E.written err.new) (last_line result) }
+    ensures line_front { AppendsFront (E.written err.old) (E.written err.new) (last_line result) }
+    ensures out_faults { O.faults out.old ≤ O.faults out.new }
+    ensures err_faults { E.faults err.old ≤ E.faults err.new }
 {
     match write_document(rt, alloc, inputs, out, gate) {
         Ok(()) => Status::Done,
@@ -196,6 +212,8 @@ fn fail<E: Sink>(err: &mut E, status: Status, line: &[u8]) -> Status
     ensures status { result ≡ status }
     ensures line { ¬ Rose (E.faults err.old) (E.faults err.new) →
         Appends (E.written err.old) (E.written err.new) line.now }
+    ensures front { AppendsFront (E.written err.old) (E.written err.new) line.now }
+    ensures err_faults { E.faults err.old ≤ E.faults err.new }
 {
     let _ = err.put(line);
     status
@@ -206,16 +224,22 @@ fn fail<E: Sink>(err: &mut E, status: Status, line: &[u8]) -> Status
 fn refuse<E: Sink>(alloc: Global, err: &mut E, stop: Stop<'_>) -> Status
     ensures stopped { IsStopped result }
     ensures line { EndsAs stop.entry result (¬ Rose (E.faults err.old) (E.faults err.new)) (E.written err.old) (E.written err.new) }
+    ensures err_faults { E.faults err.old ≤ E.faults err.new }
 {
     match stop {
         Stop::Memory => fail(err, Status::NoMemory, MEMORY),
         Stop::Unreadable(name) => {
-            let _ = put_line(err, b"lgparse: cannot read ", name, b"\n");
-            Status::ReadFault
+            fail_about(
+                err,
+                Status::ReadFault,
+                b"lgparse: cannot read ",
+                name,
+                b"\n",
+            )
         }
         Stop::TooLong(name) => {
-            let _ = put_line(err, b"lgparse: ", name, b" is longer than 67108864 bytes\n");
-            Status::BadInput
+            let back = b" is longer than 67108864 bytes\n";
+            fail_about(err, Status::BadInput, b"lgparse: ", name, back)
         }
         Stop::Dictionary(name, error) => {
             let line = dict_line(alloc, name.as_bytes(), &error);
@@ -244,9 +268,19 @@ fn refuse<E: Sink>(alloc: Global, err: &mut E, stop: Stop<'_>) -> Status
     }
 }
 
+// The status, after a line about the file of this name as far as the sink takes it.
+fn fail_about<E: Sink>(err: &mut E, status: Status, front: &[u8], name: &str, back: &[u8]) -> Status
+    ensures line { SaysOf result status (¬ Rose (E.faults err.old) (E.faults err.new)) (E.written err.old) (E.written err.new) (line_about front.now name.now back.now) }
+    ensures err_faults { E.faults err.old ≤ E.faults err.new }
+{
+    let _ = put_line(err, front, name, back);
+    status
+}
+
 // The status, after its line as far as the sink takes it. Where there is no memory for the line, memory ran out.
 fn fail_with<E: Sink>(err: &mut E, status: Status, line: Result<Vec<u8>, NoMemory>) -> Status
-    ensures { EndsWithLine result status line (¬ Rose (E.faults err.old) (E.faults err.new)) (E.written err.old) (E.written err.new) }
+    ensures line { EndsWithLine result status line (¬ Rose (E.faults err.old) (E.faults err.new)) (E.written err.old) (E.written err.new) }
+    ensures err_faults { E.faults err.old ≤ E.faults err.new }
 {
     match line {
         Ok(line) => fail(err, status, &line),
@@ -287,6 +321,7 @@ fn dict_status(error: &DictError) -> Status
 
 fn put_line<E: Sink>(err: &mut E, front: &[u8], name: &str, back: &[u8]) -> Result<(), SinkFault>
     ensures whole { OnOk result (Appends (E.written err.old) (E.written err.new) (front.now ++ (name.now ++ back.now))) }
+    ensures front { AppendsFront (E.written err.old) (E.written err.new) (front.now ++ (name.now ++ back.now)) }
     ensures cause { HasWriteCause (E.faults err.old) (E.faults err.new) result }
 {
     err.put(front)?;

@@ -7,6 +7,7 @@ use Rattle.lg_run.specs.Stops.{stop_status, stop_line}
 use Rattle.lg_run.proofs.Readings.{known_both, asks_first, asks_next, stops_first, tells_next}
 use Rattle.lg_run.proofs.Verdicts.{one_knowledge}
 use Rattle.lg_run.proofs.About.{about_first, about_later}
+use Rattle.lg_run.proofs.Asking.{asks_then}
 use Rattle.lg_run.proofs.inputs.after_dictionary.Goals as goal
 
 -- the first file, and then the others
@@ -47,3 +48,7 @@ returns-in-Ok-clause-about g c = about_later c.args.knowledge.now (map string_by
 
 pub returns-in-Err-clause-about : goal.returns-in-Err-clause-about
 returns-in-Err-clause-about g c = about_first c.args.knowledge.now (map string_bytes c.args.scripts.now) (g.F.Files.asked c.read_know.new.files) c.in-Err.stop c.in-Err.ensures.about
+
+-- the names of the first, and then of the others
+pub returns-in-Ok-clause-asks : goal.returns-in-Ok-clause-asks
+returns-in-Ok-clause-asks g c = asks_then (g.F.Files.asked c.args.files.now) (g.F.Files.asked c.read_know.new.files) (g.F.Files.asked c.after_knowledge.new.files) c.read_know.ensures.asks c.after_knowledge.ensures.asks

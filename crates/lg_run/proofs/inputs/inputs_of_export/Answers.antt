@@ -7,6 +7,7 @@ use Rattle.lg_run.specs.Stops.{stop_status, stop_line}
 use Rattle.lg_run.proofs.Readings.{known_both, asks_first, asks_next, stops_first, tells_next}
 use Rattle.lg_run.proofs.Dictionaries.{one_dictionary}
 use Rattle.lg_run.proofs.About.{about_first}
+use Rattle.lg_run.proofs.Asking.{asks_then}
 use Rattle.lg_run.proofs.inputs.inputs_of_export.Goals as goal
 
 -- the dictionary, and then the script
@@ -48,3 +49,7 @@ returns-in-Err-clause-told g c =
 
 pub returns-in-Err-clause-about : goal.returns-in-Err-clause-about
 returns-in-Err-clause-about g c = about_first c.args.dictionary.now (string_bytes c.args.script.now ∷ []) (g.F.Files.asked c.read_dictionary.new.files) c.in-Err.stop c.in-Err.ensures.about
+
+-- the names of the first, and then of the others
+pub returns-in-Ok-clause-asks : goal.returns-in-Ok-clause-asks
+returns-in-Ok-clause-asks g c = asks_then (g.F.Files.asked c.args.files.now) (g.F.Files.asked c.read_dictionary.new.files) (g.F.Files.asked c.version_of.new.files) c.read_dictionary.ensures.asks c.version_of.ensures.asks

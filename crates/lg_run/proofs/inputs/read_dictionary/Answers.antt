@@ -6,6 +6,7 @@ use Rattle.lg_run.specs.Reads.{AsksInOrder, Tells}
 use Rattle.lg_run.specs.Stops.{stop_status, stop_line}
 use Rattle.lg_run.proofs.Readings.{known_both, asks_first, asks_next, stops_first, tells_next}
 use Rattle.lg_run.proofs.Dictionaries.{one_file}
+use Rattle.lg_run.proofs.Asking.{asks_then}
 use Rattle.lg_run.proofs.inputs.read_dictionary.Goals as goal
 
 -- the file, and then its text
@@ -41,3 +42,7 @@ pub returns-in-Err-clause-told : goal.returns-in-Err-clause-told
 returns-in-Err-clause-told g c =
     IfSome_then (g.F.Files.contents c.args.files.now) c.in-Err.ensures.told
     (λ k h. stops_first (FileIs k c.args.name.now) (DictionaryReads k c.args.name.now) (g.F.Files.asked c.args.files.now) (g.F.Files.asked c.read_file.new.files) (stop_status c.in-Err.stop) (stop_line c.in-Err.stop) h)
+
+-- the names of the first, and then of the others
+pub returns-in-Ok-clause-asks : goal.returns-in-Ok-clause-asks
+returns-in-Ok-clause-asks g c = asks_then (g.F.Files.asked c.args.files.now) (g.F.Files.asked c.read_file.new.files) (g.F.Files.asked c.take_apart.new.files) c.read_file.ensures.asks c.take_apart.ensures.asks

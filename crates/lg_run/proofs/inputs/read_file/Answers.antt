@@ -29,3 +29,13 @@ returns-in-Err-TooLong-clause-told g c =
 
 pub returns-in-Err-TooLong-clause-about : goal.returns-in-Err-TooLong-clause-about
 returns-in-Err-TooLong-clause-about g c = first_name c.args.name.now []
+
+-- one name, or none where memory ran out
+pub returns-in-Ok-clause-asks : goal.returns-in-Ok-clause-asks
+returns-in-Ok-clause-asks g c = record { names = c.args.name.now ∷ []; grown = c.in-Ok.ensures.asked }
+
+pub returns-in-Err-Failed-clause-asks : goal.returns-in-Err-Failed-clause-asks
+returns-in-Err-Failed-clause-asks g c = record { names = c.args.name.now ∷ []; grown = rw c.in-Err-Failed.field-0-is at c.in-Err-Failed.ensures.asked }
+
+pub returns-in-Err-TooLong-clause-asks : goal.returns-in-Err-TooLong-clause-asks
+returns-in-Err-TooLong-clause-asks g c = record { names = c.args.name.now ∷ []; grown = rw c.in-Err-TooLong.field-0-is at c.in-Err-TooLong.ensures.asked }

@@ -1,11 +1,13 @@
 use Rattle.std.proofs.Common.{map, sym, ◌∙◌, subst, []}
 use Rattle.std.proofs.lemmas.Option.{IfSome_then}
 use Rattle.lg_dict.specs.Dictionary.{Dictionary}
+use Rattle.lg_dictread.specs.Findings.{names_of}
 use Rattle.lg_dictread.specs.Texts.{stands}
 use Rattle.lg_dictread.specs.DictTexts.{entry_meaning}
 use Rattle.lg_run.specs.Inputs.{accepted, DictionaryReads, reads}
 use Rattle.lg_run.proofs.Dictionaries.{same_dictionary, asks_text, told_error, told_value}
 use Rattle.lg_run.proofs.About.{first_name, of_last}
+use Rattle.lg_run.proofs.Asking.{asks_till_error}
 use Rattle.lg_run.proofs.inputs.take_apart.Goals as goal
 
 -- no more was asked than the format reads
@@ -42,3 +44,13 @@ returns-in-Err-clause-told g c =
 
 pub returns-in-Err-clause-about : goal.returns-in-Err-clause-about
 returns-in-Err-clause-about g c = (first_name c.args.name.now [], of_last _ _ _ c.in-Err.error c.in-Err.ensures.cause.error)
+
+-- the names only grow
+pub returns-in-Ok-of-clause-asks : goal.returns-in-Ok-of-clause-asks
+returns-in-Ok-of-clause-asks g c = record { names = names_of c.in-Ok.ensures.value.asked; grown = c.in-Ok.ensures.value.names }
+
+pub returns-in-Err-of-clause-asks : goal.returns-in-Err-of-clause-asks
+returns-in-Err-of-clause-asks g c = record { names = names_of c.in-Ok.ensures.value.asked; grown = c.in-Ok.ensures.value.names }
+
+pub returns-in-Err-clause-asks : goal.returns-in-Err-clause-asks
+returns-in-Err-clause-asks g c = asks_till_error (g.F.Files.contents c.args.files.now) _ _ (g.F.Files.asked c.args.files.now) (g.F.Files.asked c.read_dict.new.files) c.in-Err.error c.in-Err.ensures.fault

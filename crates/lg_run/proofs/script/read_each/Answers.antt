@@ -6,6 +6,7 @@ use Rattle.lg_script.specs.Commands.{command_view, script_views}
 use Rattle.lg_run.specs.Inputs.{ScriptInput, accepted}
 use Rattle.lg_run.specs.Reads.{AsksInOrder, Comes, TellsStop}
 use Rattle.lg_run.specs.Stops.{stop_status, stop_line}
+use Rattle.lg_run.proofs.Asking.{asks_then}
 use Rattle.lg_run.proofs.Readings.{known_both}
 use Rattle.lg_run.proofs.ScriptLists.{ComesOn, comes_on, comes_to_stop, comes_to_end, asks_one, asks_so_far, next_name, is_one_name, each_more}
 use Rattle.lg_run.proofs.About.{about_one}
@@ -28,6 +29,7 @@ loop-name-preserved g c =
     let all : script_views c.push.new.self.items ≡ done ++ commands ∷ [] = ap script_views c.in-Ok-push.ensures.items ∙ map-append (map command_view) c.loop-name.scripts.items (c.in-Ok.commands ∷ []) in
     record {
       same = c.in-Ok.ensures.unchanged ∙ w.same;
+      asks = asks_then old now next w.asks c.in-Ok.ensures.asks;
       on = rw all (known_both known w.on told (λ k on h. comes_on k names done old now next name _ commands (subst (λ (l : List (List ℕ)). ComesOn k names done l old now) left on) h));
       number = omega (arith, w.number, ap length c.in-Ok-push.ensures.items, length-append c.loop-name.scripts.items (c.in-Ok.commands ∷ []));
       each = rw all (each_more done commands w.each c.in-Ok.ensures.bounds);

@@ -7,7 +7,7 @@ use Rattle.lg_run.specs.Inputs.{InputsAre}
 use Rattle.lg_run.specs.Reads.{AsksInOrder, given_in, TellsStop}
 use Rattle.lg_run.specs.Stops.{stop_status, stop_line}
 use Rattle.lg_run.specs.Answers.{Told, AnswersRefused, AnswersAccepted}
-use Rattle.lg_run.proofs.Ends.{told_read, about_read, range_read, finished, told_stop, caused_so, unwritten_so, answers_refused, answers_accepted, stop_written, last_written}
+use Rattle.lg_run.proofs.Ends.{told_read, about_read, range_read, finished, told_stop, caused_so, unwritten_so, answers_refused, answers_accepted, stop_written, stop_front, last_written, last_front}
 use Rattle.lg_run.proofs.top.run.Goals as goal
 
 -- the options are those of the command
@@ -100,6 +100,23 @@ returns-in-Err-clause-line g c =
     let new = g.F.Files.asked c.read_inputs.new.files in
     let stop = c.in-Err.stop in
     stop_written (g.F.Files.contents c.args.files.now) _ old new (g.F.Files.faults c.args.files.now) (g.F.Files.faults c.read_inputs.new.files) stop c.refuse.result _ (g.E.Sink.written c.args.err.now) (g.E.Sink.written c.refuse.new.err)
+    c.refuse.ensures.stopped c.refuse.ensures.line c.in-Err.ensures.cause.fault
+    (about_read _ _ _ _ c.in-Some.ensures c.options.ensures c.in-Ok.ensures c.words_have_one_task.ensures new stop c.in-Err.ensures.about)
+    (told_read _ _ _ _ c.in-Some.ensures c.options.ensures c.in-Ok.ensures c.words_have_one_task.ensures (g.F.Files.contents c.args.files.now) (λ inputs. TellsStop inputs old new (stop_status stop) (stop_line stop)) c.in-Err.ensures.told)
+
+-- a front part of the line
+pub returns-in-Ok-read_inputs-clause-line_front : goal.returns-in-Ok-read_inputs-clause-line_front
+returns-in-Ok-read_inputs-clause-line_front g c =
+    last_front (g.F.Files.contents c.args.files.now) _ (g.F.Files.asked c.args.files.now) (g.F.Files.asked c.read_inputs.new.files) (g.F.Files.faults c.args.files.now) (g.F.Files.faults c.read_inputs.new.files)
+    (given_in c.in-Ok-read_inputs.inputs) c.finish.result (g.O.Sink.written c.args.out.now) (g.O.Sink.written c.finish.new.out) (g.E.Sink.written c.args.err.now) (g.E.Sink.written c.finish.new.err)
+    c.finish.ensures.told c.finish.ensures.line_front
+
+pub returns-in-Err-clause-line_front : goal.returns-in-Err-clause-line_front
+returns-in-Err-clause-line_front g c =
+    let old = g.F.Files.asked c.args.files.now in
+    let new = g.F.Files.asked c.read_inputs.new.files in
+    let stop = c.in-Err.stop in
+    stop_front (g.F.Files.contents c.args.files.now) _ old new (g.F.Files.faults c.args.files.now) (g.F.Files.faults c.read_inputs.new.files) stop c.refuse.result _ (g.E.Sink.written c.args.err.now) (g.E.Sink.written c.refuse.new.err)
     c.refuse.ensures.stopped c.refuse.ensures.line c.in-Err.ensures.cause.fault
     (about_read _ _ _ _ c.in-Some.ensures c.options.ensures c.in-Ok.ensures c.words_have_one_task.ensures new stop c.in-Err.ensures.about)
     (told_read _ _ _ _ c.in-Some.ensures c.options.ensures c.in-Ok.ensures c.words_have_one_task.ensures (g.F.Files.contents c.args.files.now) (λ inputs. TellsStop inputs old new (stop_status stop) (stop_line stop)) c.in-Err.ensures.told)
