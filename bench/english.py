@@ -7,8 +7,9 @@ FOLDER has `en.dict`, a dictionary of this program's format; `lp`, the same dict
 files `sentences-N.txt` with a sentence of N words a line. The program is the one that `bin/lgparse --build` builds. For each file
 it prints, for each sentence, the numbers of disjuncts before and after pruning (by a run that counts them, which is not timed), and the
 processor milliseconds and the megabytes of both programs beyond those that they take for the dictionary alone; and then the medians. Each
-figure is the least of three runs, and that of the dictionary alone, which is taken from all others, the least of fifteen. A run ends after LIMIT seconds (60). With WORD, as `of`, that word is put into the middle of each
-sentence, so that most of them have a word that stays unlinked.
+figure is the least of three runs, and that of the dictionary alone, which is taken from all others, the least of fifteen. A run ends after LIMIT
+seconds (60). With WORD, as `of`, that word is put into the middle of each sentence, so that most of them have a word that stays unlinked. Behind the
+medians it prints how many millions of instructions the first sentence of the file takes without idioms and with them, by callgrind, with the dictionary.
 """
 import glob
 import os
@@ -83,6 +84,20 @@ def with_word(sentence, word):
     return " ".join(words[:len(words) // 2] + [word] + words[len(words) // 2:])
 
 
+def instructions(folder, sentence, idioms):
+    """Millions of instructions of a run, or nothing where callgrind is not there."""
+    if shutil.which("valgrind") is None:
+        return None
+    counted = ["valgrind", "--tool=callgrind", "--callgrind-out-file=/dev/null", PROGRAM]
+    run = subprocess.run([*counted, "one", "--idioms", idioms, "en.dict", sentence], cwd=folder, capture_output=True, text=True, check=True)
+    return int(re.search(r"Collected : (\d+)", run.stderr).group(1)) / 1e6
+
+
+def with_idioms(folder, sentence):
+    off, on = instructions(folder, sentence, "off"), instructions(folder, sentence, "on")
+    return "-" if off is None or on is None else f"{off:.0f} and {on:.0f} Minsn, {on / off:.2f} times"
+
+
 def main():
     folder, limit = os.path.abspath(sys.argv[1]), float(sys.argv[2]) if len(sys.argv) > 2 else 60.0
     word = sys.argv[3] if len(sys.argv) > 3 else None
@@ -90,7 +105,8 @@ def main():
     print("dictionary alone:   lgparse", shown(base[0] and base[0][:2]), "  link-parser", shown(base[1] and base[1][:2]))
     for path in sorted(glob.glob(f"{folder}/sentences-*.txt")):
         both = []
-        for sentence in open(path, encoding="utf-8").read().splitlines():
+        sentences = open(path, encoding="utf-8").read().splitlines()
+        for sentence in sentences:
             sentence = with_word(sentence, word) if word else sentence
             run = ours(folder, sentence, limit)
             counted = ours(folder, sentence, limit, "--stats", "on", runs=1)
@@ -99,6 +115,7 @@ def main():
             both.append((beyond(run, base[0]), beyond(theirs(folder, sentence, limit), base[1])))
             print(f"{len(sentence.split()):3d} words {counts[0]:>8} {counts[1]:>7}", shown(both[-1][0]), shown(both[-1][1]), flush=True)
         print("     medians              ", shown(middle([b[0] for b in both])), shown(middle([b[1] for b in both])), flush=True)
+        print("     without idioms and with", with_idioms(folder, sentences[0]), flush=True)
 
 
 main()

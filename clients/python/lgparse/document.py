@@ -17,8 +17,10 @@ LISTINGS = ("parse", "list", "more")
 _PLACE = re.compile(r"([1-9][0-9]*)\.([1-9][0-9]*)\Z")
 _NUMBER = re.compile(r"(?:0|[1-9][0-9]*)\Z")
 _COST = re.compile(r"-?(?:0|[1-9][0-9]*)\.[0-9]{3}\Z")
-_LABEL = re.compile(r"[A-Z]+[a-z*]*\Z")
-_SIDE = re.compile(r"-\Z|@?[A-Z]+[a-z*]*(?:,@?[A-Z]+[a-z*]*)*\Z")
+_JOINT = r"id[0-9]+\.[0-9]+\.[0-9]+"
+_LABEL = re.compile(rf"(?:[A-Z]+[a-z*]*|{_JOINT})\Z")
+_CONNECTOR = rf"(?:@?[A-Z]+[a-z*]*|{_JOINT})"
+_SIDE = re.compile(rf"-\Z|{_CONNECTOR}(?:,{_CONNECTOR})*\Z")
 
 
 def read(document: Union[bytes, BinaryIO, Iterable[bytes]]) -> Iterator[Answer]:

@@ -19,6 +19,15 @@ link 0 1 D 0 1
 page shown 1 examined 1 next 2 more
 """
 
+IDIOM = b"""linkage 1 unused 0 cost 0.000 length 2
+word 0 New New_York - id0.0.0 0.000
+word 1 York New_York id0.0.0 S 0.000
+word 2 ran ran S - 0.000
+link 0 1 id0.0.0 0 0
+link 1 2 S 0 0
+page shown 1 examined 1 next 2 end
+"""
+
 SESSIONS = b"""1.1 parse version 0
 stats disjuncts 6 kept 4
 fail 1 rule 2 link 0 3
@@ -96,6 +105,14 @@ class Answers(unittest.TestCase):
         self.assertEqual(linkage.words[1].left, ("@A", "D"))
         self.assertEqual([word.text for word in linkage.unlinked()], ["null"])
         self.assertEqual(linkage.links_of(1), list(linkage.links))
+
+    def test_joints_of_an_idiom(self):
+        (listing,) = lgparse.read(IDIOM)
+        linkage = listing.linkages[0]
+        self.assertEqual([link.label for link in linkage.links], ["id0.0.0", "S"])
+        self.assertEqual(linkage.words[1].left, ("id0.0.0",))
+        with self.assertRaises(DocumentError):
+            list(lgparse.read(IDIOM.replace(b"id0.0.0 0 0", b"id0.0 0 0")))
 
     def test_a_word_null_of_the_dictionary_is_linked(self):
         page = PAGE.replace(b"word 2 null null", b"word 2 null null - - 0.000").replace(b"unused 1", b"unused 0")

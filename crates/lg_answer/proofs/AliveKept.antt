@@ -12,7 +12,7 @@ use Rattle.lg_gram.specs.Trees.{Tree, Trees, empty, leaf, all_of, one_of, priced
 use Rattle.lg_gram.specs.declared.disjunct.Disjunct.{Disjunct}
 use Rattle.lg_eprune.specs.Live.{WordTree, HasConnector, SupportsItself, IsLiveChoice, Narrows, nothing, kept, dropped, AreNarrowed, AreOf}
 use Rattle.lg_pprune.specs.Alive.{IsAlive}
-use Rattle.lg_pprune.specs.Alive.{SupportsItself as KeepsItself}
+use Rattle.lg_pprune.specs.Alive.{KeepsItself}
 use Rattle.lg_answer.specs.Alive.{HasWordWith, KeepAlive}
 
 -- the connectors that a choice has on a side

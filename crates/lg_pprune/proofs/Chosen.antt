@@ -8,7 +8,7 @@ use Rattle.lg_gram.specs.Linkages.{Linkage}
 use Rattle.lg_gram.specs.Rules.{chosen_at, left_list, right_list, rights_of, lefts_of, HasLink, Rules, Good}
 use Rattle.lg_gram.specs.declared.disjunct.Disjunct.{Disjunct}
 use Rattle.lg_gram.specs.declared.linkage.Link.{Link}
-use Rattle.lg_pprune.specs.Alive.{ArePartners, SupportsItself, IsAlive, PruningKeepsLinkages}
+use Rattle.lg_pprune.specs.Alive.{ArePartners, KeepsItself, IsAlive, PruningKeepsLinkages}
 use Rattle.lg_member.proofs.Linked.{linked_at}
 use Rattle.lg_pprune.proofs.Elements.{get_in}
 
@@ -124,7 +124,7 @@ chosen_is g i d c =
 on_side : (side : Option Disjunct → List Connector) (g : Linkage) (i p : ℕ) (d : Disjunct) (c : Connector) → chosen_at g i ≡ Some d → slice_get (side (Some d)) p ≡ Some c → slice_get (side (chosen_at g i)) p ≡ Some c
 on_side side g i p d c e h = subst (λ z. slice_get (side z) p ≡ Some c) (sym e) h
 
-supports : (positions : List (List Disjunct)) (g : Linkage) → Good positions g → SupportsItself positions (chosen_from 0 g.chosen)
+supports : (positions : List (List Disjunct)) (g : Linkage) → Good positions g → KeepsItself positions (chosen_from 0 g.chosen)
 supports positions g good = record {
   listed = λ i d c. good.belongs.listed i d (chosen_is g i d c);
   right = λ i a p c w.

@@ -7,10 +7,10 @@ use Rattle.lg_member.specs.Laws.{AreLeftOf, RowsAreProblems}
 use Rattle.lg_member.specs.Members.{seen_of, row_at, AreMembers}
 use Rattle.lg_member.specs.declared.side.Side.{Side}
 use Rattle.lg_member.specs.declared.member.Member.{Member}
-use Rattle.lg_pprune.specs.Alive.{SupportsItself, IsPruned}
+use Rattle.lg_pprune.specs.Alive.{KeepsItself, IsPruned}
 use Rattle.lg_pprune.specs.Supports.{KeepsAlive}
 
-kept_supports : (positions rows : List (List Disjunct)) (old new : List Member) → AreLeftOf positions rows old new → KeepsAlive (length positions) old new → SupportsItself positions (map seen_of new)
+kept_supports : (positions rows : List (List Disjunct)) (old new : List Member) → AreLeftOf positions rows old new → KeepsAlive (length positions) old new → KeepsItself positions (map seen_of new)
 kept_supports positions rows old new a k = record {
   listed = λ i d c. (a.whole i d).1 (a.fewer i d ((a.seen i d).0 c));
   right = λ i d p c h. let r = (k.supported i d ((a.seen i d).0 c)).0 p h in (r.0, r.1, r.2, (a.seen r.0 r.1).1 r.3, r.4);

@@ -16,8 +16,8 @@ pub record ArePartners (n i : ℕ) (a : Disjunct) (p j : ℕ) (b : Disjunct) (q 
   pub to_right : j + length a.right ≤ n + p
   pub to_left : length b.left ≤ i + q + 1
 
--- A set of disjuncts at positions supports itself: each is one of its position, and each connector of each has a partner among them.
-pub record SupportsItself (positions : List (List Disjunct)) (members : List (ℕ × Disjunct)) : Type 0 where
+-- A set of disjuncts at positions keeps itself: each is one of its position, and each connector of each has a partner among them.
+pub record KeepsItself (positions : List (List Disjunct)) (members : List (ℕ × Disjunct)) : Type 0 where
   pub listed : (i : ℕ) (d : Disjunct) → Contains members (i, d) → Contains (slice_index_or positions i []) d
   pub right : (i : ℕ) (a : Disjunct) (p : ℕ) → Contains members (i, a) → p < length a.right
       → (j : ℕ) × (b : Disjunct) × (q : ℕ) × Contains members (j, b) × ArePartners (length positions) i a p j b q
@@ -26,7 +26,7 @@ pub record SupportsItself (positions : List (List Disjunct)) (members : List (�
 
 -- a disjunct is alive at a position where it is in some set that supports itself
 abbrev pub IsAlive : List (List Disjunct) → ℕ → Disjunct → Type 0
-IsAlive positions i d = (members : List (ℕ × Disjunct)) × SupportsItself positions members × Contains members (i, d)
+IsAlive positions i d = (members : List (ℕ × Disjunct)) × KeepsItself positions members × Contains members (i, d)
 
 -- at each position exactly the disjuncts that are alive there, as a problem has them: in order, each once
 pub record IsPruned (positions pruned : List (List Disjunct)) : Type 0 where
