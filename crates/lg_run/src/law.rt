@@ -4,6 +4,7 @@ ghost use Rattle.lg_base.specs.Contents.{Contents};
 ghost use Rattle.lg_run.specs.Words.{Task, TaskIs};
 ghost use Rattle.lg_run.specs.Exported.{ExportsAreDictionaries};
 ghost use Rattle.lg_run.specs.Inputs.{InputsAre, HasSome, IsOne};
+ghost use Rattle.lg_run.specs.Joints.{DictionariesHaveNoJoints};
 ghost use Rattle.lg_run.specs.Shown.{OutcomesAreShown, RunsAreShown, RunsOfInputsAreShown};
 ghost use Rattle.lg_run.specs.PlainInputs.{DictionariesArePlain, EditsKeepPlain};
 ghost use Rattle.lg_run.specs.Determined.{AnswersAreDetermined, DocumentsTellAnswers};
@@ -73,5 +74,14 @@ pub fn exports_are_dictionaries()
 {
     edited_dictionaries_are_exportable();
     exports_read_back();
+    read_dictionaries_are_exportable();
+}
+
+/// No dictionary by which a command lists sentences has a joint: neither the one that is read, nor a version that edits of scripts make of
+/// it. So what idioms add is told apart from all that stands there. The function does nothing: a caller whose proof needs the fact calls it.
+pub fn dictionaries_have_no_joints()
+    ensures { DictionariesHaveNoJoints }
+{
+    edited_dictionaries_are_exportable();
     read_dictionaries_are_exportable();
 }
