@@ -5,7 +5,9 @@ ghost use Rattle.std.specs.List.{sum_by};
 ghost use Rattle.lg_forest.specs.Forests.{AreWorkers};
 ghost use Rattle.lg_knowread.specs.declared.knowledge.Knowledge.{Knowledge as SeenKnowledge};
 ghost use Rattle.lg_token.specs.Bounds.{bound_of};
+ghost use Rattle.lg_idiom.specs.Overlays.{HasNoJoints};
 ghost use Rattle.lg_answer.specs.Candidates.{StandsFor};
+ghost use Rattle.lg_answer.specs.Idioms.{UsesChainsWhole, JoinsNeighbours, KeepsPlainLinkages};
 ghost use Rattle.lg_answer.specs.Pages.{IsOpen, HasLinkagesOf, AreStats, IsListing, IsSameListing, HasSkipped, IsBeyond, IsRefused, IsPage, IsLinkageFor};
 ghost use Rattle.lg_answer.specs.Steps.{HaveOrder, IsSearched};
 
@@ -67,6 +69,9 @@ impl Listing {
         ensures nulls { IfOk result (λ listing. listing.course.nulls ≡ options.now.nulls) }
         ensures first { IfOk result (λ listing. listing.course.position ≡ 0) }
         ensures stands { (know : SeenKnowledge) → IfOk result (λ listing. StandsFor know listing.course) }
+        ensures whole { options.now.idioms ≡ true → HasNoJoints view.now → IfOk result (λ listing. UsesChainsWhole view.now listing.tokens listing.course.problem) }
+        ensures neighbours { options.now.idioms ≡ true → HasNoJoints view.now → IfOk result (λ listing. JoinsNeighbours listing.course.problem) }
+        ensures plain { options.now.idioms ≡ true → HasNoJoints view.now → IfOk result (λ listing. KeepsPlainLinkages view.now listing.tokens listing.course.problem) }
         ensures refused { IfErr result (IsRefused view.now text.now) }
     {
         let tokens = match listed_tokens(alloc, view, text)? {
