@@ -13,6 +13,7 @@ use lg_dictread::exactly_one_dictionary;
 use lg_export::{
     edited_dictionaries_are_exportable, exports_read_back, read_dictionaries_are_exportable,
 };
+use lg_idiom::taken_are_one;
 use lg_knowread::exactly_one_knowledge;
 use lg_script::{exactly_one_script, scripts_have_single_lines, scripts_keep_bounds};
 use lg_token::{tokens_are_one_list, tokens_lie_in_order};
@@ -63,6 +64,7 @@ pub fn answers_are_determined()
     ensures documents { DocumentsTellAnswers }
 {
     tokens_are_one_list();
+    taken_are_one();
     documents_show();
 }
 
