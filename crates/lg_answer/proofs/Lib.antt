@@ -1,6 +1,4 @@
-pub mod Found
-pub mod Whole
-pub mod Ordered
+pub mod Words
 pub mod Lists
 pub mod Places
 pub mod Nothing
@@ -9,6 +7,11 @@ pub mod Looking
 pub mod Printable
 pub mod Kept
 pub mod Searching
-pub mod Expanded
+pub mod Compounds
+pub mod Made
+pub mod Apart
+pub mod Few
+pub mod InUse
 pub mod Narrowed
+pub mod Wholes
 pub mod AliveKept

@@ -1,5 +1,6 @@
 pub mod Problems
 pub mod Candidates
+pub mod Idioms
 pub mod Pages
 pub mod Searches
 pub mod Steps

@@ -17,7 +17,7 @@ use Rattle.lg_pp.specs.Breaks.{Judges}
 use Rattle.lg_token.specs.Bounds.{bound_of}
 pub use Rattle.lg_token.specs.Bounds.{IsBeyond}
 use Rattle.lg_answer.specs.Candidates.{AreFirst, AreAll, IsBehind, Course, IsSameCourse}
-use Rattle.lg_answer.specs.Problems.{IsProblemOf}
+use Rattle.lg_answer.specs.Problems.{IsProblemInUse}
 use Rattle.lg_answer.specs.declared.options.Nulls.{Nulls}
 use Rattle.lg_answer.specs.declared.options.Nulls.TheVariants.{First}
 use Rattle.lg_answer.specs.declared.options.Options.{Options}
@@ -25,9 +25,9 @@ use Rattle.lg_answer.specs.declared.refusal.AnswerRefusal.{AnswerRefusal}
 use Rattle.lg_answer.specs.declared.refusal.AnswerRefusal.TheVariants.{NoMemory, Beyond}
 
 -- ten candidates are shown, and a thousand looked at, where nothing else is asked, all good linkages decide how many words may stay
--- unlinked, and disjuncts are pruned and not counted, by one worker
+-- unlinked, and disjuncts are pruned and not counted, by one worker, without idioms
 abbrev pub default_options : Options
-default_options = record { want = 10; examine = 1000; nulls = First; prune = true; count = false; workers = 1 }
+default_options = record { want = 10; examine = 1000; nulls = First; prune = true; count = false; workers = 1; idioms = false }
 
 -- how many of the candidates that were looked at pass
 abbrev pub passed : List PageItem → ℕ
@@ -71,17 +71,17 @@ pub record IsLinkageFor (tokens : List Token) (g : Linkage) : Type 0 where
   pub same_length : length tokens ≡ length g.chosen
   pub good : IsGood g
 
--- a sentence within the bounds, with its tokens and its problem
-pub record IsSentenceOf (dict : Dictionary) (text : List ℕ) (tokens : List Token) (problem : List (List Disjunct)) : Type 0 where
+-- a sentence within the bounds, with its tokens and its problem, with idioms or without
+pub record IsSentenceOf (idioms : Bool) (dict : Dictionary) (text : List ℕ) (tokens : List Token) (problem : List (List Disjunct)) : Type 0 where
   pub of_text : AreTokens dict text tokens
   pub unbound : bound_of dict tokens ≡ None
-  pub of_tokens : IsProblemOf dict tokens problem
+  pub of_tokens : IsProblemInUse idioms dict tokens problem
 
 -- a listing of a sentence, pruned or not: its tokens, a problem with the linkages of the sentence's, and, where they are counted, the
 -- numbers of disjuncts
 pub record IsListing (dict : Dictionary) (text : List ℕ) (options : Options) (listing : Listing) : Type 0 where
   pub problem : List (List Disjunct)
-  pub sentence : IsSentenceOf dict text listing.tokens problem
+  pub sentence : IsSentenceOf options.idioms dict text listing.tokens problem
   pub keeps : HasLinkagesOf problem listing.course.problem
   pub counted : options.count ≡ true → AreStats problem options.prune listing.stats
 

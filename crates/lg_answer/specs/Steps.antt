@@ -1,10 +1,9 @@
 -- The work step by step: what the loops over words, tokens and candidates keep.
-use Rattle.std.specs.Prelude.{◌≡◌, ◌↔◌, ◌≤◌, ◌<◌, ℕ, ◌+◌, List, [], ◌∷◌, ◌++◌, length, map, take, drop, All, Contains, Bool, true, MatchBool, Option, Some, None, ◌⊎◌}
-use Rattle.std.specs.List.{AllZip, flat_map, sum_by, enumerate_from}
+use Rattle.std.specs.Prelude.{◌≡◌, ◌↔◌, ◌≤◌, ◌<◌, ℕ, ◌+◌, List, [], ◌∷◌, ◌++◌, length, map, take, drop, All, Contains, Bool, true, false, MatchBool, Option, Some, None, ◌⊎◌, slice_index_or}
+use Rattle.std.specs.List.{AllZip, flat_map, enumerate_from}
 use Rattle.std.specs.FinMap.{get}
 use Rattle.std.specs.List.Sorted.{IsStrictlySortedBy}
-use Rattle.std.specs.Ordering.{nat_cmp}
-use Rattle.std.specs.Cmp.Lexicographic.{slice_cmp}
+use Rattle.std.specs.declared.cmp.Ordering.TheVariants.{Equal}
 use Rattle.lg_gram.specs.Disjuncts.{disjunct_cmp, IsDisjunctOf}
 use Rattle.lg_gram.specs.Problems.{FitsProblem}
 use Rattle.lg_gram.specs.Trees.{Tree}
@@ -18,34 +17,16 @@ use Rattle.lg_disj.specs.Exist.{HasNames}
 use Rattle.lg_eprune.specs.Live.{WordTree}
 use Rattle.lg_knowread.specs.declared.knowledge.Knowledge.{Knowledge}
 use Rattle.lg_pp.specs.Breaks.{Judges}
-use Rattle.lg_token.specs.Bounds.{word_choices}
-use Rattle.lg_answer.specs.Problems.{IsPositionOf, IsProblemOf}
+use Rattle.lg_token.specs.Bounds.{AreListed}
+use Rattle.lg_idiom.specs.Sentences.{AddIdioms}
+use Rattle.lg_answer.specs.Problems.{IsProblemOf, IsProblemInUse}
 use Rattle.lg_answer.specs.Candidates.{Course, HasCome, AreAll}
 use Rattle.lg_answer.specs.Pages.{passed, HasLinkagesOf, AreStats}
 use Rattle.lg_answer.specs.declared.options.Options.{Options}
 
--- words that increase by bytes, and tokens whose words do
-abbrev pub Increase : List (List ℕ) → Type 0
-Increase words = IsStrictlySortedBy (slice_cmp nat_cmp) words
-
-abbrev pub HaveOrder : List Token → Type 0
-HaveOrder tokens = All (λ t. Increase t.words) tokens
-
--- the disjuncts of these words, within the limits of a problem
-pub record AreFound (dict : Dictionary) (words : List (List ℕ)) (ds : List Disjunct) : Type 0 where
-  pub position : IsPositionOf dict words ds
-  pub fit : All FitsProblem ds
-  pub few : length ds ≤ sum_by (word_choices dict) words
-
--- the disjuncts of a word were added at the end
-pub record AddsWord (dict : Dictionary) (word : List ℕ) (old new : List Disjunct) : Type 0 where
-  pub more : List Disjunct
-  pub grown : new ≡ old ++ more
-  pub found : AreFound dict (word ∷ []) more
-
--- for each token the disjuncts of its words
-abbrev pub AreFoundFor : Dictionary → List Token → List (List Disjunct) → Type 0
-AreFoundFor dict tokens positions = AllZip (λ t ds. AreFound dict t.words ds) tokens positions
+-- the tokens of a sentence that is listed
+abbrev pub AreOfSentence : Dictionary → List Token → Type 0
+AreOfSentence dict tokens = (text : List ℕ) × AreListed dict text tokens
 
 -- a word with its formula, if it has one
 abbrev pub of_word : List ℕ → Option Tree → List WordTree
@@ -56,10 +37,14 @@ of_word word (Some t) = record { word = word; tree = t } ∷ []
 abbrev pub word_trees : Dictionary → List (List ℕ) → List WordTree
 word_trees dict words = flat_map (λ w. of_word w (get dict.words w)) words
 
--- the same, and the connectors of the formulas have names
+-- the connectors of the formulas have names
+abbrev pub AreNamed : List WordTree → Type 0
+AreNamed ws = All (λ w. HasNames w.tree) ws
+
+-- those words, and the connectors of their formulas have names
 pub record AreWordTrees (dict : Dictionary) (words : List (List ℕ)) (ws : List WordTree) : Type 0 where
   pub are : ws ≡ word_trees dict words
-  pub named : All (λ w. HasNames w.tree) ws
+  pub named : AreNamed ws
 
 -- a word was added at the end with its formula, if it has one
 pub record AddsTree (dict : Dictionary) (word : List ℕ) (old new : List WordTree) : Type 0 where
@@ -71,31 +56,72 @@ pub record AddsTree (dict : Dictionary) (word : List ℕ) (old new : List WordTr
 abbrev pub AreWordTreesFor : Dictionary → List Token → List (List WordTree) → Type 0
 AreWordTreesFor dict tokens positions = AllZip (λ t ws. AreWordTrees dict t.words ws) tokens positions
 
--- words with their formulas that increase by bytes
-abbrev pub AreInOrder : List WordTree → Type 0
-AreInOrder ws = IsStrictlySortedBy (λ v w. slice_cmp nat_cmp v.word w.word) ws
+-- what idioms add to each position, where they are in use, and else nothing
+abbrev pub AreAddedInUse : Bool → Dictionary → List Token → List (List WordTree) → Type 0
+AreAddedInUse true dict tokens added = AddIdioms dict tokens added
+AreAddedInUse false dict tokens added = added ≡ []
+
+-- for each token its words with their formulas, and behind them what idioms add
+pub record AreExprsInUse (idioms : Bool) (dict : Dictionary) (tokens : List Token) (exprs : List (List WordTree)) : Type 0 where
+  pub words : List (List WordTree)
+  pub of_tokens : AreWordTreesFor dict tokens words
+  pub added : List (List WordTree)
+  pub of_idioms : AreAddedInUse idioms dict tokens added
+  pub same_length : length exprs ≡ length words
+  pub both : (i : ℕ) → slice_index_or exprs i [] ≡ slice_index_or words i [] ++ slice_index_or added i []
+  pub named : (i : ℕ) → AreNamed (slice_index_or exprs i [])
+
+-- the words of each position, and behind them what is added there
+abbrev pub behind : List (List WordTree) → List (List WordTree) → List (List WordTree)
+behind [] added = []
+behind (ws ∷ words) [] = []
+behind (ws ∷ words) (more ∷ added) = (ws ++ more) ∷ behind words added
+
+-- a disjunct of one of these words
+abbrev pub IsOfTrees : List WordTree → Disjunct → Type 0
+IsOfTrees ws d = (w : WordTree) × Contains ws w × IsDisjunctOf w.word w.tree d
+
+-- disjuncts of these words that their order does not tell apart are one
+abbrev pub AreApart : List WordTree → Type 0
+AreApart ws = (d e : Disjunct) → IsOfTrees ws d → IsOfTrees ws e → disjunct_cmp d e ≡ Equal → d ≡ e
+
+-- the same of disjuncts in a list
+abbrev pub AreToldApart : List Disjunct → Type 0
+AreToldApart ds = (d e : Disjunct) → Contains ds d → Contains ds e → disjunct_cmp d e ≡ Equal → d ≡ e
+
+-- the disjuncts of these words, in any order, within the limits of a problem
+pub record AreListedOf (ws : List WordTree) (ds : List Disjunct) : Type 0 where
+  pub exactly : (d : Disjunct) → Contains ds d ↔ IsOfTrees ws d
+  pub fit : All FitsProblem ds
 
 -- the disjuncts of these words, in order, each once
 pub record AreExpanded (ws : List WordTree) (ds : List Disjunct) : Type 0 where
   pub rise : IsStrictlySortedBy disjunct_cmp ds
-  pub exactly : (d : Disjunct) → Contains ds d ↔ ((w : WordTree) × Contains ws w × IsDisjunctOf w.word w.tree d)
+  pub exactly : (d : Disjunct) → Contains ds d ↔ IsOfTrees ws d
 
 -- the same within the limits of a problem
 pub record AreMade (ws : List WordTree) (ds : List Disjunct) : Type 0 where
   pub expanded : AreExpanded ws ds
   pub fit : All FitsProblem ds
 
+-- these tokens have this problem in use, and also one without idioms
+pub record HaveProblem (idioms : Bool) (dict : Dictionary) (tokens : List Token) (problem : List (List Disjunct)) : Type 0 where
+  pub of_tokens : IsProblemInUse idioms dict tokens problem
+  pub same_length : length problem ≡ length tokens
+  pub plain : List (List Disjunct)
+  pub of_plain : IsProblemOf dict tokens plain
+
 -- a problem with the good linkages of that of these tokens
-pub record IsNarrowed (dict : Dictionary) (tokens : List Token) (kept : List (List Disjunct)) : Type 0 where
+pub record IsNarrowed (idioms : Bool) (dict : Dictionary) (tokens : List Token) (kept : List (List Disjunct)) : Type 0 where
   pub problem : List (List Disjunct)
-  pub of_tokens : IsProblemOf dict tokens problem
+  pub of_tokens : HaveProblem idioms dict tokens problem
   pub keeps : HasLinkagesOf problem kept
   pub same_length : length kept ≡ length tokens
 
 -- what is searched for these tokens, and the numbers of disjuncts where they are counted
 pub record IsSearched (dict : Dictionary) (tokens : List Token) (options : Options) (kept : List (List Disjunct)) (stats : Stats) : Type 0 where
   pub problem : List (List Disjunct)
-  pub of_tokens : IsProblemOf dict tokens problem
+  pub of_tokens : HaveProblem options.idioms dict tokens problem
   pub keeps : HasLinkagesOf problem kept
   pub counted : options.count ≡ true → AreStats problem options.prune stats
   pub same_length : length kept ≡ length tokens

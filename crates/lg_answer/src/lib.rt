@@ -2,12 +2,13 @@
 #![tactic(auto)]
 
 mod course;
+mod expanded;
+mod exprs;
 pub mod law;
 mod listing;
 mod narrow;
 mod options;
 mod page;
-mod problem;
 mod refusal;
 mod search;
 

@@ -1,23 +1,24 @@
 //! Listings.
-ghost use Rattle.std.specs.Prelude.{◌≡◌, ◌+◌, ◌-◌, ◌<◌, ◌≤◌, ◌^◌, false, None, List, length, All, IfOk, IfErr, IfSome};
+ghost use Rattle.std.specs.Prelude.{◌≡◌, ◌+◌, ◌-◌, ◌<◌, ◌≤◌, ◌^◌, true, false, List, length, All, IfOk, IfErr, IfSome};
 ghost use Rattle.lg_gram.specs.declared.disjunct.Disjunct.{Disjunct};
 ghost use Rattle.std.specs.List.{sum_by};
 ghost use Rattle.lg_forest.specs.Forests.{AreWorkers};
 ghost use Rattle.lg_knowread.specs.declared.knowledge.Knowledge.{Knowledge as SeenKnowledge};
-ghost use Rattle.lg_token.specs.Bounds.{bound_of};
+ghost use Rattle.lg_idiom.specs.Overlays.{HasNoJoints};
 ghost use Rattle.lg_answer.specs.Candidates.{StandsFor};
+ghost use Rattle.lg_answer.specs.Idioms.{UsesChainsWhole, JoinsNeighbours, KeepsPlainLinkages};
 ghost use Rattle.lg_answer.specs.Pages.{IsOpen, HasLinkagesOf, AreStats, IsListing, IsSameListing, HasSkipped, IsBeyond, IsRefused, IsPage, IsLinkageFor};
-ghost use Rattle.lg_answer.specs.Steps.{HaveOrder, IsSearched};
+ghost use Rattle.lg_answer.specs.Steps.{AreOfSentence, IsSearched};
 
 use crate::course::Course;
-use crate::narrow::narrowed;
+use crate::law::idioms_stay_whole;
+use crate::narrow::{narrowed, whole};
 use crate::options::{Nulls, Options};
 use crate::page::{page_of, skip};
-use crate::problem::problem_of;
 use crate::refusal::AnswerRefusal;
 use lg_base::NoMemory;
 use lg_dict::View;
-use lg_gram::{Page, Problem, Stats, Token, Tokens};
+use lg_gram::{Page, Problem, Stats, Tokens};
 use lg_knowread::Knowledge;
 use lg_pprune::{pprune, pruning_keeps_linkages};
 use lg_token::listed_tokens;
@@ -52,8 +53,9 @@ impl Listing {
     ///
     /// The text has fewer than 2^32 bytes. A sentence is `Beyond` a bound where it has more than 252 tokens, and else where
     /// their words have more than 4,000,000 choices together, whose counting stops at 2^60. Where disjuncts are pruned and not
-    /// counted, formulas are pruned before they are expanded, and the numbers of disjuncts are zeros. The forest of the sentence
-    /// is made here, by 1 to 16 workers; its candidates are made one by one by `page` and `skip`.
+    /// counted, formulas are pruned before they are expanded, and the numbers of disjuncts are zeros. With idioms the formulas that
+    /// `lg_idiom::idioms` adds are among those of the words, at most 4,000,000 choices more. The forest of the sentence is made here,
+    /// by 1 to 16 workers; its candidates are made one by one by `page` and `skip`.
     pub fn start<R: Threads + Sync>(
         rt: &R,
         alloc: Global,
@@ -67,13 +69,17 @@ impl Listing {
         ensures nulls { IfOk result (λ listing. listing.course.nulls ≡ options.now.nulls) }
         ensures first { IfOk result (λ listing. listing.course.position ≡ 0) }
         ensures stands { (know : SeenKnowledge) → IfOk result (λ listing. StandsFor know listing.course) }
+        ensures whole { options.now.idioms ≡ true → HasNoJoints view.now → IfOk result (λ listing. UsesChainsWhole view.now listing.tokens listing.course.problem) }
+        ensures neighbours { options.now.idioms ≡ true → HasNoJoints view.now → IfOk result (λ listing. JoinsNeighbours listing.course.problem) }
+        ensures plain { options.now.idioms ≡ true → HasNoJoints view.now → IfOk result (λ listing. KeepsPlainLinkages view.now listing.tokens listing.course.problem) }
         ensures refused { IfErr result (IsRefused view.now text.now) }
     {
         let tokens = match listed_tokens(alloc, view, text)? {
             Ok(tokens) => tokens,
             Err(bound) => return Err(AnswerRefusal::Beyond(bound)),
         };
-        let (problem, stats) = searched(alloc, view, tokens.items(), options)?;
+        idioms_stay_whole();
+        let (problem, stats) = searched(alloc, view, &tokens, options)?;
         let course = Course::start(rt, alloc, problem, options)?;
         Ok(Listing {
             tokens,
@@ -171,11 +177,10 @@ impl Listing {
 fn searched(
     alloc: Global,
     view: &View,
-    tokens: &[Token],
+    tokens: &Tokens,
     options: &Options,
 ) -> Result<(Problem, Stats), NoMemory>
-    requires order { HaveOrder tokens.now }
-    requires unbound { bound_of view.now tokens.now ≡ None }
+    requires listed { AreOfSentence view.now tokens.now }
     ensures { IfOk result (λ both. IsSearched view.now tokens.now options.now both.0 both.1) }
 {
     if options.prune && !options.count {
@@ -189,16 +194,15 @@ fn searched(
 fn uncounted(
     alloc: Global,
     view: &View,
-    tokens: &[Token],
+    tokens: &Tokens,
     options: &Options,
 ) -> Result<(Problem, Stats), NoMemory>
-    requires order { HaveOrder tokens.now }
-    requires unbound { bound_of view.now tokens.now ≡ None }
+    requires listed { AreOfSentence view.now tokens.now }
     requires uncounted { options.now.count ≡ false }
     ensures { IfOk result (λ both. IsSearched view.now tokens.now options.now both.0 both.1) }
 {
     pruning_keeps_linkages();
-    let problem = narrowed(alloc, view, tokens)?;
+    let problem = narrowed(alloc, view, tokens, options.idioms)?;
     let alive = pprune(alloc, problem)?;
     let stats = Stats {
         disjuncts: 0,
@@ -211,14 +215,13 @@ fn uncounted(
 fn counted(
     alloc: Global,
     view: &View,
-    tokens: &[Token],
+    tokens: &Tokens,
     options: &Options,
 ) -> Result<(Problem, Stats), NoMemory>
-    requires order { HaveOrder tokens.now }
-    requires unbound { bound_of view.now tokens.now ≡ None }
+    requires listed { AreOfSentence view.now tokens.now }
     ensures { IfOk result (λ both. IsSearched view.now tokens.now options.now both.0 both.1) }
 {
-    let problem = problem_of(alloc, view, tokens)?;
+    let problem = whole(alloc, view, tokens, options.idioms)?;
     let (kept, stats) = pruned(alloc, problem, options.prune)?;
     Ok((kept, stats))
 }

@@ -24,6 +24,8 @@ pub struct Options {
     pub count: bool,
     /// So many threads, from 1 to 16, may look for the linkages of a sentence. That changes no page.
     pub workers: u32,
+    /// Compounds of the dictionary, as `New_York`, stand for the tokens that are their parts.
+    pub idioms: bool,
 }
 
 impl Default for Options {
@@ -40,6 +42,7 @@ impl Default for Options {
             prune: true,
             count: false,
             workers: 1,
+            idioms: false,
         }
     }
 }

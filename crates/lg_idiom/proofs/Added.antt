@@ -16,10 +16,10 @@ use Rattle.lg_idiom.specs.Idioms.{Chain, Covers, formula_at, word_cmp}
 use Rattle.lg_idiom.specs.Sentences.{AddIdioms, AreTakenOf, AreAddedTo, LiesWithin, added_at}
 use Rattle.lg_idiom.specs.Steps.{covers, added_by}
 
-covers-is : (p : ℕ) (c : Chain) → covers p c ≡ true → Covers c p
+pub covers-is : (p : ℕ) (c : Chain) → covers p c ≡ true → Covers c p
 covers-is p c h = grind (arith, nat_tests)
 
-is-covers : (p : ℕ) (c : Chain) → Covers c p → covers p c ≡ true
+pub is-covers : (p : ℕ) (c : Chain) → Covers c p → covers p c ≡ true
 is-covers p c h = grind (arith, nat_tests)
 
 abbrev pair : WordTree → List ℕ × Tree

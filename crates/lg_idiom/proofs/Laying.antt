@@ -36,7 +36,7 @@ module _ (dict : Dictionary) (tokens : List Token) (added : List (List (List ℕ
   is_chain : (c : Chain) → Contains idioms.taken c → IsChain dict tokens c
   is_chain c m = (idioms.all.exactly c).0 (taken_in idioms.chains 0 idioms.taken idioms.are_taken c m)
 
-  inside : (c : Chain) → Contains idioms.taken c → (2 ≤ c.count) × (c.start + c.count ≤ length tokens)
+  pub inside : (c : Chain) → Contains idioms.taken c → (2 ≤ c.count) × (c.start + c.count ≤ length tokens)
   inside c m =
       let is = is_chain c m in
       let within = lies dict tokens c.start c.word ((is.fitting.exactly c.word).0 (contains_at is.words c.rank c.word is.ranked)) in

@@ -19,3 +19,5 @@ pub mod Walking
 pub mod Cutting
 pub mod Mending
 pub mod Restoring
+pub mod Counting
+pub mod Single

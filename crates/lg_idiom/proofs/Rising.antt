@@ -15,13 +15,13 @@ use Rattle.lg_base.proofs.Elements.{contains_here, contains_later, contains_case
 use Rattle.lg_gram.proofs.Exact.{Less≢Equal}
 
 module _ {K : Type 0} (R : K → K → Ordering) (total : IsTotalOrder R) where
-  not_itself : (x : K) → R x x ≡ Less → ⊥
+  pub not_itself : (x : K) → R x x ≡ Less → ⊥
   not_itself x h = Less≢Equal (sym h ∙ tied_itself total x)
 
   not_both : (x y : K) → R x y ≡ Less → R y x ≡ Less → ⊥
   not_both x y h i = not_itself x (total.trans x y x h i)
 
-  after : (x : K) (xs : List K) (y : K) → IsStrictlySortedBy R (x ∷ xs) → Contains xs y → R x y ≡ Less
+  pub after : (x : K) (xs : List K) (y : K) → IsStrictlySortedBy R (x ∷ xs) → Contains xs y → R x y ≡ Less
   after x xs y up m = All-contains (λ z. R x z ≡ Less) xs y (All-after_first R x xs up) m
 
   tail_in : (x : K) (xs : List K) (y : K) (ys : List K) → IsStrictlySortedBy R (x ∷ xs) → x ≡ y → ((z : K) → Contains (x ∷ xs) z → Contains (y ∷ ys) z) → (z : K) → Contains xs z → Contains ys z

@@ -1,13 +1,17 @@
 -- What idioms lay over the problem of a sentence.
 use Rattle.std.specs.Prelude.{◌≡◌, ◌⊎◌, ◌↔◌, ℕ, ◌≤◌, List, [], length, Contains, Some, slice_index_or}
 use Rattle.std.specs.FinMap.{get}
+use Rattle.std.specs.List.{sum_by}
 use Rattle.lg_gram.specs.Disjuncts.{IsDisjunctOf}
 use Rattle.lg_gram.specs.Limits.{POSITIONS}
+use Rattle.lg_gram.specs.Measures.{choice_count}
 use Rattle.lg_gram.specs.Trees.{Tree}
 use Rattle.lg_gram.specs.declared.disjunct.Disjunct.{Disjunct}
 use Rattle.lg_gram.specs.declared.listing.Token.{Token}
 use Rattle.lg_dict.specs.Dictionary.{Dictionary}
-use Rattle.lg_idiom.specs.Idioms.{AreIdioms}
+use Rattle.lg_token.specs.Bounds.{LISTED_CHOICES}
+use Rattle.lg_idiom.specs.Idioms.{Chain, AreIdioms}
+use Rattle.lg_idiom.specs.Sentences.{AreTakenOf}
 use Rattle.lg_idiom.specs.Wholes.{HasNoJoint, AreChainsOfIdioms, AreLaidOver}
 
 -- no disjunct of the dictionary's own formulas has a joint
@@ -36,3 +40,12 @@ TakenAreChains = (dict : Dictionary) (tokens : List Token) (added : List (List (
 abbrev pub TakenAreLaidOver : Type 0
 TakenAreLaidOver = (dict : Dictionary) (tokens : List Token) (added : List (List (List ℕ × Tree))) (plain positions : List (List Disjunct)) → HasIdioms added plain positions
     → (idioms : AreIdioms dict tokens added) → AreLaidOver idioms.taken plain positions
+
+-- What idioms add has at most 4,000,000 choices in all.
+abbrev pub AddedAreFew : Type 0
+AddedAreFew = (dict : Dictionary) (tokens : List Token) (added : List (List (List ℕ × Tree))) → AreIdioms dict tokens added
+    → sum_by (sum_by (λ (a : List ℕ × Tree). choice_count a.1)) added ≤ LISTED_CHOICES
+
+-- A sentence has one list of chains that are taken.
+abbrev pub TakenAreOne : Type 0
+TakenAreOne = (dict : Dictionary) (tokens : List Token) (t u : List Chain) → AreTakenOf dict tokens t → AreTakenOf dict tokens u → t ≡ u

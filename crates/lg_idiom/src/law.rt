@@ -1,5 +1,5 @@
 //! The laws of idioms: what chains do in the good linkages of a sentence.
-ghost use Rattle.lg_idiom.specs.Overlays.{TakenAreChains, TakenAreLaidOver};
+ghost use Rattle.lg_idiom.specs.Overlays.{AddedAreFew, TakenAreChains, TakenAreLaidOver, TakenAreOne};
 ghost use Rattle.lg_idiom.specs.Wholes.{ChainsAreWhole, ChainsStandForWords, JointsJoinNeighbours, PlainLinkagesStay};
 
 /// In a good linkage each link of a joint joins neighbours. The function does nothing: a caller whose proof needs the fact calls it.
@@ -33,4 +33,14 @@ pub fn taken_are_laid_over()
 /// of these in which that position is linked comes so from exactly one. The function does nothing: a caller whose proof needs the fact calls it.
 pub fn chains_stand_for_words()
     ensures { ChainsStandForWords }
+{}
+
+/// What idioms add to a sentence has at most 4,000,000 choices in all. The function does nothing: a caller whose proof needs the fact calls it.
+pub fn added_are_few()
+    ensures { AddedAreFew }
+{}
+
+/// A sentence has one list of chains that are taken. The function does nothing: a caller whose proof needs the fact calls it.
+pub fn taken_are_one()
+    ensures { TakenAreOne }
 {}

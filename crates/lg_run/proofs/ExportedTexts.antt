@@ -22,20 +22,20 @@ use Rattle.lg_run.specs.Exported.{IsDictionaryText, ExportsAreDictionaries}
 -- ---- readings
 
 -- what holds of what comes of texts that are accepted
-abbrev IfFound : {A : Type 0} → (A → Type 0) → Found A → Type 0
+abbrev pub IfFound : {A : Type 0} → (A → Type 0) → Found A → Type 0
 IfFound P (accepted a) = P a
 IfFound P (refused line) = Unit {0}
 IfFound P (missing name) = Unit {0}
 
-abbrev Gives : {A : Type 0} → Reading A → (A → Type 0) → Type 0
+abbrev pub Gives : {A : Type 0} → Reading A → (A → Type 0) → Type 0
 Gives {A} reading P = (names : List (List ℕ)) (found : Found A) → reading names found → IfFound P found
 
-followed_gives : {A B : Type 0} (first : Reading A) (next : A → Reading B) (P : A → Type 0) (Q : B → Type 0) → Gives first P → ((a : A) → P a → Gives (next a) Q) → Gives (Followed first next) Q
+pub followed_gives : {A B : Type 0} (first : Reading A) (next : A → Reading B) (P : A → Type 0) (Q : B → Type 0) → Gives first P → ((a : A) → P a → Gives (next a) Q) → Gives (Followed first next) Q
 followed_gives first next P Q f g _ _ (both a names more found p q) = g a (f names (accepted a) p) more found q
 followed_gives first next P Q f g _ _ (ends_refused names line p) = tt
 followed_gives first next P Q f g _ _ (ends_missing names name p) = tt
 
-given_gives : {A : Type 0} (a : A) (P : A → Type 0) → P a → Gives (given a) P
+pub given_gives : {A : Type 0} (a : A) (P : A → Type 0) → P a → Gives (given a) P
 given_gives a P h names found is = subst (IfFound P) (sym is.1) h
 
 file_gives : (contents : Contents) (name : List ℕ) → Gives (FileIs contents name) (λ bytes. Unit {0})
@@ -46,14 +46,14 @@ file_gives contents name _ _ (whole bytes is within) = tt
 -- ---- scripts
 
 -- each edit has an entry that was read
-abbrev IsRead : CommandView → Type 0
+abbrev pub IsRead : CommandView → Type 0
 IsRead (parses text) = Unit {0}
 IsRead (lists from want text) = Unit {0}
 IsRead goes_on = Unit {0}
 IsRead (makes edit) = IsReadEdit edit
 IsRead asks = Unit {0}
 
-abbrev AreRead : List CommandView → Type 0
+abbrev pub AreRead : List CommandView → Type 0
 AreRead commands = AllByRecursion IsRead commands
 
 abbrev CommandRead : Result CommandView Fault → Type 0
@@ -101,7 +101,7 @@ found_read name (Err error) h = tt
 script_text_read : (name bytes : List ℕ) → Gives (ScriptReads name bytes) AreRead
 script_text_read name bytes _ _ (reads_script x is) = found_read name x (script_read bytes x is)
 
-abbrev AllRead : List (List CommandView) → Type 0
+abbrev pub AllRead : List (List CommandView) → Type 0
 AllRead scripts = AllByRecursion AreRead scripts
 
 module _ (contents : Contents) where
@@ -116,13 +116,22 @@ module _ (contents : Contents) where
   edits_read names scripts h _ _ (few within) = h
   edits_read names scripts h _ _ (many i name is before after) = tt
 
+  -- and all of them
+  pub all_read : (names : List (List ℕ)) → Gives (Followed (ScriptsInput contents names) (EditsRead names)) AllRead
+  all_read names = followed_gives (ScriptsInput contents names) (EditsRead names) AllRead AllRead (scripts_read names) (λ scripts h. edits_read names scripts h)
+
 first_read : (scripts : List (List CommandView)) → AllRead scripts → AreRead (commands_of scripts 0)
 first_read [] h = tt
 first_read (commands ∷ scripts) h = h.0
 
 -- ---- dictionaries
 
-module _ (read_can : ReadIsExportable) (edited_can : EditedIsExportable) (read_back : ExportsReadBack) where
+pub there : {T : Type 0} (P : T → Type 0) (all : List T) (n : ℕ) (x : T) → AllByRecursion P all → slice_get all n ≡ Some x → P x
+there P [] n x h e = absurd cc
+there P (y ∷ all) zero x h e = let same : y ≡ x = cc in subst P same h.0
+there P (y ∷ all) (suc n) x h e = there P all n x h.1 e
+
+module _ (read_can : ReadIsExportable) where
   refused_gives : (name : List ℕ) (error : DictError) → IfFound IsExportable (found_in name (refuse error))
   refused_gives name (errors.WordFile line file causes.Failed) = tt
   refused_gives name error = tt
@@ -131,6 +140,11 @@ module _ (read_can : ReadIsExportable) (edited_can : EditedIsExportable) (read_b
   dictionary_can contents name bytes _ _ (reads asked (stands entries) is) = read_can bytes is.asked entries is.gives
   dictionary_can contents name bytes _ _ (reads asked (refuse error) is) = refused_gives name error
 
+  pub input_can : (contents : Contents) (name : List ℕ) → Gives (DictionaryInput contents name) IsExportable
+  input_can contents name =
+      followed_gives (FileIs contents name) (DictionaryReads contents name) (λ bytes. Unit {0}) IsExportable (file_gives contents name) (λ bytes h. dictionary_can contents name bytes)
+
+module _ (read_can : ReadIsExportable) (edited_can : EditedIsExportable) (read_back : ExportsReadBack) where
   -- every version can be exported
   abbrev AllCan : List Dictionary → Type 0
   AllCan all = AllByRecursion IsExportable all
@@ -149,11 +163,6 @@ module _ (read_can : ReadIsExportable) (edited_can : EditedIsExportable) (read_b
       made_or_not dict (edited dict edit) (versions (edited dict edit) commands) (versions dict commands) (accept dict edit) can
       (λ none. versions_can commands (edited dict edit) (edited_can dict edit can h.0 none) h.1) (versions_can commands dict can h.1)
 
-  there : (all : List Dictionary) (n : ℕ) (version : Dictionary) → AllCan all → slice_get all n ≡ Some version → IsExportable version
-  there [] n version h e = absurd cc
-  there (dict ∷ all) zero version h e = let same : dict ≡ version = cc in subst IsExportable same h.0
-  there (dict ∷ all) (suc n) version h e = there all n version h.1 e
-
   -- what is given reads back, where it is a text
   abbrev ReadsAgain : Given → Type 0
   ReadsAgain (OneGiven setup dict sentence) = Unit {0}
@@ -167,14 +176,13 @@ module _ (read_can : ReadIsExportable) (edited_can : EditedIsExportable) (read_b
   export_gives dictionary script n dict commands can h _ _ (spelled version is none) = record {
     version = version;
     spelled = refl;
-    reads_back = read_back version (there (versions dict commands) n version (versions_can commands dict can h) is) none;
+    reads_back = read_back version (there IsExportable (versions dict commands) n version (versions_can commands dict can h) is) none;
   }
 
   pub exports_are_dictionaries : ExportsAreDictionaries
   exports_are_dictionaries contents dictionary script n names text is =
-      followed_gives (DictionaryInput contents dictionary) (λ dict. VersionGiven contents dictionary script n dict) IsExportable ReadsAgain
-      (followed_gives (FileIs contents dictionary) (DictionaryReads contents dictionary) (λ bytes. Unit {0}) IsExportable (file_gives contents dictionary) (λ bytes h. dictionary_can contents dictionary bytes))
+      followed_gives (DictionaryInput contents dictionary) (λ dict. VersionGiven contents dictionary script n dict) IsExportable ReadsAgain (input_can read_can contents dictionary)
       (λ dict can. followed_gives (Followed (ScriptsInput contents (script ∷ [])) (EditsRead (script ∷ []))) (λ scripts. ExportReads dictionary script n dict (commands_of scripts 0)) AllRead ReadsAgain
-      (followed_gives (ScriptsInput contents (script ∷ [])) (EditsRead (script ∷ [])) AllRead AllRead (scripts_read contents (script ∷ [])) (λ scripts h. edits_read contents (script ∷ []) scripts h))
+      (all_read contents (script ∷ []))
       (λ scripts h. export_gives dictionary script n dict (commands_of scripts 0) can (first_read scripts h)))
       names (accepted (ExportGiven text)) is

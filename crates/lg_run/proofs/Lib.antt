@@ -26,8 +26,10 @@ pub mod MadeInputs
 pub mod OnePage
 pub mod Determined
 pub mod PlainMaps
+pub mod LeafChoices
 pub mod PlainTrees
 pub mod PlainDictionaries
 pub mod PlainAnswers
 pub mod ShownInputs
 pub mod DocumentsTell
+pub mod Joints

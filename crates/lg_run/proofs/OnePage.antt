@@ -1,5 +1,5 @@
 -- A listing that has come so far has one page, and a sentence one pair of numbers of disjuncts.
-use Rattle.std.proofs.Common.{◌≡◌, ◌≢◌, ◌↔◌, ℕ, zero, suc, ◌+◌, ◌-◌, ◌<◌, ◌≤◌, Bool, true, false, List, [], ◌∷◌, length, map, take, drop, get_or, All, Contains, Option, Some, None, slice_get, slice_index_or, inl, inr, refl, sym, ap, subst, ◌∙◌, arith, Less, Equal, Greater}
+use Rattle.std.proofs.Common.{◌≡◌, ◌≢◌, ◌⊎◌, ◌↔◌, ℕ, zero, suc, ◌+◌, ◌-◌, ◌<◌, ◌≤◌, Bool, true, false, List, [], ◌∷◌, length, map, take, drop, get_or, All, Contains, Option, Some, None, slice_get, slice_index_or, inl, inr, refl, sym, ap, subst, ◌∙◌, arith, Less, Equal, Greater}
 use Rattle.std.specs.Prelude.{MatchBool}
 use Rattle.std.specs.declared.cmp.Ordering.{Ordering}
 use Rattle.std.specs.Cmp.{IsTotalOrder}
@@ -17,6 +17,7 @@ use Rattle.std.proofs.lemmas.Option.{slice_get_within, slice_get-get_or, get_or_
 use Rattle.lg_gram.specs.Disjuncts.{disjunct_cmp}
 use Rattle.lg_gram.specs.Linkages.{Linkage, pair_cmp}
 use Rattle.lg_gram.specs.Problems.{IsPosition}
+use Rattle.lg_gram.specs.Trees.{Tree}
 use Rattle.lg_gram.specs.declared.disjunct.Disjunct.{Disjunct}
 use Rattle.lg_gram.specs.declared.linkage.Link.{Link}
 use Rattle.lg_gram.specs.declared.listing.Page.{Page}
@@ -27,6 +28,9 @@ use Rattle.lg_gram.specs.declared.listing.Violation.{Violation}
 use Rattle.lg_gram.proofs.Exact.{first_equal, second_equal}
 use Rattle.lg_gram.proofs.Orders.{disjuncts_total, linkages_total}
 use Rattle.lg_dict.specs.Dictionary.{Dictionary}
+use Rattle.lg_idiom.specs.Idioms.{Chain, Covers, AreAdded, AreIdioms, formula_at, word_cmp}
+use Rattle.lg_idiom.specs.Overlays.{IsOfAdded, TakenAreOne}
+use Rattle.lg_idiom.proofs.Sorting.{chains_total}
 use Rattle.lg_knowread.specs.declared.knowledge.Knowledge.{Knowledge}
 use Rattle.lg_knowread.specs.declared.knowledge.Rule.{Rule}
 use Rattle.lg_pp.specs.Breaks.{FailsAt, Holds, IsBroken, Judges}
@@ -37,7 +41,7 @@ use Rattle.lg_rank.proofs.Nexts.{fronts_agree}
 use Rattle.lg_token.specs.Tokens.{AreTokens}
 use Rattle.lg_answer.specs.Candidates.{IsCandidate, AreAll, IsBehind}
 use Rattle.lg_answer.specs.Pages.{passed, IsPage, AreStats}
-use Rattle.lg_answer.specs.Problems.{IsOfWords, IsPositionOf, IsProblemOf}
+use Rattle.lg_answer.specs.Problems.{IsOfWords, IsPositionOf, IsProblemOf, IsIdiomPosition, IsIdiomProblem, IsProblemInUse}
 use Rattle.lg_answer.specs.declared.options.Nulls.{Nulls}
 use Rattle.lg_answer.specs.declared.options.Options.{Options}
 use Rattle.lg_answer.proofs.Places.{place_of, at_place}
@@ -169,6 +173,31 @@ one_problem dict tokens ps qs a b = same_by_place ps qs (a.same_length ∙ sym b
     ∙ one_position dict t.0.words (slice_index_or ps i []) (slice_index_or qs i []) (a.each i t.0 t.1) (b.each i t.0 t.1)
     ∙ get_or_from_slice_get qs i es [] q)
 
+-- what idioms add is one list for each position
+module _ (one_taken : TakenAreOne) (dict : Dictionary) (tokens : List Token) where
+  one_added : (xs ys : List (List (List ℕ × Tree))) → AreIdioms dict tokens xs → AreIdioms dict tokens ys → xs ≡ ys
+  one_added xs ys a b =
+      let taken : a.taken ≡ b.taken =
+      one_taken dict tokens a.taken b.taken (record { chains = a.chains; all = a.all; are_taken = a.are_taken }) (record { chains = b.chains; all = b.all; are_taken = b.are_taken }) in
+      same_by_place xs ys (a.same_length ∙ sym b.same_length) (λ i u v p q.
+      let first = a.each i u p in
+      let second = subst (λ (ts : List Chain). AreAdded ts i v) (sym taken) (b.each i v q) in
+      let here : first.here ≡ second.here = same_sorted chains_total (λ (c : Chain). Contains a.taken c × Covers c i) first.here second.here first.rise second.rise first.exactly second.exactly in
+      first.are ∙ ap (map (λ (c : Chain). (c.word, formula_at c (i - c.start)))) here ∙ sym second.are)
+
+  one_idiom_problem : (ps qs : List (List Disjunct)) → IsIdiomProblem dict tokens ps → IsIdiomProblem dict tokens qs → ps ≡ qs
+  one_idiom_problem ps qs a b = same_by_place ps qs (a.same_length ∙ sym b.same_length) (λ i ds es p q.
+      let t = some_at tokens i (omega (arith, slice_get_within ps i ds p, a.same_length)) in
+      let first = a.each i t.0 t.1 in
+      let second = subst (λ (l : List (List (List ℕ × Tree))). IsIdiomPosition dict t.0.words (slice_index_or l i []) (slice_index_or qs i [])) (one_added b.added a.added b.idioms a.idioms) (b.each i t.0 t.1) in
+      sym (get_or_from_slice_get ps i ds [] p)
+      ∙ same_sorted disjuncts_total (λ (d : Disjunct). IsOfWords dict t.0.words d ⊎ IsOfAdded (slice_index_or a.added i []) d) (slice_index_or ps i []) (slice_index_or qs i []) first.rise second.rise first.exactly second.exactly
+      ∙ get_or_from_slice_get qs i es [] q)
+
+  one_in_use : (idioms : Bool) (ps qs : List (List Disjunct)) → IsProblemInUse idioms dict tokens ps → IsProblemInUse idioms dict tokens qs → ps ≡ qs
+  one_in_use true ps qs a b = one_idiom_problem ps qs a b
+  one_in_use false ps qs a b = one_problem dict tokens ps qs a b
+
 -- ---- pages
 
 module _ (positions : List (List Disjunct)) (know : Knowledge) (nulls : Nulls) where
@@ -278,10 +307,10 @@ one_stats positions prune s t a b =
 
 -- ---- listings
 
-module _ (know : Knowledge) (options : Options) (one_tokens : (dict : Dictionary) (text : List ℕ) (ts us : List Token) → AreTokens dict text ts → AreTokens dict text us → ts ≡ us) where
+module _ (one_taken : TakenAreOne) (know : Knowledge) (options : Options) (one_tokens : (dict : Dictionary) (text : List ℕ) (ts us : List Token) → AreTokens dict text ts → AreTokens dict text us → ts ≡ us) where
   pub one_page : (dict : Dictionary) (progress : Progress) (page other : Page) → IsShown know options dict progress page → IsShown know options dict progress other → page ≡ other
   one_page dict progress page other a b =
-      let problem : b.problem ≡ a.problem = one_problem dict progress.tokens b.problem a.problem b.sentence.of_tokens a.sentence.of_tokens in
+      let problem : b.problem ≡ a.problem = one_in_use one_taken dict progress.tokens options.idioms b.problem a.problem b.sentence.of_tokens a.sentence.of_tokens in
       let behind = subst (λ ps. IsBehind ps know options.nulls progress.position b.place) problem b.behind in
       let shown = subst (λ ps. IsPage ps know options.nulls b.place (wanted options progress.want) options.examine other) problem b.shown in
       let place : b.place ≡ a.place = one_place a.problem know options.nulls progress.position b.place a.place behind a.behind in
@@ -291,5 +320,5 @@ module _ (know : Knowledge) (options : Options) (one_tokens : (dict : Dictionary
   pub one_count : (dict : Dictionary) (text : List ℕ) (s t : Stats) → options.count ≡ true → AreCounted options dict text s → AreCounted options dict text t → s ≡ t
   one_count dict text s t counted a b =
       let tokens : b.tokens ≡ a.tokens = one_tokens dict text b.tokens a.tokens b.sentence.of_text a.sentence.of_text in
-      let problem : b.problem ≡ a.problem = one_problem dict a.tokens b.problem a.problem (subst (λ ts. IsProblemOf dict ts b.problem) tokens b.sentence.of_tokens) a.sentence.of_tokens in
+      let problem : b.problem ≡ a.problem = one_in_use one_taken dict a.tokens options.idioms b.problem a.problem (subst (λ ts. IsProblemInUse options.idioms dict ts b.problem) tokens b.sentence.of_tokens) a.sentence.of_tokens in
       one_stats a.problem options.prune s t (a.counted counted) (subst (λ ps. AreStats ps options.prune t) problem (b.counted counted))

@@ -61,7 +61,7 @@ module _ (l : Lister) (dict : Dictionary) (progress : Progress) (held next : Hel
   pub page_shown : IsShown l.know l.options dict progress page
   page_shown = record {
     problem = stands.problem;
-    sentence = subst (λ (ts : List Token). IsSentenceOf dict progress.text ts stands.problem) (sym stands.same_tokens) stands.sentence;
+    sentence = subst (λ (ts : List Token). IsSentenceOf l.options.idioms dict progress.text ts stands.problem) (sym stands.same_tokens) stands.sentence;
     place = held.listing.course.position;
     behind = stands.behind;
     shown = shown_so;
@@ -71,7 +71,7 @@ module _ (l : Lister) (dict : Dictionary) (progress : Progress) (held next : Hel
   pub next_stands : StandsFor l next dict (moved progress page)
   next_stands = record {
     problem = stands.problem;
-    sentence = subst (λ (ts : List Token). IsSentenceOf dict progress.text ts stands.problem) (sym turns.same.tokens) stands.sentence;
+    sentence = subst (λ (ts : List Token). IsSentenceOf l.options.idioms dict progress.text ts stands.problem) (sym turns.same.tokens) stands.sentence;
     keeps = same_linkages stands.problem held.listing next.listing turns.same stands.keeps;
     same_tokens = stands.same_tokens ∙ sym turns.same.tokens;
     nulls = turns.same.course.nulls ∙ stands.nulls;
@@ -110,8 +110,8 @@ module _ (l : Lister) (dict : Dictionary) (text : List ℕ) (want : Option ℕ) 
   problem = skips.is.problem
 
   -- the sentence, by what is held
-  sentence_held : IsSentenceOf dict text held.listing.tokens problem
-  sentence_held = subst (λ (ts : List Token). IsSentenceOf dict text ts problem) (sym skips.same.tokens) skips.is.sentence
+  sentence_held : IsSentenceOf l.options.idioms dict text held.listing.tokens problem
+  sentence_held = subst (λ (ts : List Token). IsSentenceOf l.options.idioms dict text ts problem) (sym skips.same.tokens) skips.is.sentence
 
   pub skipped_stands : (tokens : List Token) → tokens ≡ held.listing.tokens → StandsFor l held dict (start_of text want tokens first)
   skipped_stands tokens same =

@@ -41,7 +41,7 @@ no_knowledge = record { starts = []; ignored = []; rules = [] }
 -- the first page of the sentence's candidates, behind the numbers of its disjuncts where they are asked for, or the line that says why they
 -- are not listed
 pub data DocumentIs (setup : Setup) (dict : Dictionary) (sentence document : List ℕ) : Type 0 where
-  listed : (tokens : List Token) (problem : List (List Disjunct)) (page : Page) (stats : Stats) → IsSentenceOf dict sentence tokens problem
+  listed : (tokens : List Token) (problem : List (List Disjunct)) (page : Page) (stats : Stats) → IsSentenceOf setup.listing.idioms dict sentence tokens problem
       → IsPage problem no_knowledge setup.listing.nulls 0 setup.listing.want setup.listing.examine page → (setup.listing.count ≡ true → AreStats problem setup.listing.prune stats)
       → document ≡ listing_text setup.look tokens page (Some stats) → DocumentIs setup dict sentence document
   beyond : (bound : Bound) → IsBeyond dict sentence bound → document ≡ bound_line bound → DocumentIs setup dict sentence document
@@ -57,7 +57,7 @@ wanted options (Some want) = want
 -- printed beside the sentence's tokens.
 pub record IsShown (know : Knowledge) (options : Options) (dict : Dictionary) (progress : Progress) (page : Page) : Type 0 where
   pub problem : List (List Disjunct)
-  pub sentence : IsSentenceOf dict progress.text progress.tokens problem
+  pub sentence : IsSentenceOf options.idioms dict progress.text progress.tokens problem
   pub place : ℕ
   pub behind : IsBehind problem know options.nulls progress.position place
   pub shown : IsPage problem know options.nulls place (wanted options progress.want) options.examine page
@@ -67,7 +67,7 @@ pub record IsShown (know : Knowledge) (options : Options) (dict : Dictionary) (p
 pub record AreCounted (options : Options) (dict : Dictionary) (text : List ℕ) (stats : Stats) : Type 0 where
   pub tokens : List Token
   pub problem : List (List Disjunct)
-  pub sentence : IsSentenceOf dict text tokens problem
+  pub sentence : IsSentenceOf options.idioms dict text tokens problem
   pub counted : options.count ≡ true → AreStats problem options.prune stats
 
 -- the meaning of sentences: listings of their candidates

@@ -20,3 +20,4 @@ pub mod Written
 pub mod Counted
 pub mod Determined
 pub mod PlainInputs
+pub mod Joints

@@ -26,7 +26,7 @@ pub record IsLister (l : Lister) : Type 0 where
 -- wanted.
 pub record StandsFor (l : Lister) (held : Held) (dict : Dictionary) (progress : Progress) : Type 0 where
   pub problem : List (List Disjunct)
-  pub sentence : IsSentenceOf dict progress.text held.listing.tokens problem
+  pub sentence : IsSentenceOf l.options.idioms dict progress.text held.listing.tokens problem
   pub keeps : HasLinkagesOf problem held.listing.course.problem
   pub same_tokens : progress.tokens ≡ held.listing.tokens
   pub nulls : held.listing.course.nulls ≡ l.options.nulls

@@ -4,6 +4,7 @@ ghost use Rattle.lg_base.specs.Contents.{Contents};
 ghost use Rattle.lg_run.specs.Words.{Task, TaskIs};
 ghost use Rattle.lg_run.specs.Exported.{ExportsAreDictionaries};
 ghost use Rattle.lg_run.specs.Inputs.{InputsAre, HasSome, IsOne};
+ghost use Rattle.lg_run.specs.Joints.{DictionariesHaveNoJoints};
 ghost use Rattle.lg_run.specs.Shown.{OutcomesAreShown, RunsAreShown, RunsOfInputsAreShown};
 ghost use Rattle.lg_run.specs.PlainInputs.{DictionariesArePlain, EditsKeepPlain};
 ghost use Rattle.lg_run.specs.Determined.{AnswersAreDetermined, DocumentsTellAnswers};
@@ -12,6 +13,7 @@ use lg_dictread::exactly_one_dictionary;
 use lg_export::{
     edited_dictionaries_are_exportable, exports_read_back, read_dictionaries_are_exportable,
 };
+use lg_idiom::taken_are_one;
 use lg_knowread::exactly_one_knowledge;
 use lg_script::{exactly_one_script, scripts_have_single_lines, scripts_keep_bounds};
 use lg_token::{tokens_are_one_list, tokens_lie_in_order};
@@ -62,6 +64,7 @@ pub fn answers_are_determined()
     ensures documents { DocumentsTellAnswers }
 {
     tokens_are_one_list();
+    taken_are_one();
     documents_show();
 }
 
@@ -73,5 +76,14 @@ pub fn exports_are_dictionaries()
 {
     edited_dictionaries_are_exportable();
     exports_read_back();
+    read_dictionaries_are_exportable();
+}
+
+/// No dictionary by which a command lists sentences has a joint: neither the one that is read, nor a version that edits of scripts make of
+/// it. So what idioms add is told apart from all that stands there. The function does nothing: a caller whose proof needs the fact calls it.
+pub fn dictionaries_have_no_joints()
+    ensures { DictionariesHaveNoJoints }
+{
+    edited_dictionaries_are_exportable();
     read_dictionaries_are_exportable();
 }

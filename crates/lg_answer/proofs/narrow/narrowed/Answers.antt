@@ -1,24 +1,30 @@
-use Rattle.std.proofs.Common.{sym, subst, All}
+use Rattle.std.proofs.Common.{All, sym, subst}
 use Rattle.std.specs.List.{AllZip}
-use Rattle.lg_answer.specs.Steps.{AreInOrder, AreMade}
-use Rattle.lg_answer.proofs.Narrowed.{made_problem, made_narrowed, left_order}
+use Rattle.lg_answer.specs.Steps.{AreApart, AreMade}
+use Rattle.lg_answer.proofs.Few.{made_problem}
+use Rattle.lg_answer.proofs.InUse.{in_use_apart, narrowed_problem}
+use Rattle.lg_answer.proofs.Narrowed.{narrowed_of, narrowed_apart}
 use Rattle.lg_answer.proofs.narrow.narrowed.Goals as goal
 
+-- nor do any two of what is left
 pub expanded-requires : goal.expanded-requires
 expanded-requires c =
-    subst (All AreInOrder) (sym c.items.ensures)
-    (left_order c.args.view.now c.args.tokens.now c.in_ok-words.words c.in_ok-live.live c.in_ok-words.ensures c.requires.order c.in_ok-live.ensures)
+    subst (All AreApart) (sym c.items.ensures)
+    (narrowed_apart c.in_ok-words.words c.in_ok-live.live c.in_ok-live.ensures
+    (in_use_apart c.expressions_have_disjuncts.ensures c.args.view.now c.args.tokens.now c.requires.listed c.args.idioms c.in_ok-words.words c.in_ok-words.ensures))
 
 pub unreachable-requires : goal.unreachable-requires
 unreachable-requires c =
+    let words = c.in_ok-words.words in
+    let live = c.in_ok-live.live in
     let positions = c.in_ok-positions.positions in
     let made = subst (λ ws. AllZip AreMade ws positions) c.items.ensures c.in_ok-positions.ensures in
-    c.in-None.ensures (made_problem c.choices_are_counted.ensures c.args.view.now c.args.tokens.now c.in_ok-words.words c.in_ok-live.live positions
-    c.requires.unbound c.in_ok-words.ensures c.in_ok-live.ensures made)
+    c.in-None.ensures (made_problem c.choices_are_counted.ensures c.added_are_few.ensures c.args.idioms c.args.view.now c.args.tokens.now words live positions c.requires.listed c.in_ok-words.ensures
+    c.in_ok-live.ensures.same_length (narrowed_of words live c.in_ok-live.ensures) made)
 
 pub returns : goal.returns
 returns c =
     let positions = c.in_ok-positions.positions in
     let made = subst (λ ws. AllZip AreMade ws positions) c.items.ensures c.in_ok-positions.ensures in
-    rw c.in-Some.ensures.0 (made_narrowed c.choices_are_counted.ensures c.args.view.now c.args.tokens.now c.in_ok-words.words c.in_ok-live.live positions
-    c.requires.unbound c.in_ok-words.ensures c.in_ok-live.ensures made c.expressions_have_disjuncts.ensures c.linkages_are_live.ensures c.requires.order)
+    rw c.in-Some.ensures.0 (narrowed_problem c.expressions_have_disjuncts.ensures c.args.view.now c.args.tokens.now c.requires.listed c.args.idioms c.in_ok-words.words c.in_ok-words.ensures
+    c.linkages_are_live.ensures c.in_ok-live.live c.in_ok-live.ensures positions made)

@@ -1,0 +1,72 @@
+//! The disjuncts of the words of each position.
+ghost use Rattle.std.specs.Prelude.{◌↔◌, All, IfOk};
+ghost use Rattle.std.specs.List.{AllZip, Contains};
+ghost use Rattle.std.specs.List.Sorted.{IsStrictlySortedBy};
+ghost use Rattle.lg_gram.specs.Disjuncts.{disjunct_cmp, AreDisjuncts};
+ghost use Rattle.lg_gram.specs.Problems.{FitsProblem};
+ghost use Rattle.lg_gram.specs.declared.disjunct.Disjunct.{Disjunct as Seen};
+ghost use Rattle.lg_answer.specs.Steps.{AreApart, AreToldApart, AreListedOf, AreMade};
+
+use lg_base::NoMemory;
+use lg_disj::expand;
+use lg_eprune::{WordExpr, WordExprs};
+use lg_gram::order::is_rising;
+use lg_gram::{Disjunct, Disjuncts, Positions};
+use std::alloc::Global;
+use std::cmp::Ordering;
+
+/// The disjuncts of the words of each position, in order and each once. The only error is running out of memory.
+pub(crate) fn expanded(alloc: Global, positions: &[WordExprs]) -> Result<Positions, NoMemory>
+    requires { All AreApart positions.now }
+    ensures { IfOk result (AllZip AreMade positions.now) }
+{
+    let mut all = Vec::with_capacity(alloc, positions.len())?;
+    for words in positions {
+        all.push(disjuncts_of(alloc, words.items())?)?;
+    }
+    Ok(Positions::of(all))
+}
+
+// The disjuncts of all these words. A sentence's own words increase by bytes and disjuncts by their words first, so that the
+// lists of the words stand in order one after another; those of idioms may not.
+fn disjuncts_of(alloc: Global, words: &[WordExpr]) -> Result<Disjuncts, NoMemory>
+    requires { AreApart words.now }
+    ensures { IfOk result (AreMade words.now) }
+{
+    let all = listed(alloc, words)?;
+    if is_rising(&all) {
+        return Ok(Disjuncts::of(all));
+    }
+    let kept = in_order(all)?;
+    Ok(Disjuncts::of(kept))
+}
+
+// The disjuncts of one word after another.
+fn listed(alloc: Global, words: &[WordExpr]) -> Result<Vec<Disjunct>, NoMemory>
+    ensures { IfOk result (λ all. AreListedOf words.now all.items) }
+{
+    let mut all = Vec::new(alloc);
+    for word in words {
+        let mut more = disjuncts_of_word(alloc, word)?.into_items();
+        all.append(&mut more)?;
+    }
+    Ok(all)
+}
+
+fn disjuncts_of_word(alloc: Global, word: &WordExpr) -> Result<Disjuncts, NoMemory>
+    ensures are { IfOk result (AreDisjuncts word.now.word word.now.tree) }
+    ensures fit { IfOk result (All FitsProblem) }
+{
+    expand(alloc, &word.word, &word.formula)
+}
+
+// These disjuncts in order, each once.
+fn in_order(mut disjuncts: Vec<Disjunct>) -> Result<Vec<Disjunct>, NoMemory>
+    requires { AreToldApart disjuncts.items }
+    ensures rise { IfOk result (λ list. IsStrictlySortedBy disjunct_cmp list.items) }
+    ensures same { IfOk result (λ list. (d : Seen) → Contains list.items d ↔ Contains disjuncts.items d) }
+{
+    disjuncts.sort_by(|a, b| a.compare(b))?;
+    disjuncts.dedup_by(|next, kept| next.compare(kept) == Ordering::Equal);
+    Ok(disjuncts)
+}
