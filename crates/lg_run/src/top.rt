@@ -34,8 +34,9 @@ use lg_session::{Gate, run_sessions};
 use std::alloc::Global;
 use std::thread::Threads;
 
-/// Does all that the program does: reads the files that the words name, and writes the document to `out`, in one piece,
-/// once all of them are accepted. Every status but Done has one line on `err`; a fault of `err` changes no status.
+/// Does all that the program does: reads the files that the words name, and once all of them are accepted writes the document
+/// to `out`: that of a run one piece an answer and a last one for the journal, and every other in one piece. Every status but
+/// Done has one line on `err`; a fault of `err` changes no status.
 ///
 /// `words` is the command line without the program's name. The gate is called before each command of each session; it is no matter
 /// of what is written.
