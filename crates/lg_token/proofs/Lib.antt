@@ -12,3 +12,4 @@ pub mod SomeSpecials
 pub mod SomeList
 pub mod Spans
 pub mod Counting
+pub mod Choices

@@ -1,6 +1,7 @@
 pub mod Words
 pub mod Cuts
-pub mod Steps
 pub mod Tokens
 pub mod Spans
 pub mod Bounds
+pub mod Places
+pub mod Steps

@@ -4,11 +4,13 @@ use Rattle.std.specs.List.{sum_by}
 use Rattle.lg_gram.specs.declared.listing.Token.{Token}
 use Rattle.lg_dict.specs.Dictionary.{Dictionary, AreWordsOf}
 use Rattle.lg_token.specs.declared.lists.Named.{Named}
+use Rattle.lg_token.specs.declared.place.Place.{Place}
 use Rattle.lg_token.specs.declared.cuts.Side.{Side}
 use Rattle.lg_token.specs.declared.cuts.Side.TheVariants.{Before, After}
 use Rattle.lg_token.specs.declared.cuts.Off.{Off}
 use Rattle.lg_token.specs.declared.cuts.Cut.{Cut}
 use Rattle.lg_token.specs.Cuts.{possessive, EndsWithSign, BeginsWithSign, EndsWithPossessive, Pieces, with_before, with_after, AreCut}
+use Rattle.lg_token.specs.Places.{Lead}
 
 -- the pieces of a chunk, seen as texts
 abbrev pub pieces_in : Cut → Pieces
@@ -69,8 +71,8 @@ pub record Counts (Are : List Token → Type 0) (count : ℕ) : Type 0 where
   pub are : Are tokens
   pub counted : count ≡ length tokens
 
--- tokens of this kind were added at the end
-pub record Adds (Are : List Token → Type 0) (old new : List Token) : Type 0 where
-  pub more : List Token
+-- places of tokens of this kind were added at the end
+pub record Adds (dict : Dictionary) (Are : List Token → Type 0) (old new : List Place) : Type 0 where
+  pub more : List Place
   pub grown : new ≡ old ++ more
-  pub are : Are more
+  pub lead : Lead dict Are more

@@ -6,6 +6,7 @@ mod count;
 mod cuts;
 mod law;
 mod lists;
+mod place;
 mod special;
 mod tokenizing;
 mod words;

@@ -2,15 +2,16 @@
 ghost use Rattle.std.specs.Prelude.{◌≡◌, ◌+◌, ◌^◌, ◌<◌, [], ◌∷◌, length, map, true, false, IfOk, OnOk};
 ghost use Rattle.lg_lex.specs.Runs.{runs_from};
 ghost use Rattle.lg_lex.specs.declared.run.Separators.TheVariants.{Blanks};
-ghost use Rattle.lg_token.specs.Steps.{total, Adds, AreLists};
+ghost use Rattle.lg_dict.specs.Dictionary.{Dictionary};
+ghost use Rattle.lg_token.specs.Places.{Lead};
+ghost use Rattle.lg_token.specs.Steps.{total, Adds};
 ghost use Rattle.lg_token.specs.Tokens.{cut_off, AreOfPieces, AreOfChunk, AreOfChunks, IsWall, AreTokens};
 
 use crate::cuts::cut_chunk;
-use crate::lists::Named;
-use crate::words::token_words;
-use lg_base::{NoMemory, Text};
+use crate::place::{Kind, Place, tokens_at};
+use lg_base::NoMemory;
 use lg_dict::View;
-use lg_gram::{Token, Tokens};
+use lg_gram::Tokens;
 use lg_lex::{Separators, next_run, runs_are_one_list};
 use std::alloc::Global;
 
@@ -18,13 +19,6 @@ use std::alloc::Global;
 pub(crate) const LEFT_WALL: &[u8] = b"LEFT-WALL";
 
 pub(crate) const RIGHT_WALL: &[u8] = b"RIGHT-WALL";
-
-// The tokens that are made, and the lists of words that are kept for the next ones.
-#[derive(Drop)]
-struct Made<'a> {
-    tokens: Vec<Token>,
-    lists: Vec<Named<'a>>,
-}
 
 /// The tokens of a sentence, in the order of the text, each with its words: a wall at each end, where the dictionary
 /// has it, and the pieces of the chunks between spaces and tabs, after link-parser.
@@ -36,39 +30,51 @@ pub fn tokens(alloc: Global, view: &View, text: &str) -> Result<Tokens, NoMemory
     requires { length text.now < 2 ^ 32 }
     ensures { IfOk result (AreTokens view.now text.now) }
 {
+    let places = places_in(alloc, view, text)?;
+    let mut lists = Vec::new(alloc);
+    let tokens = tokens_at(alloc, view, &mut lists, &places)?;
+    Ok(tokens)
+}
+
+/// Where the tokens of a sentence stand, in the order of the text. No word is made.
+///
+/// The text has fewer than 2^32 bytes.
+pub(crate) fn places_in<'a>(
+    alloc: Global,
+    view: &View,
+    text: &'a str,
+) -> Result<Vec<Place<'a>>, NoMemory>
+    requires { length text.now < 2 ^ 32 }
+    ensures { IfOk result (λ places. Lead view.now (AreTokens view.now text.now) places.items) }
+{
     runs_are_one_list();
     let text = text.as_bytes();
-    let mut made = Made {
-        tokens: Vec::new(alloc),
-        lists: Vec::new(alloc),
-    };
-    add_wall(alloc, view, LEFT_WALL, 0, &mut made.tokens)?;
-    add_chunks(alloc, view, text, &mut made)?;
-    add_wall(alloc, view, RIGHT_WALL, text.len(), &mut made.tokens)?;
-    Ok(Tokens::of(made.tokens))
+    let mut places = Vec::new(alloc);
+    add_wall(view, LEFT_WALL, 0, &mut places)?;
+    add_chunks(alloc, view, text, &mut places)?;
+    add_wall(view, RIGHT_WALL, text.len(), &mut places)?;
+    Ok(places)
 }
 
 // Adds a wall, where the dictionary has its word.
-fn add_wall(
-    alloc: Global,
+fn add_wall<'a>(
     view: &View,
-    name: &[u8],
+    name: &'a [u8],
     at: usize,
-    tokens: &mut Vec<Token>,
+    places: &mut Vec<Place<'a>>,
 ) -> Result<(), NoMemory>
     requires { at < 2 ^ 32 }
-    ensures { OnOk result (Adds (IsWall view.now name.now at) tokens.old.items tokens.new.items) }
+    ensures { OnOk result (Adds view.now (IsWall view.now name.now at) places.old.items places.new.items) }
 {
     if !view.has(name) {
         return Ok(());
     }
-    let wall = Token {
+    places.push(Place {
         from: at as u32,
         to: at as u32,
-        text: Text::of(alloc, name)?,
-        words: view.words_of(alloc, name)?,
-    };
-    tokens.push(wall)?;
+        text: name,
+        kind: Kind::Wall,
+    })?;
     Ok(())
 }
 
@@ -76,17 +82,15 @@ fn add_chunks<'a>(
     alloc: Global,
     view: &View,
     text: &'a [u8],
-    made: &mut Made<'a>,
+    places: &mut Vec<Place<'a>>,
 ) -> Result<(), NoMemory>
-    requires place { length text.now < 2 ^ 32 }
-    requires lists { AreLists view.now made.old.lists.items }
-    ensures added { OnOk result (Adds (AreOfChunks view.now true (runs_from Blanks text.now 0)) made.old.tokens.items made.new.tokens.items) }
-    ensures lists { OnOk result (AreLists view.now made.new.lists.items) }
+    requires { length text.now < 2 ^ 32 }
+    ensures { OnOk result (Adds view.now (AreOfChunks view.now true (runs_from Blanks text.now 0)) places.old.items places.new.items) }
 {
     let mut from = 0;
     let mut initial = true;
     while let Some(run) = next_run(Separators::Blanks, text, from) {
-        add_chunk(alloc, view, initial, run.start, run.bytes, made)?;
+        add_chunk(alloc, view, initial, run.start, run.bytes, places)?;
         initial = false;
         from = run.end;
     }
@@ -100,37 +104,31 @@ fn add_chunk<'a>(
     initial: bool,
     start: usize,
     chunk: &'a [u8],
-    made: &mut Made<'a>,
+    places: &mut Vec<Place<'a>>,
 ) -> Result<(), NoMemory>
-    requires place { start + length chunk.now < 2 ^ 32 }
-    requires lists { AreLists view.now made.old.lists.items }
-    ensures added { OnOk result (Adds (AreOfChunk view.now initial (chunk.now, start)) made.old.tokens.items made.new.tokens.items) }
-    ensures lists { OnOk result (AreLists view.now made.new.lists.items) }
+    requires { start + length chunk.now < 2 ^ 32 }
+    ensures { OnOk result (Adds view.now (AreOfChunk view.now initial (chunk.now, start)) places.old.items places.new.items) }
 {
     let cut = cut_chunk(alloc, view, initial, chunk)?;
-    let middle = add_pieces(alloc, view, start, &cut.before, made)?;
-    add_piece(alloc, view, initial, middle, cut.middle, made)?;
-    add_pieces(alloc, view, middle + cut.middle.len(), &cut.after, made)?;
+    let middle = add_pieces(start, &cut.before, places)?;
+    add_piece(initial, middle, cut.middle, places)?;
+    add_pieces(middle + cut.middle.len(), &cut.after, places)?;
     Ok(())
 }
 
 // Adds the tokens of pieces that were cut off and begin at this place, and says where they end.
 fn add_pieces<'a>(
-    alloc: Global,
-    view: &View,
     start: usize,
     pieces: &[&'a [u8]],
-    made: &mut Made<'a>,
+    places: &mut Vec<Place<'a>>,
 ) -> Result<usize, NoMemory>
-    requires place { start + total (map (λ piece. piece.now) pieces.now) < 2 ^ 32 }
-    requires lists { AreLists view.now made.old.lists.items }
+    requires { start + total (map (λ piece. piece.now) pieces.now) < 2 ^ 32 }
     ensures end { IfOk result (λ end. end ≡ start + total (map (λ piece. piece.now) pieces.now)) }
-    ensures added { OnOk result (Adds (AreOfPieces view.now start (cut_off (map (λ piece. piece.now) pieces.now))) made.old.tokens.items made.new.tokens.items) }
-    ensures lists { OnOk result (AreLists view.now made.new.lists.items) }
+    ensures added { (dict : Dictionary) → OnOk result (Adds dict (AreOfPieces dict start (cut_off (map (λ piece. piece.now) pieces.now))) places.old.items places.new.items) }
 {
     let mut at = start;
     for piece in pieces {
-        add_piece(alloc, view, false, at, piece, made)?;
+        add_piece(false, at, piece, places)?;
         at += piece.len();
     }
     Ok(at)
@@ -138,24 +136,19 @@ fn add_pieces<'a>(
 
 // Adds the token of a piece that begins at this place.
 fn add_piece<'a>(
-    alloc: Global,
-    view: &View,
     initial: bool,
     at: usize,
     piece: &'a [u8],
-    made: &mut Made<'a>,
+    places: &mut Vec<Place<'a>>,
 ) -> Result<(), NoMemory>
-    requires place { at + length piece.now < 2 ^ 32 }
-    requires lists { AreLists view.now made.old.lists.items }
-    ensures added { OnOk result (Adds (AreOfPieces view.now at ((initial, piece.now) ∷ [])) made.old.tokens.items made.new.tokens.items) }
-    ensures lists { OnOk result (AreLists view.now made.new.lists.items) }
+    requires { at + length piece.now < 2 ^ 32 }
+    ensures { (dict : Dictionary) → OnOk result (Adds dict (AreOfPieces dict at ((initial, piece.now) ∷ [])) places.old.items places.new.items) }
 {
-    let token = Token {
+    places.push(Place {
         from: at as u32,
         to: (at + piece.len()) as u32,
-        text: Text::of(alloc, piece)?,
-        words: token_words(alloc, view, &mut made.lists, initial, piece)?,
-    };
-    made.tokens.push(token)?;
+        text: piece,
+        kind: Kind::Piece { initial },
+    })?;
     Ok(())
 }
