@@ -1,5 +1,5 @@
--- How far apart a link's ends may be: where both are the nearest of their lists and take one link alone, all words between are unlinked.
-use Rattle.std.proofs.Common.{◌≡◌, ℕ, zero, suc, ◌+◌, ◌-◌, ◌<◌, ◌≤◌, List, [], ◌∷◌, length, get_or, refl, sym, ap, ◌∙◌, subst, Option, Some, None, IsSome, is_none, inl, inr, false, cond, count_by, arith}
+-- How far apart a link's ends may be: where it is the nearest of both, all words between are unlinked.
+use Rattle.std.proofs.Common.{◌≡◌, ℕ, zero, suc, ◌+◌, ◌-◌, ◌<◌, ◌≤◌, List, [], ◌∷◌, length, get_or, refl, sym, ap, ◌∙◌, subst, Option, Some, None, IsSome, is_none, inl, inr, true, false, cond, count_by, arith}
 use Rattle.std.specs.List.{slice_get}
 use Rattle.std.proofs.lemmas.Bool.{cases_lt}
 use Rattle.std.proofs.lemmas.List.Sums.{sum_by-cons}
@@ -10,12 +10,12 @@ use Rattle.lg_gram.specs.Walks.{Walk, stay, forth, back, LinkFrom}
 use Rattle.lg_gram.specs.declared.disjunct.Disjunct.{Disjunct}
 use Rattle.lg_gram.specs.declared.linkage.Link.{Link}
 use Rattle.lg_member.proofs.Linked.{linked_at}
-use Rattle.lg_sharpen.specs.Bounds.{Fits}
+use Rattle.lg_sharpen.specs.Bounds.{Fits, IsNearest}
 
 some_is : (o : Option Disjunct) (d : Disjunct) → o ≡ Some d → IsSome o
 some_is o d e = subst (λ z. IsSome z) (sym e) refl
 
-none_since : (o : Option Disjunct) → (IsSome o → ⊥) → o ≡ None
+pub none_since : (o : Option Disjunct) → (IsSome o → ⊥) → o ≡ None
 none_since None n = refl
 none_since (Some d) n = absurd (n refl)
 
@@ -43,49 +43,39 @@ walk_keeps E P there back' a b (back i k j e w) h = walk_keeps E P there back' k
 abbrev Between : Link → ℕ → Type 0
 Between l k = (l.left < k) × (k < l.right)
 
--- a link, and its connectors, which are the nearest of their lists and take one link alone
-record IsNearest (g : Linkage) (l : Link) : Type 0 where
+-- a link that is the nearest of both its ends
+record IsLone (g : Linkage) (l : Link) : Type 0 where
   pub has : HasLink g l
-  pub first_left : l.lplace ≡ 0
-  pub first_right : l.rplace ≡ 0
-  pub one_left : (e : Link) → HasLink g e → e.left ≡ l.left → e.lplace ≡ l.lplace → e ≡ l
-  pub one_right : (e : Link) → HasLink g e → e.right ≡ l.right → e.rplace ≡ l.rplace → e ≡ l
+  pub left : IsNearest g true l
+  pub right : IsNearest g false l
 
-goes_right : (most : ℕ) (g : Linkage) → Fits most g → (l : Link) → IsNearest g l → (e : Link) → HasLink g e → Between l e.left → Between l e.right
+goes_right : (most : ℕ) (g : Linkage) → Fits most g → (l : Link) → IsLone g l → (e : Link) → HasLink g e → Between l e.left → Between l e.right
 goes_right most g f l n e he b =
     let b0 = b.0 in
     let b1 = b.1 in
     let w = f.rules.matched.forward e he in
-    let first_right = n.first_right in
     elim (cases_lt e.right l.right) [
       | inl h ↦ (omega arith, h)
       | inr h ↦ elim (cases_lt l.right e.right) [
         | inl far ↦ absurd (f.rules.planar l e n.has he b0 b1 far)
-        | inr near ↦ (let same : e.right ≡ l.right = omega arith in elim (cases_lt l.rplace e.rplace) [
-          | inl p ↦ absurd (let q = f.rules.ordered.on_left l e n.has he (sym same) p in omega arith)
-          | inr p ↦ absurd (let at : e.rplace ≡ l.rplace = omega arith in let q = ap (λ z. z.left) (n.one_right e he same at) in omega arith)
-        ])
+        | inr near ↦ (let same : e.right ≡ l.right = omega arith in let q : l.right - l.left ≤ e.right - e.left = n.right e he same in absurd (omega arith))
       ]
     ]
 
-goes_left : (most : ℕ) (g : Linkage) → Fits most g → (l : Link) → IsNearest g l → (e : Link) → HasLink g e → Between l e.right → Between l e.left
+goes_left : (most : ℕ) (g : Linkage) → Fits most g → (l : Link) → IsLone g l → (e : Link) → HasLink g e → Between l e.right → Between l e.left
 goes_left most g f l n e he b =
     let b0 = b.0 in
     let b1 = b.1 in
     let w = f.rules.matched.forward e he in
-    let first_left = n.first_left in
     elim (cases_lt l.left e.left) [
       | inl h ↦ (h, omega arith)
       | inr h ↦ elim (cases_lt e.left l.left) [
         | inl far ↦ absurd (f.rules.planar e l he n.has far b0 b1)
-        | inr near ↦ (let same : e.left ≡ l.left = omega arith in elim (cases_lt l.lplace e.lplace) [
-          | inl p ↦ absurd (let q = f.rules.ordered.on_right l e n.has he (sym same) p in omega arith)
-          | inr p ↦ absurd (let at : e.lplace ≡ l.lplace = omega arith in let q = ap (λ z. z.right) (n.one_left e he same at) in omega arith)
-        ])
+        | inr near ↦ (let same : e.left ≡ l.left = omega arith in let q : l.right - l.left ≤ e.right - e.left = n.left e he same in absurd (omega arith))
       ]
     ]
 
-all_unlinked : (most : ℕ) (g : Linkage) → Fits most g → (l : Link) → IsNearest g l → IsLinked g l.left → (k : ℕ) → l.left + 1 ≤ k → k < l.right → chosen_at g k ≡ None
+all_unlinked : (most : ℕ) (g : Linkage) → Fits most g → (l : Link) → IsLone g l → IsLinked g l.left → (k : ℕ) → l.left + 1 ≤ k → k < l.right → chosen_at g k ≡ None
 all_unlinked most g f l n end k a b =
     none_since (chosen_at g k) (λ linked.
     let walk = f.connected k l.left linked end in
@@ -95,19 +85,13 @@ all_unlinked most g f l n end k a b =
     let s = r.0 in
     omega arith)
 
-pub is_short : (most : ℕ) (g : Linkage) → Fits most g → (l : Link) → HasLink g l → (a b : Connector) → l.lplace ≡ 0 → l.rplace ≡ 0 → slice_get (rights_of g l.left) l.lplace ≡ Some a
-    → slice_get (lefts_of g l.right) l.rplace ≡ Some b → a.multi ≡ false → b.multi ≡ false → link_length l ≤ most
-is_short most g f l has a b p q ea eb ma mb =
-    let left = linked_at right_list refl g.chosen l.left l.lplace a ea in
-    let right = linked_at left_list refl g.chosen l.right l.rplace b eb in
+pub is_short : (most : ℕ) (g : Linkage) → Fits most g → (l : Link) → HasLink g l → IsNearest g true l → IsNearest g false l → link_length l ≤ most
+is_short most g f l has nl nr =
+    let j = f.rules.matched.joins l has in
+    let left = linked_at right_list refl g.chosen l.left l.lplace j.0 j.2 in
+    let right = linked_at left_list refl g.chosen l.right l.rplace j.1 j.3 in
     let inside = right.2 in
-    let n : IsNearest g l = record {
-      has = has;
-      first_left = p;
-      first_right = q;
-      one_left = λ e he s t. (f.rules.satisfied.on_right l.left l.lplace a ea).one ma e l he has s t refl refl;
-      one_right = λ e he s t. (f.rules.satisfied.on_left l.right l.rplace b eb).one mb e l he has s t refl refl;
-    } in
+    let n : IsLone g l = record { has = has; left = nl; right = nr } in
     let c : l.right - (l.left + 1) ≤ unlinked g = between_count g.chosen (l.left + 1) l.right (omega arith) (all_unlinked most g f l n (some_is (chosen_at g l.left) left.0 left.1)) in
     let few = f.few in
     let w = f.rules.matched.forward l has in

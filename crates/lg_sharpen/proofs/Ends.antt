@@ -1,6 +1,7 @@
 -- What the rules say of a link, seen from either end.
-use Rattle.std.proofs.Common.{◌≡◌, ℕ, ◌+◌, ◌-◌, ◌<◌, ◌≤◌, List, length, refl, sym, ap, ◌∙◌, subst, Some, Bool, true, false, not, arith}
+use Rattle.std.proofs.Common.{◌≡◌, ℕ, zero, suc, ◌+◌, ◌-◌, ◌<◌, ◌≤◌, ◌⊎◌, inl, inr, List, [], ◌∷◌, length, refl, sym, ap, ◌∙◌, subst, Some, Bool, true, false, not, Contains, arith}
 use Rattle.std.specs.List.{slice_get}
+use Rattle.std.proofs.lemmas.Bool.{cases_eq, cases_lt}
 use Rattle.std.proofs.lemmas.Option.{same_Some, slice_get-get_or}
 use Rattle.lg_gram.specs.Connectors.{Connector}
 use Rattle.lg_gram.specs.Linkages.{Linkage, link_length}
@@ -9,7 +10,7 @@ use Rattle.lg_gram.specs.declared.disjunct.Disjunct.{Disjunct}
 use Rattle.lg_gram.specs.declared.linkage.Link.{Link}
 use Rattle.lg_sharpen.specs.Sites.{own, place_on, across, MatchOn}
 use Rattle.lg_member.specs.Members.{list_on}
-use Rattle.lg_sharpen.specs.Bounds.{list_at, Fits, Allows, Covers}
+use Rattle.lg_sharpen.specs.Bounds.{list_at, Fits, IsNearest, Allows, Covers}
 use Rattle.lg_sharpen.specs.declared.site.Site.{Site}
 use Rattle.lg_member.proofs.Linked.{linked_at}
 use Rattle.lg_sharpen.proofs.Apart.{is_short}
@@ -17,6 +18,12 @@ use Rattle.lg_sharpen.proofs.Apart.{is_short}
 pub served : (most : ℕ) (g : Linkage) → Fits most g → (right : Bool) (i p : ℕ) (c : Connector) → slice_get (list_at right g i) p ≡ Some c → (l : Link) × HasLink g l × (own right l ≡ i) × (place_on right l ≡ p)
 served most g f true i p c e = (f.rules.satisfied.on_right i p c e).some
 served most g f false i p c e = (f.rules.satisfied.on_left i p c e).some
+
+-- a connector that is not multi has one link
+only : (most : ℕ) (g : Linkage) → Fits most g → (right : Bool) (l e : Link) → HasLink g l → HasLink g e → (c : Connector) → slice_get (list_at right g (own right l)) (place_on right l) ≡ Some c → c.multi ≡ false
+    → own right e ≡ own right l → place_on right e ≡ place_on right l → l ≡ e
+only most g f true l e h he c at m o p = (f.rules.satisfied.on_right l.left l.lplace c at).one m l e h he refl refl o p
+only most g f false l e h he c at m o p = (f.rules.satisfied.on_left l.right l.rplace c at).one m l e h he refl refl o p
 
 pub longer : (most : ℕ) (g : Linkage) → Fits most g → (right : Bool) (k l : Link) → HasLink g k → HasLink g l → own right k ≡ own right l → place_on right k < place_on right l → link_length k < link_length l
 longer most g f true k l hk hl e p =
@@ -40,10 +47,18 @@ pub is_across : (right : Bool) (l : Link) → l.left < l.right → own (not righ
 is_across true l h = let e : l.right ≡ l.left + (l.right - l.left) = omega arith in e
 is_across false l h = let e : l.left ≡ l.right - (l.right - l.left) = omega arith in e
 
-pub short_on : (most : ℕ) (g : Linkage) → Fits most g → (right : Bool) (l : Link) → HasLink g l → (a b : Site) → Allows g right l a → Allows g (not right) l b → a.nearest ≡ true → b.nearest ≡ true
-    → link_length l ≤ most
-short_on most g f true l h a b x y na nb = is_short most g f l h a.connector b.connector (x.nearest na).0 (y.nearest nb).0 x.connector y.connector (x.nearest na).1 (y.nearest nb).1
-short_on most g f false l h a b x y na nb = is_short most g f l h b.connector a.connector (y.nearest nb).0 (x.nearest na).0 y.connector x.connector (y.nearest nb).1 (x.nearest na).1
+pub short_on : (most : ℕ) (g : Linkage) → Fits most g → (right : Bool) (l : Link) → HasLink g l → IsNearest g right l → IsNearest g (not right) l → link_length l ≤ most
+short_on most g f true l h a b = is_short most g f l h a b
+short_on most g f false l h a b = is_short most g f l h b a
+
+-- the only link of a connector at the first place is the nearest
+pub only_is_nearest : (most : ℕ) (g : Linkage) → Fits most g → (right : Bool) (l : Link) → HasLink g l → (c : Connector) → slice_get (list_at right g (own right l)) (place_on right l) ≡ Some c → place_on right l ≡ 0
+    → c.multi ≡ false → IsNearest g right l
+only_is_nearest most g f right l h c at p m e he same =
+    elim (cases_lt (place_on right l) (place_on right e)) [
+      | inl far ↦ (let r = longer most g f right l e h he (sym same) far in omega arith)
+      | inr near ↦ (let q : place_on right e ≡ place_on right l = omega arith in let r = ap link_length (only most g f right l e h he c at m same q) in omega arith)
+    ]
 
 pub chosen_of : (g : Linkage) (right : Bool) (i p : ℕ) (c : Connector) → slice_get (list_at right g i) p ≡ Some c → (d : Disjunct) × (chosen_at g i ≡ Some d) × (i < length g.chosen)
 chosen_of g true i p c e = linked_at right_list refl g.chosen i p c e
@@ -63,3 +78,77 @@ covered most g f right i sites c q t e w =
     let s = c.each k.0 k.1 k.2 in
     let es : s.0 ≡ t = same_Some s.0 t (sym s.1 ∙ subst (λ z. slice_get sites z ≡ Some t) (sym k.3) e) in
     (k.0, k.1, k.2, k.3, subst (λ z. Allows g right k.0 z) es s.2)
+
+-- a link that is no longer than any other with the same end
+record Nearest (right : Bool) (i : ℕ) (links : List Link) : Type 0 where
+  pub link : Link
+  pub has : Contains links link
+  pub own_is : own right link ≡ i
+  pub least : (e : Link) → Contains links e → own right e ≡ i → link_length link ≤ link_length e
+
+abbrev Has : Bool → ℕ → List Link → Type 0
+Has right i links = (e : Link) × Contains links e × (own right e ≡ i)
+
+contains_tail : (y : Link) (ys : List Link) (x : Link) → Contains ys x → Contains (y ∷ ys) x
+contains_tail y ys x (k, w, e) = (suc k, omega arith, e)
+
+contains_cases : (y : Link) (ys : List Link) (x : Link) → Contains (y ∷ ys) x → (y ≡ x) ⊎ Contains ys x
+contains_cases y ys x (zero, w, e) = inl e
+contains_cases y ys x (suc k, w, e) = inr (k, omega arith, e)
+
+-- the nearer of a link and the nearest of the others
+nearer : (right : Bool) (i : ℕ) (x : Link) (xs : List Link) → own right x ≡ i → Nearest right i xs ⊎ (Has right i xs → ⊥) → Nearest right i (x ∷ xs)
+nearer right i x xs o (inr none) = record {
+  link = x;
+  has = (0, omega arith, refl);
+  own_is = o;
+  least = λ e c q. elim (contains_cases x xs e c) [ inl same ↦ (let r = ap link_length same in omega arith) | inr h ↦ absurd (none (e, h, q)) ];
+}
+nearer right i x xs o (inl n) =
+    elim (cases_lt (link_length x) (link_length n.link)) [
+      | inl less ↦ record {
+        link = x;
+        has = (0, omega arith, refl);
+        own_is = o;
+        least = λ e c q. elim (contains_cases x xs e c) [ inl same ↦ (let r = ap link_length same in omega arith) | inr h ↦ (let r = n.least e h q in omega arith) ];
+      }
+      | inr more' ↦ record {
+        link = n.link;
+        has = contains_tail x xs n.link n.has;
+        own_is = n.own_is;
+        least = λ e c q. elim (contains_cases x xs e c) [ inl same ↦ (let r = ap link_length same in omega arith) | inr h ↦ n.least e h q ];
+      }
+    ]
+
+passed : (right : Bool) (i : ℕ) (x : Link) (xs : List Link) → (own right x ≡ i → ⊥) → Nearest right i xs ⊎ (Has right i xs → ⊥) → Nearest right i (x ∷ xs) ⊎ (Has right i (x ∷ xs) → ⊥)
+passed right i x xs o (inr none) = inr (λ h. elim (contains_cases x xs h.0 h.1) [ inl same ↦ o (ap (λ z. own right z) same ∙ h.2) | inr c ↦ none (h.0, c, h.2) ])
+passed right i x xs o (inl n) = inl (record {
+  link = n.link;
+  has = contains_tail x xs n.link n.has;
+  own_is = n.own_is;
+  least = λ e c q. elim (contains_cases x xs e c) [ inl same ↦ absurd (o (ap (λ z. own right z) same ∙ q)) | inr h ↦ n.least e h q ];
+})
+
+nearest_of : (right : Bool) (i : ℕ) (links : List Link) → Nearest right i links ⊎ (Has right i links → ⊥)
+nearest_of right i [] = inr (λ h. let w = h.1.1 in omega arith)
+nearest_of right i (x ∷ xs) = elim (cases_eq (own right x) i) [ inl o ↦ inl (nearer right i x xs o (nearest_of right i xs)) | inr o ↦ passed right i x xs o (nearest_of right i xs) ]
+
+-- a link of the same place that is no longer: the link itself, or the nearest where it is to be the nearest of a first place
+pub near_link : (most : ℕ) (g : Linkage) → Fits most g → (right : Bool) (l : Link) → HasLink g l → (near : Bool) → (near ≡ true → place_on right l ≡ 0)
+    → (n : Link) × HasLink g n × (own right n ≡ own right l) × (place_on right n ≡ place_on right l) × (link_length n ≤ link_length l) × (near ≡ true → IsNearest g right n)
+near_link most g f right l h false p = (l, h, refl, refl, omega arith, λ e. absurd cc)
+near_link most g f right l h true p =
+    elim (nearest_of right (own right l) g.links) [
+      | inr none ↦ absurd (none (l, h, refl))
+      | inl n ↦ (
+        n.link,
+        n.has,
+        n.own_is,
+        elim (cases_lt (place_on right l) (place_on right n.link)) [
+          | inl far ↦ absurd (let r = longer most g f right l n.link h n.has (sym n.own_is) far in let q = n.least l h refl in omega arith)
+          | inr near ↦ (let q = p refl in omega arith)
+        ],
+        n.least l h refl,
+        λ e x hx same. n.least x hx (same ∙ n.own_is),
+      )
+    ]

@@ -10,38 +10,44 @@ use Rattle.lg_gram.specs.Linkages.{Linkage, link_length}
 use Rattle.lg_gram.specs.Rules.{HasLink}
 use Rattle.lg_gram.specs.declared.linkage.Link.{Link}
 use Rattle.lg_sharpen.specs.Sites.{own, place_on, across, MatchOn, Holds, HasPartner, IsFrom, IsBelow, IsFromOf, IsEndOf, IsAfter, IsAhead}
-use Rattle.lg_sharpen.specs.Bounds.{Fits, Allows, Covers, AllowsAll, IsNarrowed, Narrows, NarrowsAll}
+use Rattle.lg_sharpen.specs.Bounds.{Fits, IsNearest, AllowsGaps, Allows, Covers, AllowsAll, IsNarrowed, Narrows, NarrowsAll}
 use Rattle.lg_member.specs.Cells.{Table}
 use Rattle.lg_member.specs.declared.side.Side.{Side}
+use Rattle.lg_sharpen.specs.Filling.{MaySpan}
+use Rattle.lg_sharpen.specs.declared.gaps.Gaps.{Gaps}
 use Rattle.lg_sharpen.specs.declared.site.Site.{Site}
-use Rattle.lg_sharpen.proofs.Ends.{longer, joined, is_across, short_on, covered}
+use Rattle.lg_sharpen.proofs.Ends.{longer, joined, is_across, short_on, covered, near_link}
 
 match_same : (right : Bool) (a b c d : Connector) → a ≡ c → b ≡ d → MatchOn right a b → MatchOn right c d
 match_same right a b c d e f m = subst (λ z. MatchOn right z d) e (subst (λ z. MatchOn right a z) f m)
 
 -- a link has a partner of its site in the table, over its length
-has_partner : (right : Bool) (most i : ℕ) (table : Table Site) (g : Linkage) → Fits most g → AllowsAll g (not right) table → (l : Link) → HasLink g l → own right l ≡ i → (s asked : Site)
-    → Allows g right l s → asked.connector ≡ s.connector → asked.nearest ≡ s.nearest → HasPartner right most i table asked (link_length l)
-has_partner right most i table g f all l h o s asked a ec en =
+has_partner : (right : Bool) (most : ℕ) (gaps : Gaps) (i : ℕ) (table : Table Site) (g : Linkage) → Fits most g → AllowsGaps g gaps → AllowsAll g (not right) table → (l : Link) → HasLink g l → own right l ≡ i
+    → (s asked : Site) → Allows g right l s → asked.connector ≡ s.connector → (asked.nearest ≡ true → IsNearest g right l) → HasPartner right most gaps i table asked (link_length l)
+has_partner right most gaps i table g f spans all l h o s asked a ec near =
     let u = all l h in
     let j = joined most g f right l h in
-    let far = is_across right l (f.rules.matched.forward l h) in
+    let far = subst (λ z. own (not right) l ≡ across right z (link_length l)) o (is_across right l (f.rules.matched.forward l h)) in
     let x : j.0 ≡ asked.connector = same_Some j.0 s.connector (sym j.2 ∙ a.connector) ∙ sym ec in
     let y : j.1 ≡ u.0.connector = same_Some j.1 u.0.connector (sym j.3 ∙ u.2.connector) in (
       u.0,
-      subst (λ z. Holds table z u.0) (subst (λ z. own (not right) l ≡ across right z (link_length l)) o far) u.1,
+      subst (λ z. Holds table z u.0) far u.1,
       record {
         from = u.2.from;
         end = u.2.end;
-        short = λ na nb. short_on most g f right l h s u.0 a u.2 (sym en ∙ na) nb;
+        own = λ n. subst (λ z. MaySpan right gaps z (link_length l)) o (spans right l h (near n));
+        lone = λ n. record {
+          span = subst (λ z. MaySpan (not right) gaps z (link_length l)) far (spans (not right) l h (u.2.nearest n));
+          short = λ m. short_on most g f right l h (near m) (u.2.nearest n);
+        };
         match_at = match_same right j.0 j.1 asked.connector u.0.connector x y j.4;
       },
     )
 
-pub narrowed_is : (right : Bool) (most i : ℕ) (table : Table Site) (sites : List Site) (p : ℕ) (s asked r : Site) → slice_get sites p ≡ Some s → IsFromOf sites p asked.span.from → IsEndOf sites p asked.span.end
-    → asked.connector ≡ s.connector → asked.nearest ≡ s.nearest → IsFrom right most i table asked r.span.from → IsBelow right most i table asked r.span.end → r.connector ≡ s.connector → r.nearest ≡ s.nearest
-    → IsNarrowed right most i table sites p r
-narrowed_is right most i table sites p s asked r at from end ec en first last rc rn g f all cov l h o pl =
+-- the distances that the sites beside a place leave have the length of its links
+left_by_sides : (right : Bool) (most i : ℕ) (g : Linkage) → Fits most g → (sites : List Site) (p : ℕ) (s asked : Site) → slice_get sites p ≡ Some s → IsFromOf sites p asked.span.from → IsEndOf sites p asked.span.end
+    → Covers g right i sites → (l : Link) → HasLink g l → own right l ≡ i → place_on right l ≡ p → Allows g right l s × (asked.span.from ≤ link_length l) × (link_length l < asked.span.end)
+left_by_sides right most i g f sites p s asked at from end cov l h o pl =
     let c = cov.each l h o in
     let es : c.0 ≡ s = same_Some c.0 s (sym c.1 ∙ subst (λ z. slice_get sites z ≡ Some s) (sym pl) at) in
     let a : Allows g right l s = subst (λ z. Allows g right l z) es c.2 in
@@ -59,91 +65,105 @@ narrowed_is right most i table sites p s asked r at from end ec en first last rc
     let less = longer most g f right l k.0 h k.1 (o ∙ sym k.2) (omega arith) in
     let kf = k.4.end in
     omega arith in
-    let low : asked.span.from ≤ link_length l = from (link_length l) s at a.from before in
-    let high : link_length l < asked.span.end = end (link_length l) s at a.end after in
-    let has = has_partner right most i table g f all l h o s asked a ec en in
+    (a, from (link_length l) s at a.from before, end (link_length l) s at a.end after)
+
+pub narrowed_is : (right : Bool) (most : ℕ) (gaps : Gaps) (i : ℕ) (table : Table Site) (sites : List Site) (p : ℕ) (s near far r : Site) → slice_get sites p ≡ Some s → IsFromOf sites p near.span.from
+    → IsEndOf sites p near.span.end → near.connector ≡ s.connector → (near.nearest ≡ true → p ≡ 0) → far.span ≡ near.span → far.connector ≡ s.connector → far.nearest ≡ s.nearest
+    → IsFrom right most gaps i table near r.span.from → IsBelow right most gaps i table far r.span.end → r.connector ≡ s.connector → r.nearest ≡ s.nearest → IsNarrowed right most gaps i table sites p r
+narrowed_is right most gaps i table sites p s near far r at from end en nn es ef nf first last rc rn g f spans all cov l h o pl =
+    let x = left_by_sides right most i g f sites p s near at from end cov l h o pl in
+    let a = x.0 in
+    let x1 = x.1 in
+    let x2 = x.2 in
+    let k = near_link most g f right l h near.nearest (λ n. pl ∙ nn n) in
+    let y = left_by_sides right most i g f sites p s near at from end cov k.0 k.1 (k.2 ∙ o) (k.3 ∙ pl) in
+    let y1 = y.1 in
+    let nearer = first (link_length k.0) y.2 y.1 (has_partner right most gaps i table g f spans all k.0 k.1 (k.2 ∙ o) s near y.0 en k.5) in
+    let k4 = k.4 in
+    let low : far.span.from ≤ link_length l = (let q = ap (λ z. z.from) es in omega arith) in
+    let high : link_length l < far.span.end = (let q = ap (λ z. z.end) es in omega arith) in
     record {
       connector = a.connector ∙ ap (λ z. Some z) (sym rc);
-      from = first (link_length l) high low has;
-      end = last (link_length l) high low has;
-      nearest = λ x. let n = a.nearest (sym rn ∙ x) in (n.0, ap (λ z. z.multi) rc ∙ n.1);
+      from = omega arith;
+      end = last (link_length l) high low (has_partner right most gaps i table g f spans all l h o s far a ef (λ n. a.nearest (sym nf ∙ n)));
+      nearest = λ n. a.nearest (sym rn ∙ n);
     }
 
-pub narrow_set : (right : Bool) (most i : ℕ) (table : Table Site) (old now : List Site) (p : ℕ) (r : Site) → p < length now → IsNarrowed right most i table now p r → Narrows right most i table old now
-    → Narrows right most i table old (set now p r)
-narrow_set right most i table old now p r w is n g f a c =
-    let v = n g f a c in
+pub narrow_set : (right : Bool) (most : ℕ) (gaps : Gaps) (i : ℕ) (table : Table Site) (old now : List Site) (p : ℕ) (r : Site) → p < length now → IsNarrowed right most gaps i table now p r → Narrows right most gaps i table old now
+    → Narrows right most gaps i table old (set now p r)
+narrow_set right most gaps i table old now p r w is n g f e a c =
+    let v = n g f e a c in
     record {
       same_length = length-set now p r ∙ v.same_length;
       each = λ l h o. elim (cases_eq p (place_on right l)) [
-        | inl e ↦ (let q = place_on right l in let at : slice_get (set now p r) q ≡ Some r = grind (arith, elements) in (r, at, is g f a v l h o (sym e)))
+        | inl same ↦ (let q = place_on right l in let at : slice_get (set now p r) q ≡ Some r = grind (arith, elements) in (r, at, is g f e a v l h o (sym same)))
         | inr e ↦ (let q = place_on right l in let at : slice_get (set now p r) q ≡ slice_get now q = grind (arith, elements) in let x = v.each l h o in (x.0, at ∙ x.1, x.2))
       ];
     }
 
-pub narrows_none : (right : Bool) (most : ℕ) (sides : List Side) (table : Table Site) (lists : List (List Site)) → NarrowsAll right most sides table lists lists
-narrows_none right most sides table lists = record { long = refl; each = λ g f a k side at c. c }
+pub narrows_none : (right : Bool) (most : ℕ) (gaps : Gaps) (sides : List Side) (table : Table Site) (lists : List (List Site)) → NarrowsAll right most gaps sides table lists lists
+narrows_none right most gaps sides table lists = record { long = refl; each = λ g f e a k side at c. c }
 
-pub narrows_more : (right : Bool) (most : ℕ) (sides : List Side) (table : Table Site) (old now : List (List Site)) (k : ℕ) (side : Side) (u w : List Site) → slice_get sides k ≡ Some side → slice_get now k ≡ Some u
-    → Narrows right most side.position table u w → NarrowsAll right most sides table old now → NarrowsAll right most sides table old (set now k w)
-narrows_more right most sides table old now k side u w at is n all = record {
+pub narrows_more : (right : Bool) (most : ℕ) (gaps : Gaps) (sides : List Side) (table : Table Site) (old now : List (List Site)) (k : ℕ) (side : Side) (u w : List Site) → slice_get sides k ≡ Some side → slice_get now k ≡ Some u
+    → Narrows right most gaps side.position table u w → NarrowsAll right most gaps sides table old now → NarrowsAll right most gaps sides table old (set now k w)
+narrows_more right most gaps sides table old now k side u w at is n all = record {
   long = length-set now k w ∙ all.long;
-  each = λ g f a j s atj c.
-      let v = all.each g f a j s atj c in
+  each = λ g f spans a j s atj c.
+      let v = all.each g f spans a j s atj c in
       elim (cases_eq k j) [
         | inl e ↦ (let es : s ≡ side = same_Some s side (sym atj ∙ subst (λ z. slice_get sides z ≡ Some side) e at) in
             let eu : v.0 ≡ u = same_Some v.0 u (sym v.1 ∙ subst (λ z. slice_get now z ≡ Some u) e is) in
             let cu : Covers g right side.position u = subst (λ z. Covers g right z.position u) es (subst (λ z. Covers g right s.position z) eu v.2) in
             let inside = slice_get_within now k u is in
             let new : slice_get (set now k w) j ≡ Some w = grind (arith, elements) in
-            (w, new, subst (λ z. Covers g right z.position w) (sym es) (n g f a cu)))
+            (w, new, subst (λ z. Covers g right z.position w) (sym es) (n g f spans a cu)))
         | inr e ↦ (let other : slice_get (set now k w) j ≡ slice_get now j = grind (arith, elements) in (v.0, other ∙ v.1, v.2))
       ];
 }
 
 -- the length stays while sites are narrowed
-pub record NarrowsSame (right : Bool) (most i : ℕ) (table : Table Site) (old now : List Site) : Type 0 where
+pub record NarrowsSame (right : Bool) (most : ℕ) (gaps : Gaps) (i : ℕ) (table : Table Site) (old now : List Site) : Type 0 where
   pub long : length now ≡ length old
-  pub narrows : Narrows right most i table old now
+  pub narrows : Narrows right most gaps i table old now
 
-pub same_none : (right : Bool) (most i : ℕ) (table : Table Site) (sites : List Site) → NarrowsSame right most i table sites sites
-same_none right most i table sites = record { long = refl; narrows = λ g f a c. c }
+pub same_none : (right : Bool) (most : ℕ) (gaps : Gaps) (i : ℕ) (table : Table Site) (sites : List Site) → NarrowsSame right most gaps i table sites sites
+same_none right most gaps i table sites = record { long = refl; narrows = λ g f e a c. c }
 
-pub same_more : (right : Bool) (most i : ℕ) (table : Table Site) (old now : List Site) (p : ℕ) (r : Site) → p < length now → IsNarrowed right most i table now p r → NarrowsSame right most i table old now
-    → NarrowsSame right most i table old (set now p r)
-same_more right most i table old now p r w is n = record { long = length-set now p r ∙ n.long; narrows = narrow_set right most i table old now p r w is n.narrows }
+pub same_more : (right : Bool) (most : ℕ) (gaps : Gaps) (i : ℕ) (table : Table Site) (old now : List Site) (p : ℕ) (r : Site) → p < length now → IsNarrowed right most gaps i table now p r → NarrowsSame right most gaps i table old now
+    → NarrowsSame right most gaps i table old (set now p r)
+same_more right most gaps i table old now p r w is n = record { long = length-set now p r ∙ n.long; narrows = narrow_set right most gaps i table old now p r w is n.narrows }
 
 -- no partner is nearer, and none is as far
-abbrev pub NoneBelow : Bool → ℕ → ℕ → Table Site → Site → ℕ → Type 0
-NoneBelow right most i table s e = (d : ℕ) → d < e → s.span.from ≤ d → HasPartner right most i table s d → ⊥
+abbrev pub NoneBelow : Bool → ℕ → Gaps → ℕ → Table Site → Site → ℕ → Type 0
+NoneBelow right most gaps i table s e = (d : ℕ) → d < e → s.span.from ≤ d → HasPartner right most gaps i table s d → ⊥
 
-pub none_more : (right : Bool) (most i : ℕ) (table : Table Site) (s : Site) (e : ℕ) (b : Bool) → (HasPartner right most i table s e → b ≡ true) → b ≡ false → NoneBelow right most i table s e
-    → NoneBelow right most i table s (e + 1)
-none_more right most i table s e b found no' n d w from has =
+pub none_more : (right : Bool) (most : ℕ) (gaps : Gaps) (i : ℕ) (table : Table Site) (s : Site) (e : ℕ) (b : Bool) → (HasPartner right most gaps i table s e → b ≡ true) → b ≡ false → NoneBelow right most gaps i table s e
+    → NoneBelow right most gaps i table s (e + 1)
+none_more right most gaps i table s e b found no' n d w from has =
     elim (cases_lt d e) [
       | inl h ↦ n d h from has
-      | inr h ↦ (let q : d ≡ e = omega arith in let f : ◌≡◌ {A = Bool} true false = sym (found (subst (λ z. HasPartner right most i table s z) q has)) ∙ no' in absurd cc)
+      | inr h ↦ (let q : d ≡ e = omega arith in let f : ◌≡◌ {A = Bool} true false = sym (found (subst (λ z. HasPartner right most gaps i table s z) q has)) ∙ no' in absurd cc)
     ]
 
-pub none_below : (right : Bool) (most i : ℕ) (table : Table Site) (s : Site) (e : ℕ) → NoneBelow right most i table s e → IsFrom right most i table s e
-none_below right most i table s e n d w from has = elim (cases_lt d e) [ inl h ↦ absurd (n d h from has) | inr h ↦ h ]
+pub none_below : (right : Bool) (most : ℕ) (gaps : Gaps) (i : ℕ) (table : Table Site) (s : Site) (e : ℕ) → NoneBelow right most gaps i table s e → IsFrom right most gaps i table s e
+none_below right most gaps i table s e n d w from has = elim (cases_lt d e) [ inl h ↦ absurd (n d h from has) | inr h ↦ h ]
 
-pub none_at_all : (right : Bool) (most i : ℕ) (table : Table Site) (s : Site) (e : ℕ) → s.span.end ≤ e → NoneBelow right most i table s e → IsFrom right most i table s s.span.end
-none_at_all right most i table s e h n d w from has = absurd (n d (omega arith) from has)
+pub none_at_all : (right : Bool) (most : ℕ) (gaps : Gaps) (i : ℕ) (table : Table Site) (s : Site) (e : ℕ) → s.span.end ≤ e → NoneBelow right most gaps i table s e → IsFrom right most gaps i table s s.span.end
+none_at_all right most gaps i table s e h n d w from has = absurd (n d (omega arith) from has)
 
-abbrev pub NoneFrom : Bool → ℕ → ℕ → Table Site → Site → ℕ → Type 0
-NoneFrom right most i table s e = (d : ℕ) → d < s.span.end → e ≤ d → s.span.from ≤ d → HasPartner right most i table s d → ⊥
+abbrev pub NoneFrom : Bool → ℕ → Gaps → ℕ → Table Site → Site → ℕ → Type 0
+NoneFrom right most gaps i table s e = (d : ℕ) → d < s.span.end → e ≤ d → s.span.from ≤ d → HasPartner right most gaps i table s d → ⊥
 
-pub none_before : (right : Bool) (most i : ℕ) (table : Table Site) (s : Site) (e : ℕ) (b : Bool) → s.span.from < e → (HasPartner right most i table s (e - 1) → b ≡ true) → b ≡ false
-    → NoneFrom right most i table s e → NoneFrom right most i table s (e - 1)
-none_before right most i table s e b above found no' n d w g from has =
+pub none_before : (right : Bool) (most : ℕ) (gaps : Gaps) (i : ℕ) (table : Table Site) (s : Site) (e : ℕ) (b : Bool) → s.span.from < e → (HasPartner right most gaps i table s (e - 1) → b ≡ true) → b ≡ false
+    → NoneFrom right most gaps i table s e → NoneFrom right most gaps i table s (e - 1)
+none_before right most gaps i table s e b above found no' n d w g from has =
     elim (cases_lt d e) [
-      | inl h ↦ (let q : d ≡ e - 1 = omega arith in let f : ◌≡◌ {A = Bool} true false = sym (found (subst (λ z. HasPartner right most i table s z) q has)) ∙ no' in absurd cc)
+      | inl h ↦ (let q : d ≡ e - 1 = omega arith in let f : ◌≡◌ {A = Bool} true false = sym (found (subst (λ z. HasPartner right most gaps i table s z) q has)) ∙ no' in absurd cc)
       | inr h ↦ n d w h from has
     ]
 
-pub none_from : (right : Bool) (most i : ℕ) (table : Table Site) (s : Site) (e : ℕ) → NoneFrom right most i table s e → IsBelow right most i table s e
-none_from right most i table s e n d w from has = elim (cases_lt d e) [ inl h ↦ h | inr h ↦ absurd (n d w h from has) ]
+pub none_from : (right : Bool) (most : ℕ) (gaps : Gaps) (i : ℕ) (table : Table Site) (s : Site) (e : ℕ) → NoneFrom right most gaps i table s e → IsBelow right most gaps i table s e
+none_from right most gaps i table s e n d w from has = elim (cases_lt d e) [ inl h ↦ h | inr h ↦ absurd (n d w h from has) ]
 
 -- the distances that the sites beside a place leave
 pub from_after : (sites : List Site) (p : ℕ) (s t : Site) (r : ℕ) → slice_get sites p ≡ Some s → (q : ℕ) → q + 1 ≡ p → slice_get sites q ≡ Some t → IsAfter s.span.from t.span.from r → IsFromOf sites p r

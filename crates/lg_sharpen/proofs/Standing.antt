@@ -13,11 +13,12 @@ use Rattle.lg_sharpen.specs.Sites.{own, place_on, Holds, IsWider, IsTableOf, Are
 use Rattle.lg_member.specs.Cells.{Table}
 use Rattle.lg_member.specs.Laws.{MembersGoByRounds}
 use Rattle.lg_member.specs.Members.{list_on, side_on, IsSideAt, IsKnown, AreUsed, Keeps, are_on}
-use Rattle.lg_sharpen.specs.Bounds.{list_at, Fits, Allows, Covers, AllowsAll, NarrowsAll, IsOpen, AreOpen, AreChosen, CoversAll, KeepsStanding, KeepsChosen}
+use Rattle.lg_sharpen.specs.Bounds.{list_at, Fits, AllowsGaps, Allows, Covers, AllowsAll, NarrowsAll, IsOpen, AreOpen, AreChosen, CoversAll, Stands, KeepsStanding, KeepsChosen}
 use Rattle.lg_member.specs.declared.side.Side.{Side}
+use Rattle.lg_sharpen.specs.declared.gaps.Gaps.{Gaps}
 use Rattle.lg_sharpen.specs.declared.site.Site.{Site}
 use Rattle.lg_member.specs.declared.member.Member.{Member}
-use Rattle.lg_sharpen.proofs.Ends.{joined, chosen_of, list_of, covered}
+use Rattle.lg_sharpen.proofs.Ends.{joined, chosen_of, list_of, covered, only_is_nearest}
 
 -- which lists are open
 pub record OpenUpTo (lists : List (List Site)) (k : ℕ) (flags : List Bool) : Type 0 where
@@ -56,11 +57,11 @@ allows_wider g right l s w a is =
       connector = a.connector ∙ ap (λ z. Some z) (sym is.connector);
       from = omega arith;
       end = omega arith;
-      nearest = λ n. let r = a.nearest (is.nearest n) in (r.0, ap (λ z. z.multi) is.connector ∙ r.1);
+      nearest = λ n. a.nearest (is.nearest n);
     }
 
 -- the side of the member that a linkage uses at a position
-at_member : (g : Linkage) (right : Bool) (i : ℕ) (d : Disjunct) (sides : List Side) (m : Member) → chosen_at g i ≡ Some d → m.position ≡ i → m.disjunct.now ≡ d
+pub at_member : (g : Linkage) (right : Bool) (i : ℕ) (d : Disjunct) (sides : List Side) (m : Member) → chosen_at g i ≡ Some d → m.position ≡ i → m.disjunct.now ≡ d
     → (s : IsSideAt sides (side_on right m) m.position (list_on right m.disjunct.now)) → (s.side.position ≡ i) × (list_at right g s.side.position ≡ s.side.list.now)
 at_member g right i d sides m e ei ed s =
     let p = s.position ∙ ei in
@@ -98,10 +99,11 @@ is_flagged most g f right i d sides lists flags m e ei ed s covers are =
     let c = covers (side_on right m) s.side s.at at.1 in
     get_or_from_slice_get flags (side_on right m) true false (are.each (side_on right m) c.0 c.1 (all_open most g f right s.side.position c.0 c.2))
 
-pub round_keeps : (most : ℕ) (lefts rights : List Side) (ll rl ll' rl' : List (List Site)) (lt rt : Table Site) (ms new : List Member) (lu ru lo ro : List Bool) → All (IsKnown lefts rights) ms → AreUsed false (length lefts) ms lu
-    → AreUsed true (length rights) ms ru → IsTableOf lefts lu ll lt → NarrowsAll true most rights lt rl rl' → IsTableOf rights ru rl' rt → NarrowsAll false most lefts rt ll ll' → AreOpen ll' lo → AreOpen rl' ro
+pub round_keeps : (most : ℕ) (lefts rights : List Side) (ll rl ll' rl' : List (List Site)) (gaps : Gaps) (lt rt : Table Site) (ms new : List Member) (lu ru lo ro : List Bool) → All (IsKnown lefts rights) ms
+    → ((g : Linkage) → Fits most g → Stands g lefts rights ll rl ms → AllowsGaps g gaps) → AreUsed false (length lefts) ms lu
+    → AreUsed true (length rights) ms ru → IsTableOf lefts lu ll lt → NarrowsAll true most gaps rights lt rl rl' → IsTableOf rights ru rl' rt → NarrowsAll false most gaps lefts rt ll ll' → AreOpen ll' lo → AreOpen rl' ro
     → Keeps (are_on lo ro) ms new → KeepsStanding most lefts rights ll rl ms ll' rl' new
-round_keeps most lefts rights ll rl ll' rl' lt rt ms new lu ru lo ro known ul ur tl nr tr nl ol or' keeps =
+round_keeps most lefts rights ll rl ll' rl' gaps lt rt ms new lu ru lo ro known spans ul ur tl nr tr nl ol or' keeps =
     let kl : (m : Member) → Contains ms m → IsSideAt lefts m.left m.position m.disjunct.now.left = λ m c. (All-contains (IsKnown lefts rights) ms m known c).left in
     let kr : (m : Member) → Contains ms m → IsSideAt rights m.right m.position m.disjunct.now.right = λ m c. (All-contains (IsKnown lefts rights) ms m known c).right in
     record {
@@ -110,9 +112,9 @@ round_keeps most lefts rights ll rl ll' rl' lt rt ms new lu ru lo ro known ul ur
       long_right = nr.long;
       stands = λ g f s.
           let al = allows_all most g f false lefts ll lt ms lu s.chosen kl ul tl s.left in
-          let cr : CoversAll g true rights rl' = λ k side at q. nr.each g f al k side at (s.right k side at q) in
+          let cr : CoversAll g true rights rl' = λ k side at q. nr.each g f (spans g f s) al k side at (s.right k side at q) in
           let ar = allows_all most g f true rights rl' rt ms ru s.chosen kr ur tr cr in
-          let cl : CoversAll g false lefts ll' = λ k side at q. nl.each g f ar k side at (s.left k side at q) in
+          let cl : CoversAll g false lefts ll' = λ k side at q. nl.each g f (spans g f s) ar k side at (s.left k side at q) in
           record {
             chosen = λ i d c.
                 let m = s.chosen i d c in
@@ -137,7 +139,7 @@ keeps_more law most lefts rights ll rl ll' rl' ll'' rl'' old now new s k = recor
   stands = λ g f t. k.stands g f (s.stands g f t);
 }
 
-right_within : (most : ℕ) (g : Linkage) → Fits most g → (l : Link) → HasLink g l → l.right < length g.chosen
+pub right_within : (most : ℕ) (g : Linkage) → Fits most g → (l : Link) → HasLink g l → l.right < length g.chosen
 right_within most g f l h = let j = joined most g f true l h in (chosen_of g false l.right l.rplace j.1 j.3).2
 
 -- at the start all links are allowed
@@ -159,6 +161,7 @@ starts most g f right n sides lists en a k side at e =
             let fwd = f.rules.matched.forward l h in
             let inside = right_within most g f l h in
             let within : l.right < n = omega arith in
+            let connector = subst (λ z. slice_get (list_at right g z) (place_on right l) ≡ Some t.0.connector) (sym o) (subst (λ z. slice_get z (place_on right l) ≡ Some t.0.connector) (sym e) s.connector) in
             let reach : l.right - l.left < r.0 = r.1 l fwd within o in
             let sf = s.from in
             let se = s.end_is in
@@ -167,10 +170,10 @@ starts most g f right n sides lists en a k side at e =
               t.0,
               t.1,
               record {
-                connector = subst (λ z. slice_get (list_at right g z) (place_on right l) ≡ Some t.0.connector) (sym o) (subst (λ z. slice_get z (place_on right l) ≡ Some t.0.connector) (sym e) s.connector);
+                connector = connector;
                 from = from;
                 end = end;
-                nearest = s.nearest;
+                nearest = λ n. let q = s.nearest n in only_is_nearest most g f right l h t.0.connector connector q.0 q.1;
               },
             );
       },

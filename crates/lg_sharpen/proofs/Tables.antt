@@ -10,7 +10,9 @@ use Rattle.std.proofs.lemmas.List.{map-append}
 use Rattle.lg_gram.specs.Connectors.{Connector}
 use Rattle.lg_member.specs.Cells.{Table, Stands, Adds, class_of}
 use Rattle.lg_member.specs.declared.side.Side.{Side}
-use Rattle.lg_sharpen.specs.Sites.{MeetsOver, IsWider, across, IsHeld, AddsSites, IsTableOf, HasPartner, IsStarted, AreStarted, AreStartedAll, IsReach, items_in}
+use Rattle.lg_sharpen.specs.Sites.{MatchOn, MeetsOver, MayBeLone, IsWider, across, IsHeld, AddsSites, IsTableOf, HasPartner, IsStarted, AreStarted, AreStartedAll, IsReach, items_in}
+use Rattle.lg_sharpen.specs.Filling.{MaySpan}
+use Rattle.lg_sharpen.specs.declared.gaps.Gaps.{Gaps}
 use Rattle.lg_sharpen.specs.declared.site.Site.{Site}
 
 abbrev pub items_of : Vec Site → List Site
@@ -76,17 +78,24 @@ table_unused sides used lists k table no' t = record {
 pub table_all : (sides : List Side) (used : List Bool) (lists : List (List Site)) (k : ℕ) (table : Table Site) → length sides ≤ k → TableSoFar sides used lists k table → IsTableOf sides used lists table
 table_all sides used lists k table h t j side sites p s at u is atp = let w = slice_get_within sides j side at in t.each j side sites p s (omega arith) at u is atp
 
-same_caps : (right : Bool) (most d : ℕ) (s x : Site) → MeetsOver right most d s x → x.connector.caps ≡ s.connector.caps
-same_caps true most d s x m = sym m.match_at.capitals
-same_caps false most d s x m = m.match_at.capitals
+same_caps : (right : Bool) (a b : Connector) → MatchOn right a b → b.caps ≡ a.caps
+same_caps true a b m = sym m.capitals
+same_caps false a b m = m.capitals
 
 -- what meets a site stands in the cell of its capital letters
-pub partner_found : (right : Bool) (most i : ℕ) (table : Table Site) (s : Site) (d j class : ℕ) (cell : List Site) (r : Bool) → j ≡ across right i d → class ≡ class_of s.connector.caps
-    → ((x : Site) → Contains cell x ↔ Stands table j class x) → ((r ≡ true) ↔ Any (MeetsOver right most d s) cell) → HasPartner right most i table s d → r ≡ true
-partner_found right most i table s d j class cell r ej ec at found p =
-    let e : class_of p.0.connector.caps ≡ class = ap class_of (same_caps right most d s p.0 p.2) ∙ sym ec in
-    let c = (at p.0).1 (subst (λ z. Stands table j z p.0) e (subst (λ z. Stands table z (class_of p.0.connector.caps) p.0) (sym ej) p.1)) in
-    found.1 (c.0, p.0, c.1, c.2, p.2)
+pub partner_found : (right : Bool) (most : ℕ) (gaps : Gaps) (i : ℕ) (table : Table Site) (s : Site) (d j class : ℕ) (cell : List Site) (lone r : Bool) → ((lone ≡ true) ↔ MayBeLone right most gaps i d s.nearest) → j ≡ across right i d → class ≡ class_of s.connector.caps → ((x : Site) → Contains cell x ↔ Stands table j class x)
+    → ((r ≡ true) ↔ Any (MeetsOver right lone d s) cell) → HasPartner right most gaps i table s d → r ≡ true
+partner_found right most gaps i table s d j class cell lone r one ej ec at found p =
+    let x = p.0 in
+    let is = p.2 in
+    let e : class_of x.connector.caps ≡ class = ap class_of (same_caps right s.connector x.connector is.match_at) ∙ sym ec in
+    let c = (at x).1 (subst (λ z. Stands table j z x) e (subst (λ z. Stands table z (class_of x.connector.caps) x) (sym ej) p.1)) in
+    found.1 (c.0, x, c.1, c.2, record { from = is.from; end = is.end; nearest = λ n. one.1 (is.lone n); match_at = is.match_at })
+
+-- no partner is there over a gap that is shut
+pub shut_off : (right : Bool) (most : ℕ) (gaps : Gaps) (i : ℕ) (table : Table Site) (s : Site) (d : ℕ) (near : Bool) → ((near ≡ true) ↔ (s.nearest ≡ true → MaySpan right gaps i d)) → near ≡ false
+    → HasPartner right most gaps i table s d → ⊥
+shut_off right most gaps i table s d near iff off p = let is = p.2 in let f : ◌≡◌ {A = Bool} true false = sym (iff.1 is.own) ∙ off in absurd cc
 
 -- the sites of a list before anything is known
 pub record StartedUpTo (cs : List Connector) (end p : ℕ) (sites : List Site) : Type 0 where

@@ -9,8 +9,10 @@ use Rattle.lg_gram.specs.declared.disjunct.Disjunct.{Disjunct}
 use Rattle.lg_gram.specs.declared.linkage.Link.{Link}
 use Rattle.lg_member.specs.Cells.{Table}
 use Rattle.lg_member.specs.Members.{AreLeft, Have}
+use Rattle.lg_sharpen.specs.Filling.{MaySpan}
 use Rattle.lg_sharpen.specs.Sites.{own, place_on, Holds}
 use Rattle.lg_member.specs.declared.side.Side.{Side}
+use Rattle.lg_sharpen.specs.declared.gaps.Gaps.{Gaps}
 use Rattle.lg_sharpen.specs.declared.site.Site.{Site}
 use Rattle.lg_member.specs.declared.member.Member.{Member}
 
@@ -24,12 +26,20 @@ pub record Fits (most : ℕ) (g : Linkage) : Type 0 where
   pub connected : IsConnected (IsLinked g) (LinkFrom (HasLink g))
   pub few : unlinked g < most
 
+-- no link of the position at this end, on the same side of it, is nearer
+abbrev pub IsNearest : Linkage → Bool → Link → Type 0
+IsNearest g right l = (e : Link) → HasLink g e → own right e ≡ own right l → link_length l ≤ link_length e
+
+-- nearest links span no gap that is shut
+abbrev pub AllowsGaps : Linkage → Gaps → Type 0
+AllowsGaps g gaps = (right : Bool) (l : Link) → HasLink g l → IsNearest g right l → MaySpan right gaps (own right l) (link_length l)
+
 -- the site is that of the link's end to the right, or to the left, and its distances have the link's length
 pub record Allows (g : Linkage) (right : Bool) (l : Link) (s : Site) : Type 0 where
   pub connector : slice_get (list_at right g (own right l)) (place_on right l) ≡ Some s.connector
   pub from : s.span.from ≤ link_length l
   pub end : link_length l < s.span.end
-  pub nearest : s.nearest ≡ true → (place_on right l ≡ 0) × (s.connector.multi ≡ false)
+  pub nearest : s.nearest ≡ true → IsNearest g right l
 
 -- the sites are those of the list of position i, and allow all its links
 pub record Covers (g : Linkage) (right : Bool) (i : ℕ) (sites : List Site) : Type 0 where
@@ -45,17 +55,17 @@ abbrev pub AllowsAll : Linkage → Bool → Table Site → Type 0
 AllowsAll g right table = (l : Link) → HasLink g l → (s : Site) × Holds table (own right l) s × Allows g right l s
 
 -- the site allows all links of the place that the sites allow
-abbrev pub IsNarrowed : Bool → ℕ → ℕ → Table Site → List Site → ℕ → Site → Type 0
-IsNarrowed right most i table sites p r =
-    (g : Linkage) → Fits most g → AllowsAll g (not right) table → Covers g right i sites → (l : Link) → HasLink g l → own right l ≡ i → place_on right l ≡ p → Allows g right l r
+abbrev pub IsNarrowed : Bool → ℕ → Gaps → ℕ → Table Site → List Site → ℕ → Site → Type 0
+IsNarrowed right most gaps i table sites p r =
+    (g : Linkage) → Fits most g → AllowsGaps g gaps → AllowsAll g (not right) table → Covers g right i sites → (l : Link) → HasLink g l → own right l ≡ i → place_on right l ≡ p → Allows g right l r
 
 -- sites that allow all links still do
-abbrev pub Narrows : Bool → ℕ → ℕ → Table Site → List Site → List Site → Type 0
-Narrows right most i table old new = (g : Linkage) → Fits most g → AllowsAll g (not right) table → Covers g right i old → Covers g right i new
+abbrev pub Narrows : Bool → ℕ → Gaps → ℕ → Table Site → List Site → List Site → Type 0
+Narrows right most gaps i table old new = (g : Linkage) → Fits most g → AllowsGaps g gaps → AllowsAll g (not right) table → Covers g right i old → Covers g right i new
 
-pub record NarrowsAll (right : Bool) (most : ℕ) (sides : List Side) (table : Table Site) (old new : List (List Site)) : Type 0 where
+pub record NarrowsAll (right : Bool) (most : ℕ) (gaps : Gaps) (sides : List Side) (table : Table Site) (old new : List (List Site)) : Type 0 where
   pub long : length new ≡ length old
-  pub each : (g : Linkage) → Fits most g → AllowsAll g (not right) table → (k : ℕ) (side : Side) → slice_get sides k ≡ Some side → CoversAt g right side.position old k → CoversAt g right side.position new k
+  pub each : (g : Linkage) → Fits most g → AllowsGaps g gaps → AllowsAll g (not right) table → (k : ℕ) (side : Side) → slice_get sides k ≡ Some side → CoversAt g right side.position old k → CoversAt g right side.position new k
 
 -- a distance is left
 abbrev pub IsOpen : Site → Type 0

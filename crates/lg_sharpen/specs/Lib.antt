@@ -1,3 +1,4 @@
 pub mod Sharp
+pub mod Filling
 pub mod Sites
 pub mod Bounds

@@ -1,11 +1,13 @@
 -- Sites: connectors of lists with the distances of their partners, and tables of sites.
-use Rattle.std.specs.Prelude.{◌≡◌, ℕ, ◌+◌, ◌-◌, ◌<◌, ◌≤◌, Bool, true, false, cond, List, length, map, Some, slice_get}
+use Rattle.std.specs.Prelude.{◌≡◌, ℕ, ◌+◌, ◌-◌, ◌<◌, ◌≤◌, Bool, true, false, not, cond, List, length, map, Some, slice_get}
 use Rattle.std.specs.Global.{Vec}
 use Rattle.lg_gram.specs.Connectors.{Connector, Match}
 use Rattle.lg_gram.specs.Linkages.{link_length}
 use Rattle.lg_gram.specs.declared.linkage.Link.{Link}
 use Rattle.lg_member.specs.Cells.{Table, Stands, class_of}
 use Rattle.lg_member.specs.declared.side.Side.{Side}
+use Rattle.lg_sharpen.specs.Filling.{MaySpan}
+use Rattle.lg_sharpen.specs.declared.gaps.Gaps.{Gaps}
 use Rattle.lg_sharpen.specs.declared.site.Site.{Site}
 
 -- the position at this end of a link, and the place there: the end of the list to the right, or to the left
@@ -23,12 +25,26 @@ across right i d = cond right (i + d) (i - d)
 abbrev pub MatchOn : Bool → Connector → Connector → Type 0
 MatchOn right a b = cond right (Match a b) (Match b a)
 
--- A site, of a list to the right, or to the left, and one that lies this far away can be linked. Where both are the nearest of their
--- lists the distance is no more than the most.
-pub record MeetsOver (right : Bool) (most d : ℕ) (s other : Site) : Type 0 where
+-- A site, of a list to the right, or to the left, and one that lies this far away can be linked, where the other may, or may not, have its nearest link over
+-- this distance.
+pub record MeetsOver (right lone : Bool) (d : ℕ) (s other : Site) : Type 0 where
   pub from : other.span.from ≤ d
   pub end : d < other.span.end
-  pub short : s.nearest ≡ true → other.nearest ≡ true → d ≤ most
+  pub nearest : other.nearest ≡ true → lone ≡ true
+  pub match_at : MatchOn right s.connector other.connector
+
+-- A link of this length from position i to the right, or to the left, may be the nearest of its other end. Where it is the nearest of both it is no longer than
+-- the most.
+pub record MayBeLone (right : Bool) (most : ℕ) (gaps : Gaps) (i d : ℕ) (nearest : Bool) : Type 0 where
+  pub span : MaySpan (not right) gaps (across right i d) d
+  pub short : nearest ≡ true → d ≤ most
+
+-- the same, and it may be the nearest of both where it is to be
+pub record IsPartner (right : Bool) (most : ℕ) (gaps : Gaps) (i d : ℕ) (s other : Site) : Type 0 where
+  pub from : other.span.from ≤ d
+  pub end : d < other.span.end
+  pub own : s.nearest ≡ true → MaySpan right gaps i d
+  pub lone : other.nearest ≡ true → MayBeLone right most gaps i d s.nearest
   pub match_at : MatchOn right s.connector other.connector
 
 -- what can be linked to the second can be linked to the first
@@ -77,15 +93,15 @@ IsTableOf sides used lists table = (k : ℕ) (side : Side) (sites : List Site) (
     → slice_get lists k ≡ Some sites → slice_get sites p ≡ Some s → IsHeld table side.position s
 
 -- the table has a partner of a site of position i over this distance
-abbrev pub HasPartner : Bool → ℕ → ℕ → Table Site → Site → ℕ → Type 0
-HasPartner right most i table s d = (other : Site) × Holds table (across right i d) other × MeetsOver right most d s other
+abbrev pub HasPartner : Bool → ℕ → Gaps → ℕ → Table Site → Site → ℕ → Type 0
+HasPartner right most gaps i table s d = (other : Site) × Holds table (across right i d) other × IsPartner right most gaps i d s other
 
 -- no partner is nearer than this, and none is as far as this
-abbrev pub IsFrom : Bool → ℕ → ℕ → Table Site → Site → ℕ → Type 0
-IsFrom right most i table s r = (d : ℕ) → d < s.span.end → s.span.from ≤ d → HasPartner right most i table s d → r ≤ d
+abbrev pub IsFrom : Bool → ℕ → Gaps → ℕ → Table Site → Site → ℕ → Type 0
+IsFrom right most gaps i table s r = (d : ℕ) → d < s.span.end → s.span.from ≤ d → HasPartner right most gaps i table s d → r ≤ d
 
-abbrev pub IsBelow : Bool → ℕ → ℕ → Table Site → Site → ℕ → Type 0
-IsBelow right most i table s r = (d : ℕ) → d < s.span.end → s.span.from ≤ d → HasPartner right most i table s d → d < r
+abbrev pub IsBelow : Bool → ℕ → Gaps → ℕ → Table Site → Site → ℕ → Type 0
+IsBelow right most gaps i table s r = (d : ℕ) → d < s.span.end → s.span.from ≤ d → HasPartner right most gaps i table s d → d < r
 
 -- no more than any distance from here on that is more than another, and more than any distance below an end that is less than another
 abbrev pub IsAfter : ℕ → ℕ → ℕ → Type 0

@@ -1,6 +1,7 @@
 //! A sharper problem: without disjuncts that no linkage with few unlinked words can use.
 #![tactic(auto)]
 
+mod gaps;
 mod narrow;
 mod problem;
 mod rounds;

@@ -3,6 +3,7 @@ ghost use Rattle.std.specs.Prelude.{◌≡◌, ◌<◌, length};
 ghost use Rattle.lg_sharpen.specs.Sites.{IsAfter, IsAhead, IsBelow, IsEndOf, IsFrom, IsFromOf, items_in};
 ghost use Rattle.lg_sharpen.specs.Bounds.{IsNarrowed, Narrows, NarrowsAll};
 
+use crate::gaps::Gaps;
 use crate::site::{Site, Span};
 use crate::table::has_partner;
 use lg_member::{Cells, Side};
@@ -11,6 +12,7 @@ use lg_member::{Cells, Side};
 pub(crate) fn narrow_all(
     right: bool,
     most: u64,
+    gaps: &Gaps,
     sides: &[Side<'_>],
     used: &[bool],
     table: &Cells<Site>,
@@ -18,71 +20,105 @@ pub(crate) fn narrow_all(
 )
     requires same_length { length used.now ≡ length sides.now }
     requires long { length lists.old ≡ length sides.now }
-    ensures { NarrowsAll right most sides.now table.now (items_in lists.old) (items_in lists.new) }
+    ensures { NarrowsAll right most gaps.now sides.now table.now (items_in lists.old) (items_in lists.new) }
 {
     for index in 0..sides.len() {
         if used[index] {
-            narrow(right, most, sides[index].position, table, &mut lists[index]);
+            narrow(
+                right,
+                most,
+                gaps,
+                sides[index].position,
+                table,
+                &mut lists[index],
+            );
         }
     }
 }
 
-fn narrow(right: bool, most: u64, position: u32, table: &Cells<Site>, sites: &mut Vec<Site>)
-    ensures { Narrows right most position table.now sites.old.items sites.new.items }
+fn narrow(
+    right: bool,
+    most: u64,
+    gaps: &Gaps,
+    position: u32,
+    table: &Cells<Site>,
+    sites: &mut Vec<Site>,
+)
+    ensures { Narrows right most gaps.now position table.now sites.old.items sites.new.items }
 {
-    narrow_up(right, most, position, table, sites);
-    narrow_down(right, most, position, table, sites);
+    narrow_up(right, most, gaps, position, table, sites);
+    narrow_down(right, most, gaps, position, table, sites);
 }
 
 // From the first place to the last, so that each is farther than the one before.
-fn narrow_up(right: bool, most: u64, position: u32, table: &Cells<Site>, sites: &mut Vec<Site>)
-    ensures { Narrows right most position table.now sites.old.items sites.new.items }
+fn narrow_up(
+    right: bool,
+    most: u64,
+    gaps: &Gaps,
+    position: u32,
+    table: &Cells<Site>,
+    sites: &mut Vec<Site>,
+)
+    ensures { Narrows right most gaps.now position table.now sites.old.items sites.new.items }
 {
     let count = sites.len();
     for place in 0..count {
-        sites[place] = narrowed(right, most, position, table, sites, place);
+        sites[place] = narrowed(right, most, gaps, position, table, sites, place);
     }
 }
 
 // From the last place to the first, so that each is nearer than the next.
-fn narrow_down(right: bool, most: u64, position: u32, table: &Cells<Site>, sites: &mut Vec<Site>)
-    ensures { Narrows right most position table.now sites.old.items sites.new.items }
+fn narrow_down(
+    right: bool,
+    most: u64,
+    gaps: &Gaps,
+    position: u32,
+    table: &Cells<Site>,
+    sites: &mut Vec<Site>,
+)
+    ensures { Narrows right most gaps.now position table.now sites.old.items sites.new.items }
 {
     let count = sites.len();
     for behind in 0..count {
         let place = count - 1 - behind;
-        sites[place] = narrowed(right, most, position, table, sites, place);
+        sites[place] = narrowed(right, most, gaps, position, table, sites, place);
     }
 }
 
-// The site of a place with the distances, of those that the sites beside it leave, from that of the first partner to that of the last.
+// The site of a place with the distances, of those that the sites beside it leave, from that of the first partner to that of the last. The first of a
+// connector at the first place is its nearest link, also where it is multi.
 fn narrowed(
     right: bool,
     most: u64,
+    gaps: &Gaps,
     position: u32,
     table: &Cells<Site>,
     sites: &[Site],
     place: usize,
 ) -> Site
     requires { place < length sites.now }
-    ensures { IsNarrowed right most position table.now sites.now place result }
+    ensures { IsNarrowed right most gaps.now position table.now sites.now place result }
 {
-    let from = from_of(sites, place);
-    let end = end_of(sites, place);
     let old = sites[place];
-    let site = Site {
+    let span = Span {
+        from: from_of(sites, place),
+        end: end_of(sites, place),
+    };
+    let near = Site {
         connector: old.connector,
-        span: Span { from, end },
+        span,
+        nearest: place == 0,
+    };
+    let far = Site {
+        connector: old.connector,
+        span,
         nearest: old.nearest,
     };
-    let nearer = first(right, most, position, table, &site);
-    let farther = last(right, most, position, table, &site);
+    let from = first(right, most, gaps, position, table, &near);
+    let end = last(right, most, gaps, position, table, &far);
     Site {
         connector: old.connector,
-        span: Span {
-            from: nearer,
-            end: farther,
-        },
+        span: Span { from, end },
         nearest: old.nearest,
     }
 }
@@ -134,11 +170,18 @@ fn ahead(end: u32, behind: u32) -> u32
 }
 
 // The distance of the first partner, or the end.
-fn first(right: bool, most: u64, position: u32, table: &Cells<Site>, site: &Site) -> u32
-    ensures { IsFrom right most position table.now site.now result }
+fn first(
+    right: bool,
+    most: u64,
+    gaps: &Gaps,
+    position: u32,
+    table: &Cells<Site>,
+    site: &Site,
+) -> u32
+    ensures { IsFrom right most gaps.now position table.now site.now result }
 {
     for distance in site.span.from..site.span.end {
-        if has_partner(right, most, position, site, distance, table) {
+        if has_partner(right, most, gaps, position, site, distance, table) {
             return distance;
         }
     }
@@ -146,12 +189,12 @@ fn first(right: bool, most: u64, position: u32, table: &Cells<Site>, site: &Site
 }
 
 // The distance behind the last partner.
-fn last(right: bool, most: u64, position: u32, table: &Cells<Site>, site: &Site) -> u32
-    ensures { IsBelow right most position table.now site.now result }
+fn last(right: bool, most: u64, gaps: &Gaps, position: u32, table: &Cells<Site>, site: &Site) -> u32
+    ensures { IsBelow right most gaps.now position table.now site.now result }
 {
     let mut end = site.span.end;
     while site.span.from < end {
-        if has_partner(right, most, position, site, end - 1, table) {
+        if has_partner(right, most, gaps, position, site, end - 1, table) {
             return end;
         }
         end -= 1;

@@ -15,10 +15,11 @@ const SMALL: usize = 200;
 /// A problem with the good linkages that have at most so many unlinked words, and with fewer disjuncts.
 ///
 /// Each connector has a nearest and a farthest position that a partner of it can have, by those of its neighbours on the list: links of
-/// the connectors of a side end one behind the other. A partner lies within these bounds, and the connector within the partner's. Where both
-/// connectors of a link are the nearest of their lists, and neither may take more links, all words between them are unlinked; so those
-/// are no more than `nulls`. What cannot have all its links by this is taken away, again and again until nothing changes. A problem with
-/// fewer than 200 disjuncts stays as it is. The only error is running out of memory.
+/// the connectors of a side end one behind the other. A partner lies within these bounds, and the connector within the partner's. The
+/// words under the nearest link of a word, to one side of it, link among themselves and with that link's other end alone; those that
+/// have no disjunct for that are unlinked, so they are no more than `nulls`. Where a link is the nearest of both its ends, all words
+/// under it are unlinked. What cannot have all its links by this is taken away, in three rounds. A problem with fewer than 200
+/// disjuncts stays as it is. The only error is running out of memory.
 pub fn sharpen(alloc: Global, problem: Problem, nulls: u32) -> Result<Problem, NoMemory>
     ensures { IfOk result (IsSharpened problem nulls) }
 {

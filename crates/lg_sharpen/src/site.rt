@@ -17,25 +17,19 @@ pub(crate) struct Span {
 pub(crate) struct Site {
     pub(crate) connector: Connector,
     pub(crate) span: Span,
-    /// It is the first of its list, and takes one link alone.
+    /// It is the first of its list, and each of its links is the nearest: it takes one link alone.
     pub(crate) nearest: bool,
 }
 
-/// Whether two sites over this distance, the first of a list to the right, or to the left, can be linked. Where both are
-/// the nearest of their lists the distance is no more than the most.
-pub(crate) fn meets(right: bool, most: u64, distance: u32, site: &Site, other: &Site) -> bool
-    ensures { IsTrue result ↔ MeetsOver right most distance site.now other.now }
+/// Whether two sites over this distance, the first of a list to the right, or to the left, can be linked, where the other may, or
+/// may not, have its nearest link over the distance.
+pub(crate) fn meets(right: bool, lone: bool, distance: u32, site: &Site, other: &Site) -> bool
+    ensures { IsTrue result ↔ MeetsOver right lone distance site.now other.now }
 {
     other.span.from <= distance
         && distance < other.span.end
-        && is_short(most, distance, site.nearest, other.nearest)
+        && implies(other.nearest, lone)
         && matches_on(right, &site.connector, &other.connector)
-}
-
-fn is_short(most: u64, distance: u32, a: bool, b: bool) -> bool
-    ensures { IsTrue result ↔ (a ≡ true → b ≡ true → distance ≤ most) }
-{
-    !a || !b || u64::from(distance) <= most
 }
 
 fn matches_on(right: bool, a: &Connector, b: &Connector) -> bool
@@ -53,14 +47,14 @@ impl Wide for Site {
     fn is_wider(&self, site: &Site) -> bool {
         self.span.from <= site.span.from
             && site.span.end <= self.span.end
-            && is_free(self.nearest, site.nearest)
+            && implies(self.nearest, site.nearest)
             && is_same_connector(&self.connector, &site.connector)
     }
 
     ghost itself = { λ s. record { from = omega arith; end = omega arith; nearest = λ n. n; connector = refl } };
 }
 
-fn is_free(wide: bool, nearest: bool) -> bool
+fn implies(wide: bool, nearest: bool) -> bool
     ensures { IsTrue result ↔ (wide ≡ true → nearest ≡ true) }
 {
     !wide || nearest

@@ -1,9 +1,11 @@
 //! Tables of sites, by position and by the capital letters of their connectors.
-ghost use Rattle.std.specs.Prelude.{◌≡◌, ◌↔◌, length, IfOk, OnOk, IsTrue};
+ghost use Rattle.std.specs.Prelude.{◌≡◌, ◌↔◌, ◌≤◌, true, not, length, IfOk, OnOk, IsTrue};
 ghost use Rattle.std.specs.List.{Any};
 ghost use Rattle.lg_member.specs.Cells.{IsEmpty};
-ghost use Rattle.lg_sharpen.specs.Sites.{AddsSites, HasPartner, IsTableOf, MeetsOver, across as position_across, items_in};
+ghost use Rattle.lg_sharpen.specs.Filling.{MaySpan};
+ghost use Rattle.lg_sharpen.specs.Sites.{AddsSites, HasPartner, IsTableOf, MayBeLone, MeetsOver, across as position_across, items_in};
 
+use crate::gaps::Gaps;
 use crate::site::{Site, meets};
 use lg_base::NoMemory;
 use lg_member::{Cells, Side, class_of};
@@ -60,16 +62,54 @@ fn push_sites(position: u32, sites: &[Site], table: &mut Cells<Site>) -> Result<
 pub(crate) fn has_partner(
     right: bool,
     most: u64,
+    gaps: &Gaps,
     position: u32,
     site: &Site,
     distance: u32,
     table: &Cells<Site>,
 ) -> bool
-    ensures { HasPartner right most position table.now site.now distance → IsTrue result }
+    ensures { HasPartner right most gaps.now position table.now site.now distance → IsTrue result }
 {
+    if !may_be_nearest(right, gaps, position, distance, site.nearest) {
+        return false;
+    }
+    let lone = may_be_lone(right, most, gaps, position, distance, site.nearest);
     let class = class_of(site.connector.caps());
     let others = table.at(across(right, position, distance), class);
-    has_other(right, most, distance, site, others)
+    has_other(right, lone, distance, site, others)
+}
+
+// Whether a link of this length can be the nearest of the position, where it is to be.
+fn may_be_nearest(right: bool, gaps: &Gaps, position: u32, distance: u32, nearest: bool) -> bool
+    ensures { IsTrue result ↔ (nearest ≡ true → MaySpan right gaps.now position distance) }
+{
+    !nearest || gaps.may_span(right, position as usize, distance)
+}
+
+// Whether a link of this length can be the nearest of its other end.
+fn may_be_lone(
+    right: bool,
+    most: u64,
+    gaps: &Gaps,
+    position: u32,
+    distance: u32,
+    nearest: bool,
+) -> bool
+    ensures { IsTrue result ↔ MayBeLone right most gaps.now position distance nearest }
+{
+    is_short(most, distance, nearest) && may_reach(right, gaps, position, distance)
+}
+
+fn is_short(most: u64, distance: u32, nearest: bool) -> bool
+    ensures { IsTrue result ↔ (nearest ≡ true → distance ≤ most) }
+{
+    !nearest || u64::from(distance) <= most
+}
+
+fn may_reach(right: bool, gaps: &Gaps, position: u32, distance: u32) -> bool
+    ensures { IsTrue result ↔ MaySpan (not right) gaps.now (position_across right position distance) distance }
+{
+    gaps.may_span(!right, across(right, position, distance), distance)
 }
 
 fn across(right: bool, position: u32, distance: u32) -> usize
@@ -82,10 +122,10 @@ fn across(right: bool, position: u32, distance: u32) -> usize
     }
 }
 
-fn has_other(right: bool, most: u64, distance: u32, site: &Site, others: &[Site]) -> bool
-    ensures { IsTrue result ↔ Any (MeetsOver right most distance site.now) others.now }
+fn has_other(right: bool, lone: bool, distance: u32, site: &Site, others: &[Site]) -> bool
+    ensures { IsTrue result ↔ Any (MeetsOver right lone distance site.now) others.now }
 {
     others
         .iter()
-        .any(|other| meets(right, most, distance, site, other))
+        .any(|other| meets(right, lone, distance, site, other))
 }

@@ -6,18 +6,18 @@ use Rattle.lg_sharpen.specs.Sites.{items_in}
 use Rattle.lg_sharpen.proofs.Standing.{keeps_none, keeps_more}
 use Rattle.lg_sharpen.proofs.rounds.rounds.Goals as goal
 
-pub loop-size-init : goal.loop-size-init
-loop-size-init c = keeps_none c.members_go_by_rounds.ensures c.args.most c.args.lefts.now c.args.rights.now (items_in c.args.left_lists.now) (items_in c.args.right_lists.now) c.args.members.now.items
+pub loop-init : goal.loop-init
+loop-init c = keeps_none c.members_go_by_rounds.ensures c.args.most c.args.lefts.now c.args.rights.now (items_in c.args.left_lists.now) (items_in c.args.right_lists.now) c.args.members.now.items
 
-pub loop-size-preserved : goal.loop-size-preserved
-loop-size-preserved c =
-    keeps_more c.members_go_by_rounds.ensures c.args.most c.args.lefts.now c.args.rights.now (items_in c.args.left_lists.now) (items_in c.args.right_lists.now) (items_in c.loop-size.left_lists) (items_in c.loop-size.right_lists) (items_in c.round.new.left_lists)
-    (items_in c.round.new.right_lists) c.args.members.now.items c.loop-size.members.items c.round.new.members.items c.loop-size.invariant c.in_ok-round.ensures
+pub loop-preserved : goal.loop-preserved
+loop-preserved c =
+    keeps_more c.members_go_by_rounds.ensures c.args.most c.args.lefts.now c.args.rights.now (items_in c.args.left_lists.now) (items_in c.args.right_lists.now) (items_in c.loop.left_lists) (items_in c.loop.right_lists) (items_in c.round.new.left_lists)
+    (items_in c.round.new.right_lists) c.args.members.now.items c.loop.members.items c.round.new.members.items c.loop.invariant c.in_ok-round.ensures
 
 pub returns : goal.returns
-returns c = c.loop-size.invariant
+returns c = c.loop.invariant
 
 pub round-requires-clause-known : goal.round-requires-clause-known
 round-requires-clause-known c =
-    let i = c.loop-size.invariant in
+    let i = c.loop.invariant in
     subst (λ z. All (IsKnown c.args.lefts.now c.args.rights.now) z) (sym i.left.1.filtered) (All-filter i.left.0 (IsKnown c.args.lefts.now c.args.rights.now) c.args.members.now.items c.requires.known)

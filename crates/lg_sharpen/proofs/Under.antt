@@ -1,0 +1,173 @@
+-- The words under the nearest link of a word link among themselves and with that link's other end alone, so that too few ways to link them shut a gap.
+use Rattle.std.proofs.Common.{◌≡◌, ℕ, zero, suc, ◌+◌, ◌-◌, ◌<◌, ◌≤◌, ◌⊎◌, inl, inr, List, [], ◌∷◌, ◌++◌, length, map, take, get_or, refl, sym, ap, ◌∙◌, subst, Option, Some, None, IsSome, is_none, Bool, true, false, not, cond, ltb, count_by, Contains, arith}
+use Rattle.std.specs.List.{slice_get, All, range_with_len}
+use Rattle.std.proofs.lemmas.Bool.{cases_lt, ltb-true}
+use Rattle.std.proofs.lemmas.Option.{get_or_from_slice_get}
+use Rattle.std.proofs.lemmas.List.{take_more}
+use Rattle.std.proofs.lemmas.List.Sums.{sum_by-append, sum_by-take-le}
+use Rattle.std.proofs.lemmas.List.FromFn.{sum_by-map-range_with_len_more}
+use Rattle.std.proofs.lemmas.List.Elements.{All-contains}
+use Rattle.lg_gram.specs.Linkages.{Linkage, unlinked, link_length}
+use Rattle.lg_gram.specs.Rules.{HasLink, chosen_at}
+use Rattle.lg_gram.specs.declared.disjunct.Disjunct.{Disjunct}
+use Rattle.lg_gram.specs.declared.linkage.Link.{Link}
+use Rattle.lg_member.specs.Members.{list_on, side_on, IsSideAt, IsKnown}
+use Rattle.lg_member.specs.declared.side.Side.{Side}
+use Rattle.lg_member.specs.declared.member.Member.{Member}
+use Rattle.lg_sharpen.specs.Sites.{own}
+use Rattle.lg_sharpen.specs.Filling.{rows_in, flag_at, MaySpan, need_of, need_at, least_at, AreLeast, under, first_of, last_of, stuck_in, stuck_under, AreSpans, AreGaps}
+use Rattle.lg_sharpen.specs.Bounds.{Fits, IsNearest, AllowsGaps, Covers, CoversAll, Stands}
+use Rattle.lg_sharpen.specs.declared.gaps.Gaps.{Gaps}
+use Rattle.lg_sharpen.specs.declared.site.Site.{Site}
+use Rattle.lg_sharpen.proofs.Apart.{none_since}
+use Rattle.lg_sharpen.proofs.Ends.{covered}
+use Rattle.lg_sharpen.proofs.Standing.{at_member, right_within}
+
+-- a link that begins under a link ends no farther than the last position, and one that ends there begins no nearer than the first
+stays_before : (most : ℕ) (g : Linkage) → Fits most g → (right : Bool) (l : Link) → HasLink g l → IsNearest g right l → (e : Link) → HasLink g e → l.left < e.left → e.left < l.right
+    → e.right ≤ last_of right (own right l) (link_length l)
+stays_before most g f true l h n e he a b =
+    let w = f.rules.matched.forward e he in
+    let r : e.right ≤ l.left + (l.right - l.left) = elim (cases_lt l.right e.right) [ inl far ↦ absurd (f.rules.planar l e h he a b far) | inr near ↦ omega arith ] in
+    r
+stays_before most g f false l h n e he a b =
+    let w = f.rules.matched.forward e he in
+    let r : e.right ≤ l.right - 1 = elim (cases_lt l.right e.right) [
+      | inl far ↦ absurd (f.rules.planar l e h he a b far)
+      | inr near ↦ elim (cases_lt e.right l.right) [
+        | inl less ↦ omega arith
+        | inr more' ↦ (let same : e.right ≡ l.right = omega arith in let q : l.right - l.left ≤ e.right - e.left = n e he same in absurd (omega arith))
+      ]
+    ] in
+    r
+
+stays_behind : (most : ℕ) (g : Linkage) → Fits most g → (right : Bool) (l : Link) → HasLink g l → IsNearest g right l → (e : Link) → HasLink g e → l.left < e.right → e.right < l.right
+    → first_of right (own right l) (link_length l) ≤ e.left
+stays_behind most g f true l h n e he a b =
+    let w = f.rules.matched.forward e he in
+    let r : l.left + 1 ≤ e.left = elim (cases_lt e.left l.left) [
+      | inl far ↦ absurd (f.rules.planar e l he h far a b)
+      | inr near ↦ elim (cases_lt l.left e.left) [
+        | inl less ↦ omega arith
+        | inr more' ↦ (let same : e.left ≡ l.left = omega arith in let q : l.right - l.left ≤ e.right - e.left = n e he same in absurd (omega arith))
+      ]
+    ] in
+    r
+stays_behind most g f false l h n e he a b =
+    let w = f.rules.matched.forward l h in
+    let r : l.right - (l.right - l.left) ≤ e.left = elim (cases_lt e.left l.left) [ inl far ↦ absurd (f.rules.planar e l he h far a b) | inr near ↦ omega arith ] in
+    r
+
+-- what a list needs at least, some link of it has
+need_met : (most : ℕ) (g : Linkage) → Fits most g → (right : Bool) (i : ℕ) (sites : List Site) → Covers g right i sites
+    → (need_of sites ≡ 0) ⊎ ((e : Link) × HasLink g e × (own right e ≡ i) × (need_of sites ≤ link_length e))
+need_met most g f right i [] c = inl refl
+need_met most g f right i (s ∷ ss) c = let k = covered most g f right i (s ∷ ss) c 0 s refl (omega arith) in inr (k.0, k.1, k.2, k.4.from)
+
+-- what a member that a linkage uses needs at least
+member_needs : (most : ℕ) (g : Linkage) → Fits most g → (right : Bool) (i : ℕ) (d : Disjunct) (sides : List Side) (lists : List (List Site)) (m : Member) → chosen_at g i ≡ Some d → m.position ≡ i → m.disjunct.now ≡ d
+    → IsSideAt sides (side_on right m) m.position (list_on right m.disjunct.now) → CoversAll g right sides lists
+    → (need_at lists (side_on right m) ≡ 0) ⊎ ((e : Link) × HasLink g e × (own right e ≡ i) × (need_at lists (side_on right m) ≤ link_length e))
+member_needs most g f right i d sides lists m e ei ed s covers =
+    let at = at_member g right i d sides m e ei ed s in
+    let c = covers (side_on right m) s.side s.at at.1 in
+    let same : get_or lists (side_on right m) [] ≡ c.0 = get_or_from_slice_get lists (side_on right m) c.0 [] c.1 in
+    subst (λ z. (need_of z ≡ 0) ⊎ ((e : Link) × HasLink g e × (own right e ≡ i) × (need_of z ≤ link_length e))) (sym same)
+    (subst (λ z. (need_of c.0 ≡ 0) ⊎ ((e : Link) × HasLink g e × (own right e ≡ z) × (need_of c.0 ≤ link_length e))) at.0 (need_met most g f right s.side.position c.0 c.2))
+
+-- a linked word whose links lie between two positions has a way to link noted
+has_way : (most : ℕ) (g : Linkage) → Fits most g → (lefts rights : List Side) (ll rl : List (List Site)) (ms : List Member) → All (IsKnown lefts rights) ms → Stands g lefts rights ll rl ms
+    → (rows : List (List ℕ)) → AreLeast ll rl ms rows → (w : ℕ) (d : Disjunct) → chosen_at g w ≡ Some d → (a c : ℕ) → a ≤ w → w ≤ c
+    → ((e : Link) → HasLink g e → e.right ≡ w → a ≤ e.left) → ((e : Link) → HasLink g e → e.left ≡ w → e.right ≤ c) → least_at rows w a ≤ c
+has_way most g f lefts rights ll rl ms known s rows least w d ew a c la lc from end =
+    let m = s.chosen w d ew in
+    let k = All-contains (IsKnown lefts rights) ms m.0 known m.1 in
+    let p = m.2 in
+    let x : a ≤ m.0.position - need_at ll m.0.left = elim (member_needs most g f false w d lefts ll m.0 ew m.2 m.3 k.left s.left) [
+      | inl none ↦ (let z : need_at ll m.0.left ≡ 0 = none in omega arith)
+      | inr e ↦ (let q = from e.0 e.1 e.2 in let v = f.rules.matched.forward e.0 e.1 in let u : need_at ll m.0.left ≤ e.0.right - e.0.left = e.3 in let o : e.0.right ≡ w = e.2 in omega arith)
+    ] in
+    let y : m.0.position + need_at rl m.0.right ≤ c = elim (member_needs most g f true w d rights rl m.0 ew m.2 m.3 k.right s.right) [
+      | inl none ↦ (let z : need_at rl m.0.right ≡ 0 = none in omega arith)
+      | inr e ↦ (let q = end e.0 e.1 e.2 in let v = f.rules.matched.forward e.0 e.1 in let u : need_at rl m.0.right ≤ e.0.right - e.0.left = e.3 in let o : e.0.left ≡ w = e.2 in omega arith)
+    ] in
+    let r : least_at rows w a ≤ m.0.position + need_at rl m.0.right = subst (λ z. least_at rows z a ≤ m.0.position + need_at rl m.0.right) p (least m.0 m.1 a x) in
+    omega arith
+
+some_of : (o : Option Disjunct) → IsSome o → (d : Disjunct) × (o ≡ Some d)
+some_of None n = absurd cc
+some_of (Some d) n = (d, refl)
+
+-- a word under a link that has no way to link is unlinked
+none_under : (most : ℕ) (g : Linkage) → Fits most g → (lefts rights : List Side) (ll rl : List (List Site)) (ms : List Member) → All (IsKnown lefts rights) ms → Stands g lefts rights ll rl ms
+    → (rows : List (List ℕ)) → AreLeast ll rl ms rows → (right : Bool) (l : Link) → HasLink g l → IsNearest g right l → (w : ℕ) → l.left < w → w < l.right
+    → first_of right (own right l) (link_length l) ≤ w → w ≤ last_of right (own right l) (link_length l) → last_of right (own right l) (link_length l) < least_at rows w (first_of right (own right l) (link_length l))
+    → chosen_at g w ≡ None
+none_under most g f lefts rights ll rl ms known s rows least right l h n w a b lf lt far =
+    none_since (chosen_at g w) (λ linked.
+    let d = some_of (chosen_at g w) linked in
+    let r = has_way most g f lefts rights ll rl ms known s rows least w d.0 d.1 (first_of right (own right l) (link_length l)) (last_of right (own right l) (link_length l)) lf lt
+    (λ e he q. stays_behind most g f right l h n e he (omega arith) (omega arith))
+    (λ e he q. stays_before most g f right l h n e he (omega arith) (omega arith)) in
+    omega arith)
+
+counts_one : (b : Bool) (o : Option Disjunct) → (b ≡ true → o ≡ None) → cond b 1 0 ≤ count_by is_none (o ∷ [])
+counts_one false o n = let z : 0 ≤ count_by is_none (o ∷ []) = omega arith in z
+counts_one true o n = let e : count_by is_none (o ∷ []) ≡ 1 = ap (λ z. count_by is_none (z ∷ [])) (n refl) in let z : 1 ≤ count_by is_none (o ∷ []) = omega arith in z
+
+-- numbers of a run that pass are no more than the positions there that are unlinked
+count_first : (os : List (Option Disjunct)) (p : ℕ → Bool) (f : ℕ → ℕ) (a n : ℕ) → a + n ≤ length os → ((w : ℕ) → a ≤ w → w < a + n → p (f w) ≡ true → get_or os w None ≡ None)
+    → count_by p (map f (range_with_len a n)) ≤ count_by is_none (take (a + n) os)
+count_first os p f a zero h none = let z : count_by p (map f (range_with_len a zero)) ≡ 0 = refl in omega arith
+count_first os p f a (suc n) h none =
+    let r = count_first os p f a n (omega arith) (λ w x y. none w x (omega arith)) in
+    let j = a + n in
+    let more' : count_by p (map f (range_with_len a (n + 1))) ≡ count_by p (map f (range_with_len a n)) + cond (p (f j)) 1 0 = sum_by-map-range_with_len_more (λ x. cond (p x) 1 0) f a n j refl in
+    let one : take (j + 1) os ≡ take j os ++ get_or os j None ∷ [] = take_more os j None (omega arith) in
+    let all : count_by is_none (take (j + 1) os) ≡ count_by is_none (take j os) + count_by is_none (get_or os j None ∷ []) =
+    ap (λ z. count_by is_none z) one ∙ sum_by-append (λ x. cond (is_none x) 1 0) (take j os) (get_or os j None ∷ []) in
+    let last = counts_one (p (f j)) (get_or os j None) (none j (omega arith) (omega arith)) in
+    let e : suc n ≡ n + 1 = omega arith in
+    let e' : a + suc n ≡ j + 1 = omega arith in
+    subst (λ z. count_by p (map f (range_with_len a z)) ≤ count_by is_none (take (a + suc n) os)) (sym e) (subst (λ z. count_by p (map f (range_with_len a (n + 1))) ≤ count_by is_none (take z os)) (sym e') (omega arith))
+
+is_true : (b : Bool) → (b ≡ false → ⊥) → b ≡ true
+is_true true n = refl
+is_true false n = absurd (n refl)
+
+spans_on : (most : ℕ) (ll rl : List (List Site)) (ms : List Member) (gaps : Gaps) (a : AreGaps most ll rl ms gaps) (right : Bool)
+    → AreSpans right most a.rows (rows_in (cond right gaps.right.items gaps.left.items))
+spans_on most ll rl ms gaps a true = a.right
+spans_on most ll rl ms gaps a false = a.left
+
+-- where the words under a link lie
+place_under : (right : Bool) (l : Link) → l.left < l.right → (under right (own right l) (link_length l) ≡ l.left + 1) × (first_of right (own right l) (link_length l) ≤ l.left + 1) × (l.right ≤ last_of right (own right l) (link_length l) + 1)
+place_under true l h = let a : l.left + 1 ≡ l.left + 1 = refl in let b : l.left + 1 ≤ l.left + 1 = omega arith in let c : l.right ≤ (l.left + (l.right - l.left)) + 1 = omega arith in (a, b, c)
+place_under false l h = let a : (l.right - (l.right - l.left)) + 1 ≡ l.left + 1 = omega arith in let b : l.right - (l.right - l.left) ≤ l.left + 1 = omega arith in let c : l.right ≤ (l.right - 1) + 1 = omega arith in (a, b, c)
+
+stuck_few : (most : ℕ) (g : Linkage) → Fits most g → (lefts rights : List Side) (ll rl : List (List Site)) (ms : List Member) → All (IsKnown lefts rights) ms → Stands g lefts rights ll rl ms
+    → (rows : List (List ℕ)) → AreLeast ll rl ms rows → (right : Bool) (l : Link) → HasLink g l → IsNearest g right l → stuck_under right rows (own right l) (link_length l) ≤ unlinked g
+stuck_few most g f lefts rights ll rl ms known s rows least right l h n =
+    let i = own right l in
+    let d : ℕ = link_length l in
+    let fwd = f.rules.matched.forward l h in
+    let inside = right_within most g f l h in
+    let at = place_under right l fwd in
+    let at0 = at.0 in
+    let at1 = at.1 in
+    let at2 = at.2 in
+    let long : l.right ≡ l.left + d = (let q : d ≡ l.right - l.left = refl in omega arith) in
+    let c : stuck_under right rows (own right l) (link_length l) ≤ count_by is_none (take (under right i d + (d - 1)) g.chosen) = count_first g.chosen (λ end. ltb (last_of right i d) end) (λ w. least_at rows w (first_of right i d)) (under right i d) (d - 1) (omega arith)
+    (λ w x y t. none_under most g f lefts rights ll rl ms known s rows least right l h n w (omega arith) (omega arith) (omega arith) (omega arith) (ltb-true (last_of right i d) (least_at rows w (first_of right i d)) t)) in
+    let all : count_by is_none (take (under right i d + (d - 1)) g.chosen) ≤ unlinked g = sum_by-take-le (λ x. cond (is_none x) 1 0) g.chosen (under right i d + (d - 1)) in
+    omega arith
+
+-- no nearest link spans a gap that is shut
+pub allows_gaps : (most : ℕ) (lefts rights : List Side) (ll rl : List (List Site)) (ms : List Member) (gaps : Gaps) → All (IsKnown lefts rights) ms → AreGaps most ll rl ms gaps → (g : Linkage) → Fits most g
+    → Stands g lefts rights ll rl ms → AllowsGaps g gaps
+allows_gaps most lefts rights ll rl ms gaps known a g f s right l h n =
+    is_true (flag_at (rows_in (cond right gaps.right.items gaps.left.items)) (own right l) (link_length l)) (λ off.
+    let many = spans_on most ll rl ms gaps a right (own right l) (link_length l) off in
+    let few' = stuck_few most g f lefts rights ll rl ms known s a.rows a.least right l h n in
+    let few = f.few in
+    omega arith)

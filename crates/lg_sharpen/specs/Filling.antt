@@ -1,0 +1,75 @@
+-- Gaps: the words under the nearest link of a word, to one side of it. They link among themselves and with that link's other end alone, or are unlinked.
+use Rattle.std.specs.Prelude.{◌≡◌, ℕ, ◌+◌, ◌-◌, ◌<◌, ◌≤◌, Bool, true, false, cond, ltb, List, [], ◌∷◌, length, map, slice_index_or}
+use Rattle.std.specs.Global.{Vec}
+use Rattle.std.specs.List.{Contains, count_by, range_with_len}
+use Rattle.lg_member.specs.declared.member.Member.{Member}
+use Rattle.lg_sharpen.specs.declared.gaps.Gaps.{Gaps}
+use Rattle.lg_sharpen.specs.declared.site.Site.{Site}
+
+abbrev pub rows_in : {A : Type 0} → List (Vec A) → List (List A)
+rows_in {A} rows = map (λ v. v.items) rows
+
+abbrev pub flag_at : List (List Bool) → ℕ → ℕ → Bool
+flag_at rows i d = slice_index_or (slice_index_or rows i []) d true
+
+-- the nearest link of position i, to the right, or to the left, may be this long
+abbrev pub MaySpan : Bool → Gaps → ℕ → ℕ → Type 0
+MaySpan right gaps i d = flag_at (rows_in (cond right gaps.right.items gaps.left.items)) i d ≡ true
+
+-- how long each link of a list is at least
+abbrev pub need_of : List Site → ℕ
+need_of [] = 0
+need_of (s ∷ ss) = s.span.from
+
+abbrev pub need_at : List (List Site) → ℕ → ℕ
+need_at lists k = need_of (slice_index_or lists k [])
+
+-- how far to the right a word's links go at least, where none goes to the left of a position
+abbrev pub least_at : List (List ℕ) → ℕ → ℕ → ℕ
+least_at rows w a = slice_index_or (slice_index_or rows w []) a 0
+
+-- numbers are no greater than they were, and the first ones no greater than an end
+pub record IsLowered (count end : ℕ) (old new : List ℕ) : Type 0 where
+  pub lower : (a : ℕ) → slice_index_or new a 0 ≤ slice_index_or old a 0
+  pub noted : (a : ℕ) → a < count → slice_index_or new a 0 ≤ end
+
+-- a way to link position i is noted, by the least lengths of its links to the left and to the right
+pub record Notes (i left right : ℕ) (old new : List (List ℕ)) : Type 0 where
+  pub lower : (w a : ℕ) → least_at new w a ≤ least_at old w a
+  pub noted : (a : ℕ) → a ≤ i - left → least_at new i a ≤ i + right
+
+-- the ways to link that members have are noted
+abbrev pub AreLeast : List (List Site) → List (List Site) → List Member → List (List ℕ) → Type 0
+AreLeast lefts rights members rows = (m : Member) → Contains members m → (a : ℕ) → a ≤ m.position - need_at lefts m.left → least_at rows m.position a ≤ m.position + need_at rights m.right
+
+-- The words under a link of position i, of this length, to the right, or to the left: the first of them, and the first and the last position that they link
+-- with where no link of i is nearer.
+abbrev pub under : Bool → ℕ → ℕ → ℕ
+under right i d = cond right i (i - d) + 1
+
+abbrev pub first_of : Bool → ℕ → ℕ → ℕ
+first_of right i d = cond right (i + 1) (i - d)
+
+abbrev pub last_of : Bool → ℕ → ℕ → ℕ
+last_of right i d = cond right (i + d) (i - 1)
+
+-- how many of so many words, from one on, have no way to link from one position to another
+abbrev pub stuck_in : List (List ℕ) → ℕ → ℕ → ℕ → ℕ → ℕ
+stuck_in rows first last word count = count_by (λ end. ltb last end) (map (λ w. least_at rows w first) (range_with_len word count))
+
+abbrev pub stuck_under : Bool → List (List ℕ) → ℕ → ℕ → ℕ
+stuck_under right rows i d = stuck_in rows (first_of right i d) (last_of right i d) (under right i d) (d - 1)
+
+-- what flags refuse leaves too many words unlinked
+abbrev pub IsSpanRow : Bool → ℕ → List (List ℕ) → ℕ → List Bool → Type 0
+IsSpanRow right most rows i flags = (d : ℕ) → slice_index_or flags d true ≡ false → most ≤ stuck_under right rows i d
+
+abbrev pub AreSpans : Bool → ℕ → List (List ℕ) → List (List Bool) → Type 0
+AreSpans right most rows flags = (i d : ℕ) → flag_at flags i d ≡ false → most ≤ stuck_under right rows i d
+
+-- gaps are shut in which that many words have no way to link
+pub record AreGaps (most : ℕ) (lefts rights : List (List Site)) (members : List Member) (gaps : Gaps) : Type 0 where
+  pub rows : List (List ℕ)
+  pub least : AreLeast lefts rights members rows
+  pub right : AreSpans true most rows (rows_in gaps.right.items)
+  pub left : AreSpans false most rows (rows_in gaps.left.items)
