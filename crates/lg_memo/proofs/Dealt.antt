@@ -10,7 +10,7 @@ use Rattle.lg_memo.specs.declared.view.View.{View}
 use Rattle.lg_memo.specs.Views.{has_number}
 use Rattle.lg_memo.specs.Steps.{at_start, IsFree}
 
-has_each : (x from n : ℕ) → from ≤ x → x < from + n → has_number (range_with_len from n) x ≡ true
+pub has_each : (x from n : ℕ) → from ≤ x → x < from + n → has_number (range_with_len from n) x ≡ true
 has_each x from zero low high = absurd (omega arith)
 has_each x from (suc n) low high =
     elim (cases_lt from x) [

@@ -11,19 +11,16 @@ use Rattle.lg_memo.specs.declared.view.About.{About}
 use Rattle.lg_memo.specs.declared.view.Count.{Count}
 use Rattle.lg_memo.specs.declared.view.View.{View}
 use Rattle.lg_memo.specs.Views.{NoFewer, has_number, first_view, spent_view}
-use Rattle.lg_memo.specs.Rule.{Place, count_of, word_of, IsShard, Holds, Fits, IsKept, OddIsTaken, NoShardTwice}
+use Rattle.lg_memo.specs.Rule.{Place, count_of, word_of, IsShard, Holds, Fits, IsKept, OddIsTaken, NoShardTwice, EachInOneView}
 use Rattle.lg_memo.specs.Rule.Place.{home, out}
 use Rattle.lg_memo.proofs.Places.{home_is_not_out, one_seat, no_fewer}
 use Rattle.lg_memo.proofs.Keeping.{Maybe, same_view}
+use Rattle.lg_memo.proofs.Dealt.{has_each}
 
 element : {A : Type 0} (xs : List A) (i : ℕ) → i < length xs → (a : A) × (get_elem? xs i ≡ some a)
 element [] i less = absurd (omega arith)
 element (x ∷ xs) zero less = (x, refl)
 element (x ∷ xs) (suc i) less = element xs i (omega arith)
-
-has_first : (n : ℕ) → 0 < n → has_number (range_with_len 0 n) 0 ≡ true
-has_first zero less = absurd (omega arith)
-has_first (suc n) less = refl
 
 module _ {N S : Type 0} (Good : About N → ℕ → ℕ → S → Type 0) (about : About N) where
   pub opens : (words : List ℕ) (contents : List S) → words ≡ replicate about.shards 0 → length contents ≡ about.shards
@@ -39,11 +36,12 @@ module _ {N S : Type 0} (Good : About N → ℕ → ℕ → S → Type 0) (about
       few = omega arith;
     };
     holders = λ j seat n is. absurd (home_is_not_out (home 0) 0 n seat refl is);
+    seated = λ n less. record { view = first_view about; there = refl; has = has_each n 0 about.seats (omega arith) (omega arith) };
     fit = only_first;
   }
     where
       first_fits : Fits about (λ _. home 0) (λ _. 0) 0 (first_view about)
-      first_fits = record { same = refl; owned = λ _ _. refl; stands = (0, some_seat, has_first about.seats some_seat); known = tt; has = tt; spent = tt }
+      first_fits = record { same = refl; owned = λ _ _. refl; stands = (0, some_seat, has_each 0 0 about.seats (omega arith) (omega arith)); known = tt; has = tt; spent = tt }
 
       only_first : (seat : ℕ) (v : View N) → get_elem? (first_view about ∷ []) seat ≡ some v → Fits about (λ _. home 0) (λ _. 0) seat v
       only_first zero v e = subst (λ (w : View N). Fits about (λ _. home 0) (λ _. 0) 0 w) (some-injective (first_view about) v e) first_fits
@@ -112,3 +110,6 @@ module _ {N S : Type 0} (Good : About N → ℕ → ℕ → S → Type 0) where
 
   pub no_shard_twice : NoShardTwice (IsKept {N = N} {S = S} Good)
   no_shard_twice memo s k a b shard m n first second = one_seat (k.place shard) a b m n (had_is_out memo s k a shard m first) (had_is_out memo s k b shard n second)
+
+  pub each_in_one_view : EachInOneView (IsKept {N = N} {S = S} Good)
+  each_in_one_view memo s k n less = (k.owner n, k.seated n less, λ other h. sym ((k.fit other h.view h.there).owned n h.has))

@@ -3,6 +3,8 @@ use Rattle.std.proofs.Common.{◌≡◌, ◌≢◌, ℕ, zero, suc, ◌<◌, ◌
 use Rattle.std.specs.Prelude.{Option, None, Some, IfNone, is_none}
 use Rattle.std.proofs.lemmas.Bool.{cases_Bool, cond-true, cond-false}
 use Rattle.std.proofs.lemmas.Option.{IfSome_then}
+use native.Mathlib.Decide.{ℕ_discrete}
+use mathlib.Core.Logic.{dite}
 use mathlib.Core.Option.{some, some-injective, some-ne-none}
 use lib.ListN.{get_elem?}
 use Rattle.atomic_table.proofs.Lists.{at_set, set_here, set_else, at_longer}
@@ -10,7 +12,7 @@ use Rattle.lg_memo.specs.declared.view.About.{About}
 use Rattle.lg_memo.specs.declared.view.Count.{Count}
 use Rattle.lg_memo.specs.declared.view.View.{View}
 use Rattle.lg_memo.specs.Views.{counted, has_number}
-use Rattle.lg_memo.specs.Rule.{Place, count_of, Holds, Fits}
+use Rattle.lg_memo.specs.Rule.{Place, count_of, Holds, Stands, Fits}
 use Rattle.lg_memo.specs.Rule.Place.{out}
 use Rattle.lg_memo.proofs.Places.{placed, placed_else, known_more}
 
@@ -39,6 +41,10 @@ module _ {A : Type 0} where
       (λ (t : (seat ≡ length views) × (w ≡ v)). subst (λ (z : ℕ × A). P z.0 z.1) (λ i. (sym t.0 i, t.1 i)) new)
       (last_or_before views w v seat at)
 
+  last_there : (views : List A) (w : A) → get_elem? (views ++ w ∷ []) (length views) ≡ some w
+  last_there [] w = refl
+  last_there (x ∷ xs) w = last_there xs w
+
   pub is_there : (views : List A) (seat : ℕ) (v : A) → get_elem? views seat ≡ some v → seat < length views
   is_there [] seat v e = absurd (some-ne-none v (sym e))
   is_there (x ∷ xs) zero v e = omega arith
@@ -65,6 +71,26 @@ module _ {N : Type 0} where
 
   pub holds_here : (views : List (View N)) (seat : ℕ) (w : View N) (shard entries : ℕ) → seat < length views → w.has ≡ Some (counted shard entries) → Holds (set views seat w) seat shard entries
   holds_here views seat w shard entries within has = record { view = w; there = set_here views seat w within; has = has }
+
+  -- a seat still stands for a number, when a view is set to one that stands for it too, or one more comes, which may stand for others
+  pub stands_apart : (views : List (View N)) (seat : ℕ) (w : View N) (other n : ℕ) → other ≢ seat → Stands views other n → Stands (set views seat w) other n
+  stands_apart views seat w other n apart h = record { view = h.view; there = set_else views seat other w apart ∙ h.there; has = h.has }
+
+  pub stands_set : (views : List (View N)) (seat : ℕ) (v w : View N) (n : ℕ) → get_elem? views seat ≡ some v → (has_number v.numbers n ≡ true → has_number w.numbers n ≡ true)
+      → (other : ℕ) → Stands views other n → Stands (set views seat w) other n
+  stands_set views seat v w n at keep other h = dite (ℕ_discrete other seat)
+      (λ (same : other ≡ seat). record {
+        view = w;
+        there = ap (λ (k : ℕ). get_elem? (set views seat w) k) same ∙ set_here views seat w (is_there views seat v at);
+        has = keep (ap (λ (z : View N). has_number z.numbers n) (same_view views seat other v h.view at h.there same) ∙ h.has);
+      })
+      (λ (apart : other ≢ seat). stands_apart views seat w other n apart h)
+
+  pub stands_push : (views : List (View N)) (w : View N) (other n : ℕ) → Stands views other n → Stands (views ++ w ∷ []) other n
+  stands_push views w other n h = record { view = h.view; there = at_longer views (w ∷ []) other h.view h.there; has = h.has }
+
+  pub stands_last : (views : List (View N)) (w : View N) (n : ℕ) → has_number w.numbers n ≡ true → Stands (views ++ w ∷ []) (length views) n
+  stands_last views w n has = record { view = w; there = last_there views w; has = has }
 
   -- the view of a seat that has not the shard fits, when the place of that shard changes, and it has no fewer entries
   pub fits_else : (about : About N) (place : ℕ → Place) (owner : ℕ → ℕ) (shard : ℕ) (p : Place) → count_of (place shard) ≤ count_of p
@@ -103,4 +129,11 @@ pub handed_else : (owner : ℕ → ℕ) (numbers : List ℕ) (seat n old : ℕ) 
 handed_else owner numbers seat n old here was = ⊎_elim
     (λ (e : has_number numbers n ≡ true). cond-true (has_number numbers n) seat (owner n) e ∙ here e)
     (λ (e : has_number numbers n ≡ false). cond-false (has_number numbers n) seat (owner n) e ∙ was)
+    (cases_Bool (has_number numbers n))
+
+-- it is handed on, or its owner stays
+pub handed_cases : (P : ℕ → Type 0) (owner : ℕ → ℕ) (numbers : List ℕ) (seat n : ℕ) → (has_number numbers n ≡ true → P seat) → (has_number numbers n ≡ false → P (owner n)) → P (handed owner numbers seat n)
+handed_cases P owner numbers seat n here else = ⊎_elim
+    (λ (e : has_number numbers n ≡ true). subst P (sym (cond-true (has_number numbers n) seat (owner n) e)) (here e))
+    (λ (e : has_number numbers n ≡ false). subst P (sym (cond-false (has_number numbers n) seat (owner n) e)) (else e))
     (cases_Bool (has_number numbers n))

@@ -1,5 +1,5 @@
 -- A seat is cut in two, and two seats become one.
-use Rattle.std.proofs.Common.{◌≡◌, ◌≢◌, ℕ, ◌<◌, ◌≤◌, true, false, eqb, ◌||◌, ⊎_elim, List, [], ◌∷◌, length, set, take, drop, refl, ap, sym, ◌∙◌, subst, eq-eqb, ne_eqb, true≢false}
+use Rattle.std.proofs.Common.{◌≡◌, ◌≢◌, ℕ, ◌<◌, ◌≤◌, true, false, eqb, ◌||◌, ⊎_elim, List, [], ◌∷◌, ◌++◌, length, set, take, drop, refl, ap, sym, ◌∙◌, subst, eq-eqb, ne_eqb, true≢false}
 use Rattle.std.specs.Prelude.{None, Some, IfSome}
 use Rattle.std.proofs.lemmas.Bool.{or_cases, or_left, or_right, both_ways}
 use Rattle.std.proofs.lemmas.Option.{IfSome_then}
@@ -9,19 +9,26 @@ use mathlib.Core.Logic.{dite}
 use mathlib.Core.Option.{some}
 use lib.ListN.{get_elem?}
 use Rattle.atomic_table.specs.Table.{Splits, Joins}
-use Rattle.atomic_table.proofs.Lists.{set_else}
+use Rattle.atomic_table.proofs.Lists.{set_here, set_else}
 use Rattle.lg_memo.specs.declared.view.About.{About}
 use Rattle.lg_memo.specs.declared.view.Count.{Count}
 use Rattle.lg_memo.specs.declared.view.View.{View}
 use Rattle.lg_memo.specs.Views.{has_number, spent_view, without_first, first_alone, joined}
-use Rattle.lg_memo.specs.Rule.{Place, count_of, Fits, IsKept}
+use Rattle.lg_memo.specs.Rule.{Place, count_of, Stands, Fits, IsKept}
 use Rattle.lg_memo.specs.Rule.Place.{out}
 use Rattle.lg_memo.proofs.Places.{known_both}
-use Rattle.lg_memo.proofs.Keeping.{views_set, views_push, has_none_apart, holds_set, holds_push, not_spent, handed, handed_here, handed_else}
+use Rattle.lg_memo.proofs.Keeping.{views_set, views_push, is_there, same_view, has_none_apart, holds_set, holds_push, stands_set, stands_apart, stands_push, stands_last, not_spent, handed, handed_here, handed_else, handed_cases}
 
 -- no other number is the first one
 only_itself : (a n : ℕ) → n ≢ a → has_number (a ∷ []) n ≡ true → ⊥
 only_itself a n apart given = true≢false (sym given ∙ ap (λ t. t || false) (ne_eqb n a apart))
+
+-- what is not the first number is among the others
+not_first : (a n : ℕ) (more : List ℕ) → has_number (a ∷ []) n ≡ false → has_number (a ∷ more) n ≡ true → has_number more n ≡ true
+not_first a n more apart has = ⊎_elim
+    (λ (e : eqb n a ≡ true). absurd (both_ways (has_number (a ∷ []) n) apart (or_left (eqb n a) false e)))
+    (λ (e : has_number more n ≡ true). e)
+    (or_cases (eqb n a) (has_number more n) has)
 
 module _ {N S : Type 0} (Good : About N → ℕ → ℕ → S → Type 0) (about : About N) where
   -- a view fits other owners where it owns what it owned
@@ -82,6 +89,12 @@ module _ {N S : Type 0} (Good : About N → ℕ → ℕ → S → Type 0) (about
         shards = λ j less. let r = k.shards j less in record { word = r.word; slot = r.slot; few = r.few };
         holders = λ j seat n is. let h = k.holders j seat n is in
             holds_push views right seat j n (holds_set s.views id left seat j n (has_none_apart s.views id v at none_had seat j n h) h);
+        seated = λ n less. handed_cases (λ seat. Stands (views ++ right ∷ []) seat n) k.owner (a ∷ []) (length views) n
+            (λ given. stands_last views right n (subst (λ (l : List ℕ). has_number l n ≡ true) (sym is_first) given))
+            (λ kept. stands_push views right (k.owner n) n
+            (stands_set s.views id v left n at
+            (λ has. subst (λ (l : List ℕ). has_number l n ≡ true) (sym is_rest) (not_first a n (b ∷ more) kept (subst (λ (l : List ℕ). has_number l n ≡ true) numbers has)))
+            (k.owner n) (k.seated n less)));
         fit = views_push (Fits about k.place owner) views right fits_right (views_set (Fits about k.place owner) s.views id left fits_left others);
       }
 
@@ -117,6 +130,13 @@ module _ {N S : Type 0} (Good : About N → ℕ → ℕ → S → Type 0) (about
         holders = λ j seat n is. let h = k.holders j seat n is in
             holds_set (set s.views id (joined v w)) other spent_view seat j n (has_none_apart s.views other w at_other none_had' seat j n h)
             (holds_set s.views id (joined v w) seat j n (has_none_apart s.views id v at none_had seat j n h) h);
+        seated = λ n less. handed_cases (λ seat. Stands (set (set s.views id (joined v w)) other spent_view) seat n) k.owner w.numbers id n
+            (λ given. stands_apart (set s.views id (joined v w)) other spent_view id n (λ same. apart (sym same))
+            (record { view = joined v w; there = set_here s.views id (joined v w) (is_there s.views id v at); has = list_any-append (eqb n) w.numbers v.numbers ∙ or_left (has_number w.numbers n) (has_number v.numbers n) given }))
+            (λ kept. let h = k.seated n less in
+            stands_apart (set s.views id (joined v w)) other spent_view (k.owner n) n
+            (λ same. both_ways (has_number w.numbers n) kept (ap (λ (z : View N). has_number z.numbers n) (same_view s.views other (k.owner n) w h.view at_other h.there same) ∙ h.has))
+            (stands_set s.views id v (joined v w) n at (λ has. list_any-append (eqb n) w.numbers v.numbers ∙ or_right (has_number w.numbers n) (has_number v.numbers n) has) (k.owner n) h));
         fit = views_set (Fits about k.place owner) (set s.views id (joined v w)) other spent_view (spent_fits k.place owner other)
             (λ seat u not_other here. views_set (λ p x. p ≢ other → Fits about k.place owner p x) s.views id (joined v w) (λ _. fits) (λ p x _ there' not_other'. third p x not_other' there') seat u here not_other);
       }

@@ -8,13 +8,13 @@ use Rattle.atomic_table.specs.Table.{State, Me, Act, Valid, step, stepped, keeps
 use Rattle.atomic_table.proofs.Lists.{set_here}
 use Rattle.lg_memo.specs.declared.view.About.{About}
 use Rattle.lg_memo.specs.declared.view.View.{View}
-use Rattle.lg_memo.specs.Views.{counted, loses, takes_shard, gives_shard}
+use Rattle.lg_memo.specs.Views.{counted, has_number, loses, takes_shard, gives_shard}
 use Rattle.lg_memo.specs.Rule.{Place, count_of, word_of, IsShard, Holds, Fits, IsKept}
 use Rattle.lg_memo.specs.Rule.Place.{home, out}
 use Rattle.lg_memo.specs.Steps.{Takes, Gives}
 use Rattle.lg_memo.proofs.Parity.{even_next, odd_stays}
 use Rattle.lg_memo.proofs.Places.{home_is_not_out, one_seat, one_count, placed, placed_here, each_placed, known_more, no_fewer, shards_set}
-use Rattle.lg_memo.proofs.Keeping.{views_set, is_there, same_view, has_none_apart, holds_set, holds_here, fits_else, not_spent, shard_in}
+use Rattle.lg_memo.proofs.Keeping.{views_set, is_there, same_view, has_none_apart, holds_set, holds_here, stands_set, fits_else, not_spent, shard_in}
 
 module _ {N S : Type 0} (Good : About N → ℕ → ℕ → S → Type 0) (about : About N) where
   -- what a step of the seat owes
@@ -23,8 +23,8 @@ module _ {N S : Type 0} (Good : About N → ℕ → ℕ → S → Type 0) (about
 
   -- a step that changes the view of a seat with no shard, and no place
   pub own_view : (s : State S (View N)) (k : IsKept Good about s) (id : ℕ) (v w : View N) (shard : ℕ) (slots : List (ℕ × S)) → get_elem? s.views id ≡ some v → v.has ≡ None
-      → Fits about k.place k.owner id w → (word : ℕ) → word ≡ get_or s.words shard 0 → IsKept Good about (stepped s shard word id slots w keeps)
-  own_view s k id v w shard slots at none_had fits word same =
+      → w.numbers ≡ v.numbers → Fits about k.place k.owner id w → (word : ℕ) → word ≡ get_or s.words shard 0 → IsKept Good about (stepped s shard word id slots w keeps)
+  own_view s k id v w shard slots at none_had numbers fits word same =
       let whole : set s.words shard word ≡ s.words = ap (λ (n : ℕ). set s.words shard n) same ∙ set-get_or s.words shard 0 in
       subst (λ (l : List ℕ). IsKept Good about (record { words = l; homes = s.homes; views = set s.views id w })) (sym whole)
       (record {
@@ -34,6 +34,7 @@ module _ {N S : Type 0} (Good : About N → ℕ → ℕ → S → Type 0) (about
         slots = k.slots;
         shards = λ j less. let r = k.shards j less in record { word = r.word; slot = r.slot; few = r.few };
         holders = λ j seat n is. let h = k.holders j seat n is in holds_set s.views id w seat j n (has_none_apart s.views id v at none_had seat j n h) h;
+        seated = λ n less. stands_set s.views id v w n at (λ has. ap (λ (l : List ℕ). has_number l n) numbers ∙ has) (k.owner n) (k.seated n less);
         fit = views_set (Fits about k.place k.owner) s.views id w fits (λ other u _ there. k.fit other u there);
       })
 
@@ -48,7 +49,7 @@ module _ {N S : Type 0} (Good : About N → ℕ → ℕ → S → Type 0) (about
           loses me.0,
           keeps,
           tt,
-          own_view s k id me.0 (loses me.0) shard me.1 at none_had fits (bit_or (get_or s.words shard 0) 1) stays,
+          own_view s k id me.0 (loses me.0) shard me.1 at none_had refl fits (bit_or (get_or s.words shard 0) 1) stays,
           ((λ odd. refl), (λ even. absurd (even (omega arith)))),
         )
 
@@ -88,6 +89,7 @@ module _ {N S : Type 0} (Good : About N → ℕ → ℕ → S → Type 0) (about
               subst (λ (z : ℕ × ℕ). Holds views z.0 shard z.1) (λ i. (who i, many i)) (holds_here s.views id w shard n (is_there s.views id me.0 at) refl))
               (λ other _ there. let h = k.holders other seat m there in holds_set s.views id w seat other m (has_none_apart s.views id me.0 at none_had seat other m h) h)
               j;
+          seated = λ m small. stands_set s.views id me.0 w m at (λ has. has) (k.owner m) (k.seated m small);
           fit = views_set (Fits about place k.owner) s.views id w fits
               (λ other u _ there. fits_else about k.place k.owner shard (out id n) more other u (λ m had. home_is_not_out (k.place shard) n m other is had) (k.fit other u there));
         } in (
@@ -153,6 +155,7 @@ module _ {N S : Type 0} (Good : About N → ℕ → ℕ → S → Type 0) (about
             (λ same. apart (sym (ap shard_in (sym had ∙ ap (λ (z : View N). z.has) (same_view s.views id seat v h.view at h.there same) ∙ h.has))))
             h)
             j;
+        seated = λ m small'. stands_set s.views id v w m at (λ has. has) (k.owner m) (k.seated m small');
         fit = views_set (Fits about place k.owner) s.views id w fits
             (λ other u apart there. fits_else about k.place k.owner shard (home entries) more other u (λ m its'. apart (one_seat (k.place shard) other id m n its' is)) (k.fit other u there));
       } in (

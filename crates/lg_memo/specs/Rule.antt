@@ -47,6 +47,12 @@ pub record Holds {N : Type 0} (views : List (View N)) (seat shard entries : ℕ)
   pub there : get_elem? views seat ≡ some view
   pub has : view.has ≡ Some (counted shard entries)
 
+-- the seat of this number stands for the seat that had this number when the memo was made
+pub record Stands {N : Type 0} (views : List (View N)) (seat n : ℕ) : Type 0 where
+  pub view : View N
+  pub there : get_elem? views seat ≡ some view
+  pub has : has_number view.numbers n ≡ true
+
 -- The view of the seat of this number knows its memo. Its seat owns the numbers in it, at least one of them a seat's. It knows of no more
 -- entries than there are, and the shard that it has is out with it. A view with no memo is that of a seat that was joined to another.
 pub record Fits {N : Type 0} (about : About N) (place : ℕ → Place) (owner : ℕ → ℕ) (seat : ℕ) (v : View N) : Type 0 where
@@ -57,7 +63,8 @@ pub record Fits {N : Type 0} (about : About N) (place : ℕ → Place) (owner : 
   pub has : IfSome v.has (λ t. (t.shard < about.shards) × (place t.shard ≡ out seat t.entries))
   pub spent : IfNone v.about (v ≡ spent_view)
 
--- There is one place of each shard, and one owner of each number, that all views fit. A shard that is out is had by the view of its seat.
+-- There is one place of each shard, and one owner of each number, that all views fit. A shard that is out is had by the view of its seat, and
+-- each number stands in the view of its owner.
 pub record IsKept {N S : Type 0} (Good : About N → ℕ → ℕ → S → Type 0) (about : About N) (state : State S (View N)) : Type 0 where
   pub place : ℕ → Place
   pub owner : ℕ → ℕ
@@ -65,6 +72,7 @@ pub record IsKept {N S : Type 0} (Good : About N → ℕ → ℕ → S → Type 
   pub slots : length state.homes ≡ about.shards
   pub shards : (shard : ℕ) → shard < about.shards → IsShard (Good about shard) state shard (place shard)
   pub holders : (shard seat entries : ℕ) → place shard ≡ out seat entries → Holds state.views seat shard entries
+  pub seated : (n : ℕ) → n < about.seats → Stands state.views (owner n) n
   pub fit : (seat : ℕ) (v : View N) → get_elem? state.views seat ≡ some v → Fits about place owner seat v
 
 -- In every state that keeps the rule, the word of a shard is odd exactly where some seat has the shard.
@@ -78,3 +86,9 @@ abbrev pub NoShardTwice : {N S : Type 0} → (About N → State S (View N) → T
 NoShardTwice {N} {S} Kept =
     (about : About N) (state : State S (View N)) → Kept about state
     → (a b shard m n : ℕ) → Holds state.views a shard m → Holds state.views b shard n → a ≡ b
+
+-- In every state that keeps the rule, each number of a seat stands in exactly one view.
+abbrev pub EachInOneView : {N S : Type 0} → (About N → State S (View N) → Type 0) → Type 0
+EachInOneView {N} {S} Kept =
+    (about : About N) (state : State S (View N)) → Kept about state → (n : ℕ) → n < about.seats
+    → (seat : ℕ) × Stands state.views seat n × ((other : ℕ) → Stands state.views other n → other ≡ seat)

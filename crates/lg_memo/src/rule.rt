@@ -1,6 +1,6 @@
 //! What is always true of a memo, and the steps of a seat.
 ghost use Rattle.std.specs.Prelude.{IsSomeAnd};
-ghost use Rattle.lg_memo.specs.Rule.{IsStored, IsKept, OddIsTaken, NoShardTwice};
+ghost use Rattle.lg_memo.specs.Rule.{IsStored, IsKept, OddIsTaken, NoShardTwice, EachInOneView};
 ghost use Rattle.lg_memo.specs.Steps.{Takes, Gives};
 ghost use Rattle.lg_memo.specs.Views.{first_view, without_first, first_alone, joined, spent_view};
 
@@ -22,10 +22,11 @@ impl<T: Fact> TableRule<Option<Shard<T>>, View<T::Name>, About<T::Name>> for Mem
 }
 
 /// What holds of every memo at every time: the word of a shard is odd, so that `take` answers `None`, exactly where some seat has the
-/// shard, and no shard is had by two seats.
+/// shard, no shard is had by two seats, and each number of a seat stands in exactly one view.
 pub fn memo_laws<T: Fact>()
     ensures taken { OddIsTaken ⟦<MemoRule<T> as TableRule<Option<Shard<T>>, View<T::Name>, About<T::Name>>>⟧.holds }
     ensures apart { NoShardTwice ⟦<MemoRule<T> as TableRule<Option<Shard<T>>, View<T::Name>, About<T::Name>>>⟧.holds }
+    ensures seats { EachInOneView ⟦<MemoRule<T> as TableRule<Option<Shard<T>>, View<T::Name>, About<T::Name>>>⟧.holds }
 {}
 
 /// An or of 1 with the word of a shard.
