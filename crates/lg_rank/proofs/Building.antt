@@ -15,9 +15,11 @@ use Rattle.lg_forest.specs.Drafts.{HasAlt}
 use Rattle.lg_forest.specs.Forests.{Forest, IsForest}
 use Rattle.lg_rank.specs.Keyed.{subject_of, subjects_of, GetsNodeBy, ArePlaced, IsRootKey, IsAltFor, HasPartsBelow, AreWaysOf, IsFresh, AreNodesOf}
 use Rattle.lg_rank.specs.Meanings.{IsCodeOf, IsPacked, unlinked_of, Subject, IsSubject, Cutting, IsWayFor, IsCutting, IsForestOf}
-use Rattle.lg_rank.specs.Nodes.{no_way, ways_of, way_at}
+use Rattle.lg_rank.specs.Nodes.{Has, no_way, ways_of, way_at}
+use Rattle.lg_rank.specs.Queues.{least_part}
 use Rattle.lg_rank.specs.Rankings.{IsRoot, IsListing}
-use Rattle.lg_rank.specs.Tables.{forest_of, IsTable}
+use Rattle.lg_rank.specs.Tables.{forest_of, ready_of, IsTable}
+use Rattle.lg_rank.proofs.Forests.{empty_front}
 use Rattle.lg_rank.specs.Values.{Value, value_of, nothing_of}
 use Rattle.lg_rank.specs.declared.node.Node.{Node}
 use Rattle.lg_rank.specs.declared.part.Way.{Way}
@@ -170,12 +172,16 @@ some_at (x ∷ xs) (suc k) less = some_at xs k (omega arith)
 node_ways : (nodes : List Node) (k : ℕ) (node : Node) → slice_get nodes k ≡ Some node → ways_of (forest_of nodes) k ≡ node.ways.items
 node_ways nodes k node at = map_at (λ (n : Node). n.ways.items) nodes k node [] at
 
+fresh_ready : (node : Node) → IsFresh node → ready_of node ≡ []
+fresh_ready node is = λ i. map value_of (is.made i) ++ least_part (is.waiting i)
+
 fresh_table : (positions : List (List Disjunct)) (subjects : ℕ → Subject) (count : ℕ) (z : Value) (nodes : List Node) → AreNodesOf positions subjects count nodes → IsTable z nodes
 fresh_table positions subjects count z nodes is k node at = record {
   ways = sym (node_ways nodes k node at);
-  idle = λ e. ap (map value_of) (is.fresh k node at).made;
+  idle = λ e. fresh_ready node (is.fresh k node at);
   busy = λ e. absurd (true≢false (sym e ∙ (is.fresh k node at).idle));
   queue = λ e. absurd (true≢false (sym e ∙ (is.fresh k node at).idle));
+  front = empty_front (Has z (forest_of nodes) (Some k)) (ready_of node) (fresh_ready node (is.fresh k node at));
 }
 
 module _ (positions : List (List Disjunct)) (from : ℕ) (forest : Forest) (is : IsForest positions from forest) (problem : IsProblem positions) (keys : List Key) (placed : ArePlaced positions forest keys) (nodes : List Node)

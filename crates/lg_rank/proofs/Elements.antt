@@ -9,6 +9,21 @@ push_old [] y i v h = absurd cc
 push_old (x ∷ xs) y zero v h = h
 push_old (x ∷ xs) y (suc i) v h = push_old xs y i v h
 
+-- what stood in the first of two lists stands in both
+pub append_old : {V : Type 0} (xs ys : List V) (i : ℕ) (v : V) → slice_get xs i ≡ Some v → slice_get (xs ++ ys) i ≡ Some v
+append_old [] ys i v h = absurd cc
+append_old (x ∷ xs) ys zero v h = h
+append_old (x ∷ xs) ys (suc i) v h = append_old xs ys i v h
+
+pub append_none : {V : Type 0} (xs : List V) → xs ++ [] ≡ xs
+append_none [] = refl
+append_none (x ∷ xs) = ap (λ t. x ∷ t) (append_none xs)
+
+-- two lists that are nothing together
+pub none_first : {V : Type 0} (xs ys : List V) → xs ++ ys ≡ [] → xs ≡ []
+none_first [] ys e = refl
+none_first (x ∷ xs) ys e = absurd cc
+
 pub push_here : {V : Type 0} (xs : List V) (y : V) → slice_get (xs ++ y ∷ []) (length xs) ≡ Some y
 push_here [] y = refl
 push_here (x ∷ xs) y = push_here xs y

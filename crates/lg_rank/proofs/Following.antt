@@ -1,12 +1,13 @@
 -- The linkage after the first ones of a level.
-use Rattle.std.proofs.Common.{◌≡◌, ℕ, zero, suc, false, List, [], ◌∷◌, ◌++◌, length, Option, Some, slice_get, inl, inr, refl, sym, ap, ◌∙◌, subst, Less}
+use Rattle.std.proofs.Common.{◌≡◌, ℕ, zero, suc, Bool, true, false, List, [], ◌∷◌, ◌++◌, length, get_or, Option, None, Some, slice_get, inl, inr, refl, sym, ap, ◌∙◌, subst, Less}
+use Rattle.std.proofs.lemmas.Option.{slice_get-get_or}
 use Rattle.lg_gram.specs.Linkages.{Linkage, linkage_cmp}
 use Rattle.lg_gram.specs.declared.disjunct.Disjunct.{Disjunct}
 use Rattle.lg_region.specs.Parts.{UnderWhole}
-use Rattle.lg_rank.specs.Fronts.{IsFront, IsAll}
+use Rattle.lg_rank.specs.Fronts.{IsFront, IsAll, IsNext}
 use Rattle.lg_rank.specs.Meanings.{IsPacked}
 use Rattle.lg_rank.specs.Nodes.{Has}
-use Rattle.lg_rank.specs.Rankings.{IsListing}
+use Rattle.lg_rank.specs.Rankings.{IsListing, IsThere}
 use Rattle.lg_rank.specs.Tables.{forest_of, parts, IsNth}
 use Rattle.lg_rank.specs.Values.{Value, value_cmp}
 use Rattle.lg_rank.specs.declared.node.Node.{Node}
@@ -77,3 +78,13 @@ pub front_none : Laws → (positions : List (List Disjunct)) (z : Value) (nodes 
 front_none laws positions z nodes nulls root gs is front nth =
     let m = linkages_made laws positions z nodes nulls root is in
     next_none linkages_total (UnderWhole positions nulls) gs m.gs front m.front (λ g u. let v = value_of_one laws positions z nodes nulls root g is u in let j = nth v.0 v.2 in (j.0, j.1, m.find g j.0 v.0 u v.1 j.2))
+
+-- whether there is one
+pub front_there : Laws → (positions : List (List Disjunct)) (z : Value) (nodes : List Node) (nulls : ℕ) (root : Option ℕ) (gs : List Linkage) (there : Bool) → IsListing positions z nodes nulls root → IsFront linkage_cmp (UnderWhole positions nulls) gs
+    → IsNth z nodes root (length gs) there → IsThere (IsNext linkage_cmp (UnderWhole positions nulls) gs) there
+front_there laws positions z nodes nulls root gs false is front nth = (None, front_none laws positions z nodes nulls root gs is front nth, refl)
+front_there laws positions z nodes nulls root gs true is front less =
+    let values = parts z nodes root in
+    let m = linkages_made laws positions z nodes nulls root is in
+    let g = paired_some (IsEntry positions nulls) m.gs values m.paired (length gs) (get_or values (length gs) z) (slice_get-get_or values (length gs) z less) in
+    (Some g.0, next_some linkages_total (UnderWhole positions nulls) gs m.gs g.0 front m.front g.1, refl)

@@ -1,5 +1,5 @@
 -- The values of a node are what its ways make, and what was made of them is the first of them.
-use Rattle.std.proofs.Common.{◌≡◌, ℕ, suc, ◌≤◌, Bool, true, false, List, [], ◌∷◌, length, set, Option, Some, None, slice_get, inl, inr, refl, sym, ap, ◌∙◌, subst, arith}
+use Rattle.std.proofs.Common.{◌≡◌, ℕ, suc, ◌≤◌, List, [], ◌∷◌, length, set, Option, Some, None, slice_get, inl, inr, refl, sym, ap, ◌∙◌, subst, arith}
 use Rattle.std.proofs.lemmas.Option.{slice_get_within, slice_get-get_or, get_or_from_slice_get}
 use Rattle.lg_rank.specs.Fronts.{IsFront, Extends}
 use Rattle.lg_rank.specs.Merges.{Makes, PartsAre}
@@ -10,7 +10,7 @@ use Rattle.lg_rank.proofs.Taking.{same_or}
 use Rattle.lg_rank.specs.Values.{Value, value_cmp, combine}
 use Rattle.lg_rank.specs.Nodes.{Has, no_way, ways_of, way_at, setting, IsForest}
 use Rattle.lg_rank.specs.Nodes.Has.{nothing, made}
-use Rattle.lg_rank.specs.Tables.{place_of, forest_of, values_of, made_in, made_at, parts, held_in, IsNode, IsTable, RowsOf, Grown, IsBegun}
+use Rattle.lg_rank.specs.Tables.{place_of, forest_of, values_of, ready_of, ready_in, ready_at, parts, held_in, IsNode, IsTable, RowsOf, Grown, IsBegun}
 use Rattle.lg_rank.specs.declared.part.Way.{Way}
 use Rattle.lg_rank.specs.declared.node.Node.{Node}
 use Rattle.lg_rank.specs.declared.node.Row.{Row}
@@ -43,17 +43,16 @@ has_nothing z forest o v (made q w j p a x y e at l r is) h = absurd cc
 front_along : (A B : Value → Type 0) (xs : List Value) → ((v : Value) → A v → B v) → ((v : Value) → B v → A v) → IsFront value_cmp A xs → IsFront value_cmp B xs
 front_along A B xs to from f = record { rise = f.rise; sound = λ i a p. to a (f.sound i a p); below = λ v h. f.below v (from v h) }
 
-empty_front : (A : Value → Type 0) (xs : List Value) → xs ≡ [] → IsFront value_cmp A xs
+pub empty_front : (A : Value → Type 0) (xs : List Value) → xs ≡ [] → IsFront value_cmp A xs
 empty_front A xs e = subst (λ (l : List Value). IsFront value_cmp A l) (sym e) (record { rise = λ i j a b less p q. absurd cc; sound = λ i a p. absurd cc; below = λ v h. inr (λ i a p. absurd cc) })
 
-node_front : (z : Value) (forest : List (List Way)) (lists : Option ℕ → List Value) (k : ℕ) (node : Node) (b : Bool) → node.begun ≡ b → IsNode z forest lists k node → IsFront value_cmp (Has z forest (Some k)) (values_of node)
-node_front z forest lists k node false e is = empty_front (Has z forest (Some k)) (values_of node) (is.idle e)
-node_front z forest lists k node true e is =
-    front_along (Makes (setting z forest k) (length (ways_of forest k))) (Has z forest (Some k)) (values_of node) (makes_has z forest k) (λ v h. has_makes z forest (Some k) v k h refl) (is.busy e).front
+-- the first values that the ways make are the first of the node
+pub makes_front : (z : Value) (forest : List (List Way)) (k : ℕ) (xs : List Value) → IsFront value_cmp (Makes (setting z forest k) (length (ways_of forest k))) xs → IsFront value_cmp (Has z forest (Some k)) xs
+makes_front z forest k xs f = front_along (Makes (setting z forest k) (length (ways_of forest k))) (Has z forest (Some k)) xs (makes_has z forest k) (λ v h. has_makes z forest (Some k) v k h refl) f
 
-front_in : (z : Value) (nodes : List Node) (k : ℕ) (o : Option Node) → IsTable z nodes → slice_get nodes k ≡ o → IsFront value_cmp (Has z (forest_of nodes) (Some k)) (made_in o)
+front_in : (z : Value) (nodes : List Node) (k : ℕ) (o : Option Node) → IsTable z nodes → slice_get nodes k ≡ o → IsFront value_cmp (Has z (forest_of nodes) (Some k)) (ready_in o)
 front_in z nodes k None table e = empty_front (Has z (forest_of nodes) (Some k)) [] refl
-front_in z nodes k (Some node) table e = node_front z (forest_of nodes) (parts z nodes) k node node.begun refl (table k node e)
+front_in z nodes k (Some node) table e = (table k node e).front
 
 one_front : (z : Value) (forest : List (List Way)) → IsFront value_cmp (Has z forest None) (z ∷ [])
 one_front z forest = record {
@@ -73,19 +72,19 @@ parts_are z nodes table k n = record { left = λ p less. parts_front z nodes tab
 pub same_node : (nodes : List Node) (k : ℕ) (node new : Node) → slice_get nodes k ≡ Some node → new.ways.items ≡ node.ways.items → forest_of (set nodes k new) ≡ forest_of nodes
 same_node nodes k node new here e = map_set (λ (n : Node). n.ways.items) nodes k new node here e
 
-more_at : (nodes : List Node) (k : ℕ) (node new : Node) → slice_get nodes k ≡ Some node → Extends (values_of node) (values_of new) → (q : ℕ) → Extends (made_at nodes q) (made_at (set nodes k new) q)
+more_at : (nodes : List Node) (k : ℕ) (node new : Node) → slice_get nodes k ≡ Some node → Extends (ready_of node) (ready_of new) → (q : ℕ) → Extends (ready_at nodes q) (ready_at (set nodes k new) q)
 more_at nodes k node new here more q =
     elim (same_or q k) [
       | inl e ↦
-          let old : made_at nodes q ≡ values_of node = (λ i. made_at nodes (e i)) ∙ ap made_in here in
-          let now : made_at (set nodes k new) q ≡ values_of new = (λ i. made_at (set nodes k new) (e i)) ∙ ap made_in (set_here nodes k new (slice_get_within nodes k node here)) in
+          let old : ready_at nodes q ≡ ready_of node = (λ i. ready_at nodes (e i)) ∙ ap ready_in here in
+          let now : ready_at (set nodes k new) q ≡ ready_of new = (λ i. ready_at (set nodes k new) (e i)) ∙ ap ready_in (set_here nodes k new (slice_get_within nodes k node here)) in
           λ i v p. (λ j. slice_get (now j) i) ∙ more i v ((λ j. slice_get (sym old j) i) ∙ p)
       | inr e ↦
-          let same : made_at (set nodes k new) q ≡ made_at nodes q = ap made_in (set_other nodes k q new e) in
+          let same : ready_at (set nodes k new) q ≡ ready_at nodes q = ap ready_in (set_other nodes k q new e) in
           λ i v p. (λ j. slice_get (same j) i) ∙ p
     ]
 
-pub more_parts : (z : Value) (old new : List Node) → ((q : ℕ) → Extends (made_at old q) (made_at new q)) → (o : Option ℕ) → Extends (parts z old o) (parts z new o)
+pub more_parts : (z : Value) (old new : List Node) → ((q : ℕ) → Extends (ready_at old q) (ready_at new q)) → (o : Option ℕ) → Extends (parts z old o) (parts z new o)
 more_parts z old new more None = λ i v p. p
 more_parts z old new more (Some j) = more j
 
@@ -103,10 +102,11 @@ node_more z forest lists lists' k node more is = record {
       (λ j t at. ap (λ q. q.value) (same_seen (setting z forest k) (length (ways_of forest k)) (λ p. lists (way_at forest k p).left) (λ p. lists (way_at forest k p).right) (λ p. lists' (way_at forest k p).left) (λ p. lists' (way_at forest k p).right) (values_of node) z (place_of t)
       (λ p less. more (way_at forest k p).left) (λ p less. more (way_at forest k p).right) ((is.busy e).each j t at)))
       (is.queue e);
+  front = is.front;
 }
 
 -- the table after node k became `new`
-pub table_set : (z : Value) (nodes : List Node) (k : ℕ) (node new : Node) → IsTable z nodes → slice_get nodes k ≡ Some node → new.ways.items ≡ node.ways.items → Extends (values_of node) (values_of new) → IsNode z (forest_of nodes) (parts z nodes) k new → IsTable z (set nodes k new)
+pub table_set : (z : Value) (nodes : List Node) (k : ℕ) (node new : Node) → IsTable z nodes → slice_get nodes k ≡ Some node → new.ways.items ≡ node.ways.items → Extends (ready_of node) (ready_of new) → IsNode z (forest_of nodes) (parts z nodes) k new → IsTable z (set nodes k new)
 table_set z nodes k node new table here ways more is q other at =
     let after : List Node = set nodes k new in
     let grown : (o : Option ℕ) → Extends (parts z nodes o) (parts z after o) = more_parts z nodes after (more_at nodes k node new here more) in
@@ -117,7 +117,7 @@ table_set z nodes k node new table here ways more is q other at =
       | inr e ↦ node_more z (forest_of nodes) (parts z nodes) (parts z after) q other grown (table q other (sym (set_other nodes k q new e) ∙ at))
     ])
 
-pub grown_set : (nodes : List Node) (k : ℕ) (node new : Node) → slice_get nodes k ≡ Some node → new.ways.items ≡ node.ways.items → Extends (values_of node) (values_of new) → Grown (suc k) nodes (set nodes k new)
+pub grown_set : (nodes : List Node) (k : ℕ) (node new : Node) → slice_get nodes k ≡ Some node → new.ways.items ≡ node.ways.items → Extends (ready_of node) (ready_of new) → Grown (suc k) nodes (set nodes k new)
 grown_set nodes k node new here ways more = record {
   forest = same_node nodes k node new here ways;
   long = set_long nodes k new;

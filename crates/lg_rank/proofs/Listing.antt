@@ -1,9 +1,10 @@
 -- The values of the whole sentence are its good linkages, in order.
-use Rattle.std.proofs.Common.{◌≡◌, ◌↔◌, ℕ, zero, suc, ◌<◌, false, List, [], ◌∷◌, length, get_or, Option, Some, None, Contains, inl, inr, slice_get, refl, sym, ap, ◌∙◌, subst, arith, Less}
+use Rattle.std.proofs.Common.{◌≡◌, ◌↔◌, ℕ, zero, suc, ◌<◌, Bool, true, false, List, [], ◌∷◌, length, get_or, Option, Some, None, is_some, Contains, inl, inr, slice_get, refl, sym, ap, ◌∙◌, subst, arith, Less}
 use Rattle.std.specs.Cmp.{IsTotalOrder}
 use Rattle.std.specs.List.Sorted.{IsStrictlySortedBy}
 use Rattle.std.proofs.lemmas.List.{get_or_default}
 use Rattle.std.proofs.lemmas.List.Elements.{All-from_recursion, recursion_from_All, All-contains, Contains-get_or}
+use Rattle.std.proofs.lemmas.Option.{slice_get-get_or}
 use Rattle.lg_gram.specs.Levels.{IsLevel}
 use Rattle.lg_gram.specs.Linkages.{Linkage, linkage_cmp, IsLinkage, HasSmallCost}
 use Rattle.lg_gram.specs.Problems.{IsProblem}
@@ -193,6 +194,16 @@ level_none laws positions z old new nulls root level i is lev table total listed
         let front = parts_front z new table root in
         let j = nth v (front.sound i v e) in
         absurd (let same = one_place total (parts z new root) front i j.0 v e j.2 in let less = j.1 in omega arith)
+
+-- whether there is one
+pub level_there : Laws → (positions : List (List Disjunct)) (z : Value) (old new : List Node) (nulls : ℕ) (root : Option ℕ) (level : List Linkage) (i : ℕ) (there : Bool) → IsListing positions z old nulls root → IsLevel positions nulls level → IsTable z new → IsTotalOrder value_cmp
+    → ((all : List Value) → IsListOf value_cmp (Has z (forest_of old) root) all → slice_get all i ≡ slice_get (parts z new root) i) → IsNth z new root i there → there ≡ is_some (slice_get level i)
+level_there laws positions z old new nulls root level i false is lev table total listed nth = ap is_some (level_none laws positions z old new nulls root level i is lev table total listed nth)
+level_there laws positions z old new nulls root level i true is lev table total listed less =
+    let values = parts z new root in
+    let p = level_packed laws positions z old nulls root level is lev in
+    let g = paired_some (IsEntry positions nulls) level p.all p.paired i (get_or values i z) (listed p.all p.list ∙ slice_get-get_or values i z less) in
+    ap is_some (sym g.1)
 
 pub still_listing : (positions : List (List Disjunct)) (z : Value) (old new : List Node) (nulls : ℕ) (root : Option ℕ) → IsTable z new → forest_of new ≡ forest_of old → IsListing positions z old nulls root → IsListing positions z new nulls root
 still_listing positions z old new nulls root table same is = record {

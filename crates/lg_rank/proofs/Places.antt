@@ -19,6 +19,11 @@ map_set f [] m v x h e = absurd cc
 map_set f (y ∷ xs) zero v x h e = (let g : y ≡ x = cc in λ i. (e ∙ ap f (sym g)) i ∷ map f xs)
 map_set f (y ∷ xs) (suc m) v x h e = ap (λ z. f y ∷ z) (map_set f xs m v x h e)
 
+pub map_some : {V W : Type 0} (f : V → W) (xs : List V) (m : ℕ) (x : V) → slice_get xs m ≡ Some x → slice_get (map f xs) m ≡ Some (f x)
+map_some f [] m x h = absurd cc
+map_some f (y ∷ xs) zero x h = (let g : y ≡ x = cc in ap (λ t. Some (f t)) g)
+map_some f (y ∷ xs) (suc m) x h = map_some f xs m x h
+
 pub map_at : {V W : Type 0} (f : V → W) (xs : List V) (m : ℕ) (x : V) (d : W) → slice_get xs m ≡ Some x → get_or (map f xs) m d ≡ f x
 map_at f [] m x d h = absurd cc
 map_at f (y ∷ xs) zero x d h = (let g : y ≡ x = cc in ap f g)

@@ -1,5 +1,5 @@
 -- What waits when rows change.
-use Rattle.std.proofs.Common.{◌≡◌, ◌≢◌, ℕ, zero, suc, ◌+◌, ◌==◌, ◌<◌, ◌≤◌, take, ◌⊎◌, false, List, [], ◌∷◌, ◌++◌, length, get_or, Option, Some, None, slice_get, cond, inl, inr, Result, Ok, Err, refl, sym, ap, ◌∙◌, subst, arith, Contains, Less, Equal, Greater}
+use Rattle.std.proofs.Common.{◌≡◌, ◌≢◌, ℕ, zero, suc, ◌+◌, ◌-◌, ◌/◌, ◌==◌, ◌<◌, ◌≤◌, take, ◌⊎◌, false, List, [], ◌∷◌, ◌++◌, length, get_or, Option, Some, None, slice_get, cond, inl, inr, Result, Ok, Err, refl, sym, ap, ◌∙◌, subst, arith, Contains, Less, Equal, Greater}
 use Rattle.std.specs.BinaryHeap.{IsHeap, KeepsHeap, PopsGreatest}
 use Rattle.std.specs.Cmp.{IsTotalOrder}
 use Rattle.std.specs.List.{IsDistinct}
@@ -8,6 +8,7 @@ use Rattle.std.specs.Result.{IsOk, OnOk, is_ok}
 use Rattle.std.specs.List.Sorted.{IsPermutation}
 use Rattle.std.specs.Ordering.{is_lt}
 use Rattle.std.specs.declared.cmp.Ordering.{Ordering}
+use Rattle.std.proofs.lemmas.Bool.{cases_lt}
 use Rattle.std.proofs.lemmas.Bool.Decides.{nat_tests}
 use Rattle.std.proofs.lemmas.List.{take_more}
 use Rattle.std.proofs.lemmas.List.Elements.{All-from_recursion, recursion_from_All, All-contains, Contains-get_or}
@@ -16,11 +17,11 @@ use Rattle.std.proofs.lemmas.Map.Keys.{IsDistinct-cons, IsDistinct-head, IsDisti
 use Rattle.std.proofs.lemmas.Option.{slice_get_within, get_or_from_slice_get}
 use Rattle.lg_rank.specs.Fronts.{AtMost}
 use Rattle.lg_rank.specs.Merges.{Advanced}
-use Rattle.lg_rank.specs.Queues.{waiting_cmp, same_place, waiting_list, MakesAt, Waits, IsQueue, IsFirstAt, IsWaiting, IsOpened, Requeued}
+use Rattle.lg_rank.specs.Queues.{waiting_cmp, least_part, same_place, waiting_list, MakesAt, Waits, IsQueue, IsFirstAt, IsWaiting, IsOpened, Requeued}
 use Rattle.lg_rank.specs.Values.{Value, value_of, value_cmp}
 use Rattle.lg_rank.specs.declared.queue.Waiting.{Waiting}
 use Rattle.lg_rank.proofs.Choosing.{not_less}
-use Rattle.lg_rank.proofs.Elements.{push_old, push_here, push_from}
+use Rattle.lg_rank.proofs.Elements.{push_old, push_here, push_from, most_trans}
 use Rattle.lg_base.proofs.Elements.{contains_here, contains_later, contains_cases, contains_none}
 
 -- ---- places that differ
@@ -157,14 +158,33 @@ not_lt Less h e = cc
 not_lt Equal h e = cc
 not_lt Greater h e = cc
 
+-- the first of a heap is at most each
+heap_most : IsTotalOrder value_cmp → (q : List Waiting) (d : Waiting) → IsHeap waiting_cmp q → (fuel k : ℕ) → k ≤ fuel → k < length q → AtMost value_cmp (value_of (get_or q 0 d).part) (value_of (get_or q k d).part)
+unfolding IsHeap
+heap_most total q d h zero k le less = (let e : 0 ≡ k = omega arith in inr (λ i. value_of (get_or q (e i) d).part))
+heap_most total q d h (suc fuel) k le less =
+    elim (cases_lt 0 k) [
+      | inl more ↦
+          most_trans total (value_of (get_or q 0 d).part) (value_of (get_or q ((k - 1) / 2) d).part) (value_of (get_or q k d).part) (heap_most total q d h fuel ((k - 1) / 2) (omega arith) (omega arith))
+          (not_less total (value_of (get_or q k d).part) (value_of (get_or q ((k - 1) / 2) d).part) (not_lt (value_cmp (value_of (get_or q k d).part) (value_of (get_or q ((k - 1) / 2) d).part)) (h ((k - 1) / 2) k d (omega arith) (omega arith) (omega arith) less)))
+      | inr none ↦ (let e : 0 ≡ k = omega arith in inr (λ i. value_of (get_or q (e i) d).part))
+    ]
+
 pub first_least : {R : Type 0} (held : R → Option Value) (rows : List R) (q : List Waiting) (m : ℕ) → IsTotalOrder value_cmp → IsQueue held rows q → (f : IsFirstAt q m) → (k : ℕ) (t : R) (v : Value) → slice_get rows k ≡ Some t → held t ≡ Some v → AtMost value_cmp (value_of f.first.part) v
 first_least held rows q m total is f k t v at live =
     let a = is.waits.all k v (record { row = t; here = at; value = live }) in
     let s = is.waits.sound a.0 a.1 in
     let same : s.row ≡ t = (let p = s.here in let e = a.2 in let r : slice_get rows k ≡ Some s.row = (λ i. slice_get rows (sym e i)) ∙ p in cc) in
     let value : value_of a.0.part ≡ v = (let p : Some (value_of a.0.part) ≡ Some v = sym s.value ∙ ap held same ∙ live in cc) in
-    let up = All-contains (λ y. is_lt (waiting_cmp f.first y) ≡ false) q a.0 (All-from_recursion (λ y. is_lt (waiting_cmp f.first y) ≡ false) q (f.least is.heap)) a.1 in
-    subst (λ (x : Value). AtMost value_cmp (value_of f.first.part) x) value (not_less total (value_of a.0.part) (value_of f.first.part) (not_lt (value_cmp (value_of a.0.part) (value_of f.first.part)) up))
+    let (i, less, here) = a.1 in
+    let most = heap_most total q a.0 is.heap i i (omega arith) less in
+    let first : get_or q 0 a.0 ≡ f.first = get_or_from_slice_get q 0 f.first a.0 f.here in
+    subst (λ (x : Value). AtMost value_cmp (value_of f.first.part) x) (ap (λ (t : Waiting). value_of t.part) here ∙ value) (subst (λ (t : Waiting). AtMost value_cmp (value_of t.part) (value_of (get_or q i a.0).part)) first most)
+
+-- what the first waits with, and what can be read of a queue
+pub least_is : (q : List Waiting) (w : Waiting) → slice_get q 0 ≡ Some w → least_part q ≡ value_of w.part ∷ []
+least_is [] w e = absurd cc
+least_is (v ∷ q) w e = (let f : v ≡ w = cc in ap (λ (t : Waiting). value_of t.part ∷ []) f)
 
 -- where nothing waits, no row makes a value
 pub none_made : {R : Type 0} (held : R → Option Value) (rows : List R) (q : List Waiting) → q ≡ [] → Waits held rows q → (k : ℕ) (t : R) → slice_get rows k ≡ Some t → held t ≡ None

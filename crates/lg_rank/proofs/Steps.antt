@@ -1,26 +1,27 @@
 -- The steps of the table: what each function's parts come to.
-use Rattle.std.proofs.Common.{◌≡◌, ℕ, suc, ◌+◌, ◌<◌, ◌≤◌, Bool, true, false, List, [], ◌∷◌, ◌++◌, length, set, get_or, map, Option, Some, None, slice_get, inl, inr, Result, Ok, Err, refl, sym, ap, ◌∙◌, subst, arith}
+use Rattle.std.proofs.Common.{◌≡◌, ℕ, suc, ◌+◌, ◌<◌, ◌≤◌, nat_lt, Bool, true, false, List, [], ◌∷◌, ◌++◌, length, set, get_or, map, Option, Some, None, slice_get, inl, inr, Result, Ok, Err, refl, sym, ap, ◌∙◌, subst, arith}
 use Rattle.std.specs.Result.{OnOk, OnErr}
+use Rattle.std.proofs.lemmas.Bool.Decides.{nat_tests}
 use Rattle.std.proofs.lemmas.Option.{slice_get_within, slice_get-get_or, get_or_from_slice_get}
-use Rattle.lg_rank.specs.Fronts.{IsIn, IsAll, AtMost, Extends}
+use Rattle.lg_rank.specs.Fronts.{IsIn, IsAll, IsFront, AtMost, Extends}
 use Rattle.lg_rank.specs.Merges.{Turn, Begins, Following, held}
 use Rattle.lg_base.specs.declared.memory.NoMemory.{NoMemory}
-use Rattle.lg_rank.specs.Queues.{waiting_list, IsQueue, IsFirstAt, IsWaiting, IsOpened}
+use Rattle.lg_rank.specs.Queues.{waiting_list, least_part, IsQueue, IsFirstAt, IsWaiting, IsOpened}
 use Rattle.lg_rank.specs.declared.queue.Waiting.{Waiting}
 use Rattle.std.specs.BinaryHeap.{heap_items}
 use Rattle.std.specs.Cmp.{IsTotalOrder}
-use Rattle.lg_rank.proofs.Queued.{waits_permuted, waits_turn, one_at, first_makes, first_value, first_least, none_made}
+use Rattle.lg_rank.proofs.Queued.{waits_permuted, waits_turn, one_at, first_makes, first_value, first_least, least_is, none_made}
 use Rattle.lg_rank.specs.Values.{Value, value_of, value_cmp, combine, IsSmall, IsSmallWay}
 use Rattle.lg_rank.specs.Nodes.{Has, ways_of, way_at, setting, IsForest}
-use Rattle.lg_rank.specs.Tables.{seen, forest_of, values_of, made_in, made_at, parts, IsNode, IsTable, RowsOf, Grown, IsNth, IsBegun, IsIdle, IsWayOf, Holds, value_at, held_by, rows_in, rows_at, queue_in, queue_at, GoesOn, IsFirst, IsFirstOf, Begin, IsLeastRow, Chosen, Puts, IsSameNode, Starts, Stepped, Advances, row_list}
+use Rattle.lg_rank.specs.Tables.{seen, forest_of, values_of, made_in, made_at, ready_of, ready_in, ready_at, parts, IsNode, IsTable, RowsOf, Grown, IsNth, IsBegun, IsIdle, IsWayOf, Holds, value_at, held_by, rows_in, rows_at, queue_in, queue_at, GoesOn, IsFirst, IsFirstOf, Begin, IsLeastRow, Chosen, Puts, IsSameNode, Starts, Stepped, Advances, row_list}
 use Rattle.lg_rank.specs.declared.part.Part.{Part}
 use Rattle.lg_rank.specs.declared.part.Way.{Way}
 use Rattle.lg_rank.specs.declared.node.Choice.{Choice}
 use Rattle.lg_rank.specs.declared.node.Node.{Node}
 use Rattle.lg_rank.specs.declared.node.Row.{Row}
-use Rattle.lg_rank.proofs.Covering.{finished}
-use Rattle.lg_rank.proofs.Elements.{push_old}
-use Rattle.lg_rank.proofs.Forests.{rows_more, parts_front, parts_are, has_makes, table_set, grown_set, more_parts, begun_more}
+use Rattle.lg_rank.proofs.Covering.{front_more, finished}
+use Rattle.lg_rank.proofs.Elements.{append_old, append_none, none_first}
+use Rattle.lg_rank.proofs.Forests.{makes_front, rows_more, parts_front, parts_are, has_makes, table_set, grown_set, more_parts, begun_more}
 use Rattle.lg_rank.proofs.Growing.{merged_none, merged_begun, merged_passed}
 use Rattle.lg_rank.proofs.Places.{set_here}
 use Rattle.lg_rank.proofs.Reading.{row_holds, live_holds, held_is, held_grown}
@@ -63,10 +64,6 @@ first_row z n k p w j b is f =
 no_value : (z : Value) (n : List Node) (o : Option ℕ) (v : Value) → IsNth z n o 0 false → Has z (forest_of n) o v → ⊥
 no_value z n o v nth h = (let j = nth v h in omega (arith, j.1))
 
-append_none : (xs : List Row) → xs ++ [] ≡ xs
-append_none [] = refl
-append_none (x ∷ xs) = ap (λ t. x ∷ t) (append_none xs)
-
 -- one more way of a node that begins
 rows_begun : (z : Value) (n : List Node) (k p : ℕ) (w : Way) (rows : List Row) (first : Option Row) → w ≡ way_at (forest_of n) k p → RowsOf z (forest_of n) (parts z n) k p [] rows → IsFirstOf z n p w 0 first → RowsOf z (forest_of n) (parts z n) k (suc p) [] (rows ++ row_list first)
 rows_begun z n k p w rows None is h f =
@@ -106,23 +103,44 @@ begin_slices z n slice k rows few e f h =
 pub queue_slices : (z : Value) (n slice : List Node) (k : ℕ) (rows few : List Row) (queue : List Waiting) → slice ≡ n → few ≡ rows → IsQueue (held_by z slice k) few queue → IsQueue (held_by z n k) rows queue
 queue_slices z n slice k rows few queue e f h = subst (λ (l : List Row). IsQueue (held_by z n k) l queue) f (subst (λ (m : List Node). IsQueue (held_by z m k) few queue) e h)
 
-same_made : (old new : Node) → new.made.items ≡ old.made.items → Extends (values_of old) (values_of new)
-same_made old new e = λ i v p. (λ j. slice_get (map value_of (e j)) i) ∙ p
+-- the values that were made and the least that waits are the first of the node
+ready_front : (z : Value) (n : List Node) (k : ℕ) (taken : List Value) (rows : List Row) (q : List Waiting) → IsForest z (forest_of n) → IsTable z n → RowsOf z (forest_of n) (parts z n) k (length (ways_of (forest_of n) k)) taken rows → IsQueue (held_by z n k) rows q
+    → IsFront value_cmp (Has z (forest_of n) (Some k)) (taken ++ least_part q)
+ready_front z n k taken rows [] forest table all waits = subst (λ (l : List Value). IsFront value_cmp (Has z (forest_of n) (Some k)) l) (sym (append_none taken)) (makes_front z (forest_of n) k taken all.front)
+ready_front z n k taken rows (w ∷ rest) forest table all waits =
+    let size = length (ways_of (forest_of n) k) in
+    let first : IsFirstAt (w ∷ rest) w.place = record { first = w; here = refl; place = refl } in
+    let a = first_makes (held_by z n k) rows (w ∷ rest) w.place waits.waits first in
+    makes_front z (forest_of n) k (taken ++ value_of w.part ∷ [])
+    (front_more (setting z (forest_of n) k) (seen z (forest_of n) (parts z n) k) size (forest.laws k) (λ p. parts z n (way_at (forest_of n) k p).left) (λ p. parts z n (way_at (forest_of n) k p).right) taken rows all (parts_are z n table k size) w.place a.row (value_of w.part)
+    (record { here = a.here; live = a.value; least = first_least (held_by z n k) rows (w ∷ rest) w.place (forest.laws k).total waits first }))
 
-pub started : (z : Value) (n : List Node) (k : ℕ) (node new : Node) (rows : List Row) (queue : List Waiting) → IsTable z n → (b : IsIdle n k) → node ≡ get_or n k node → Starts node rows queue new → RowsOf z (forest_of n) (parts z n) k (length (ways_of (forest_of n) k)) [] rows → IsQueue (held_by z n k) rows queue
+-- a node whose parts and queue have not changed
+same_ready : (old new : Node) → new.made.items ≡ old.made.items → heap_items new.queue ≡ heap_items old.queue → ready_of new ≡ ready_of old
+same_ready old new e f = λ i. map value_of (e i) ++ least_part (f i)
+
+extends_same : (xs ys : List Value) → ys ≡ xs → Extends xs ys
+extends_same xs ys e = λ i v p. (λ j. slice_get (e j) i) ∙ p
+
+extends_none : (xs ys : List Value) → xs ≡ [] → Extends xs ys
+extends_none xs ys e = λ i v p. absurd (let q : slice_get [] i ≡ Some v = (λ j. slice_get (sym e j) i) ∙ p in cc)
+
+pub started : (z : Value) (n : List Node) (k : ℕ) (node new : Node) (rows : List Row) (queue : List Waiting) → IsForest z (forest_of n) → IsTable z n → (b : IsIdle n k) → node ≡ get_or n k node → Starts node rows queue new → RowsOf z (forest_of n) (parts z n) k (length (ways_of (forest_of n) k)) [] rows → IsQueue (held_by z n k) rows queue
     → Stepped z n (set n k new) k
-started z n k node new rows queue table b at starts' all waits =
+started z n k node new rows queue forest table b at starts' all waits =
     let e : node ≡ b.node = at ∙ get_or_from_slice_get n k b.node node b.here in
     let starts : Starts b.node rows queue new = subst (λ (t : Node). Starts t rows queue new) e starts' in
     let is = table k b.node b.here in
-    let empty : values_of new ≡ [] = (λ i. map value_of (starts.made i)) ∙ is.idle b.idle in
-    let more = same_made b.node new starts.made in
+    let empty : values_of new ≡ [] = (λ i. map value_of (starts.made i)) ∙ none_first (values_of b.node) (least_part (heap_items b.node.queue)) (is.idle b.idle) in
+    let more = extends_none (ready_of b.node) (ready_of new) (is.idle b.idle) in
+    let ready : ready_of new ≡ least_part queue = λ i. empty i ++ least_part (starts.queue_is i) in
     let size = length (ways_of (forest_of n) k) in
     let new_is : IsNode z (forest_of n) (parts z n) k new = record {
       ways = starts.ways ∙ is.ways;
-      idle = λ f. empty;
+      idle = λ f. absurd (true_false new.begun starts.begun f);
       busy = λ f. subst (λ (t : List Value). RowsOf z (forest_of n) (parts z n) k size t new.rows.items) (sym empty) (subst (λ (t : List Row). RowsOf z (forest_of n) (parts z n) k size [] t) (sym starts.rows_are) all);
       queue = λ f. subst (λ (t : List Row). IsQueue (held_by z n k) t (heap_items new.queue)) (sym starts.rows_are) (subst (λ (q : List Waiting). IsQueue (held_by z n k) rows q) (sym starts.queue_is) waits);
+      front = subst (λ (l : List Value). IsFront value_cmp (Has z (forest_of n) (Some k)) l) (sym ready) (ready_front z n k [] rows queue forest table all waits);
     } in
     record { table = table_set z n k b.node new table b.here starts.ways more new_is; grown = grown_set n k b.node new b.here starts.ways more; begun = record { node = new; here = set_here n k new (slice_get_within n k b.node b.here); begun = starts.begun } }
 
@@ -300,7 +318,10 @@ took z n k c after first again opened node new t here goes opens puts =
     (waits_permuted (held_by z n k) node.rows.items (heap_items node.queue) (puts.queue.first ∷ puts.queue.rest) puts.queue.taken queue.waits) ((λ i. (sym top i).place) ∙ f.place) puts.rows goes
     (subst (λ (l : List Row). IsOpened (held_by z n k) (length l) first opened) rows opens)) in
     let values : values_of new ≡ values_of node ++ v ∷ [] = (λ i. map value_of (puts.made i)) ∙ pushed node.made.items puts.part ∙ (λ i. values_of node ++ value i ∷ []) in
-    let more : Extends (values_of node) (values_of new) = subst (λ (l : List Value). Extends (values_of node) l) (sym values) (λ i x p. push_old (values_of node) v i x p) in
+    let before : ready_of node ≡ values_of node ++ v ∷ [] = (λ i. values_of node ++ least_is (heap_items node.queue) puts.queue.first puts.queue.here i) ∙ (λ i. values_of node ++ (sym (ap value_of puts.queue.part_is) ∙ value) i ∷ []) in
+    let ready : ready_of new ≡ (values_of node ++ v ∷ []) ++ least_part (heap_items new.queue) = λ i. values i ++ least_part (heap_items new.queue) in
+    let more : Extends (ready_of node) (ready_of new) = λ i x p. (λ j. slice_get (ready j) i) ∙ append_old (values_of node ++ v ∷ []) (least_part (heap_items new.queue)) i x ((λ j. slice_get (sym before j) i) ∙ p) in
+    let waiting : IsQueue (held_by z n k) new.rows.items (heap_items new.queue) = record { heap = puts.queue.heap queue.heap; waits = waits } in
     let next : RowsOf z (forest_of n) (parts z n) k size (values_of node ++ v ∷ []) new.rows.items =
     merged_more (setting z (forest_of n) k) (seen z (forest_of n) (parts z n) k) size (t.forest.laws k) (λ p. parts z n (way_at (forest_of n) k p).left) (λ p. parts z n (way_at (forest_of n) k p).right) (values_of node) node.rows.items (is.busy begun) (parts_are z n t.table k size)
     c.place c.row v after first new.rows.items (turn z n k c after first t node.rows.items (sym rows)) puts.rows in
@@ -308,7 +329,8 @@ took z n k c after first again opened node new t here goes opens puts =
       ways = puts.ways ∙ is.ways;
       idle = λ e. absurd (true_false new.begun (puts.begun ∙ begun) e);
       busy = λ e. subst (λ (l : List Value). RowsOf z (forest_of n) (parts z n) k size l new.rows.items) (sym values) next;
-      queue = λ e. record { heap = puts.queue.heap queue.heap; waits = waits };
+      queue = λ e. waiting;
+      front = subst (λ (l : List Value). IsFront value_cmp (Has z (forest_of n) (Some k)) l) (sym ready) (ready_front z n k (values_of node ++ v ∷ []) new.rows.items (heap_items new.queue) t.forest t.table next waiting);
     } in
     let here' = set_here n k new (slice_get_within n k node here) in
     let old : made_at n k ≡ values_of node = ap made_in here in
@@ -323,13 +345,15 @@ unchanged z n k node new table b here same =
     let is = table k node here in
     let at : b.node ≡ node = (let p = b.here in cc) in
     let begun : node.begun ≡ true = ap (λ (q : Node). q.begun) (sym at) ∙ b.begun in
-    let more = same_made node new same.made in
+    let ready = same_ready node new same.made same.queue in
+    let more = extends_same (ready_of node) (ready_of new) ready in
     let size = length (ways_of (forest_of n) k) in
     let new_is : IsNode z (forest_of n) (parts z n) k new = record {
       ways = same.ways ∙ is.ways;
       idle = λ e. absurd (true_false new.begun (same.begun ∙ begun) e);
       busy = λ e. subst (λ (l : List Part). RowsOf z (forest_of n) (parts z n) k size (map value_of l) new.rows.items) (sym same.made) (subst (λ (l : List Row). RowsOf z (forest_of n) (parts z n) k size (values_of node) l) (sym same.rows) (is.busy begun));
       queue = λ e. subst (λ (l : List Row). IsQueue (held_by z n k) l (heap_items new.queue)) (sym same.rows) (subst (λ (q : List Waiting). IsQueue (held_by z n k) node.rows.items q) (sym same.queue) (is.queue begun));
+      front = subst (λ (l : List Value). IsFront value_cmp (Has z (forest_of n) (Some k)) l) (sym ready) is.front;
     } in
     record { table = table_set z n k node new table here same.ways more new_is; grown = grown_set n k node new here same.ways more; begun = record { node = new; here = set_here n k new (slice_get_within n k node here); begun = same.begun ∙ begun } }
 
@@ -341,9 +365,49 @@ all_made z n k forest table b empty v h =
     let i = finished (setting z (forest_of n) k) (seen z (forest_of n) (parts z n) k) size (forest.laws k) (λ p. parts z n (way_at (forest_of n) k p).left) (λ p. parts z n (way_at (forest_of n) k p).right) (values_of b.node) b.node.rows.items ((table k b.node b.here).busy b.begun) (parts_are z n table k size) none v (has_makes z (forest_of n) (Some k) v k h refl) in
     subst (λ (o : Option Node). IsIn (made_in o) v) (sym b.here) i
 
+-- what was made can be read
+made_ready : (n : List Node) (k j : ℕ) (x : Value) → slice_get (made_at n k) j ≡ Some x → slice_get (ready_at n k) j ≡ Some x
+made_ready n k j x p = in_node (slice_get n k) refl
+  where
+    in_node : (o : Option Node) → slice_get n k ≡ o → slice_get (ready_at n k) j ≡ Some x
+    in_node None e = absurd (let q : slice_get [] j ≡ Some x = (λ i. slice_get (made_in (sym e i)) j) ∙ p in cc)
+    in_node (Some node) e = (λ i. slice_get (ready_in (e i)) j) ∙ append_old (values_of node) (least_part (heap_items node.queue)) j x ((λ i. slice_get (made_in (sym e i)) j) ∙ p)
+
 -- no more values than i
 pub nth_none : (z : Value) (old new : List Node) (k i : ℕ) → length (made_at old k) ≤ i → Advances z old new k false → IsNth z new (Some k) i false
-nth_none z old new k i le a = λ x h. (let j = a.1 x h in let less = slice_get_within (made_at new k) j.0 x j.1 in let same = ap length a.0 in (j.0, omega arith, j.1))
+nth_none z old new k i le a = λ x h. (let j = a.1 x h in let less = slice_get_within (made_at new k) j.0 x j.1 in let same = ap length a.0 in (j.0, omega arith, made_ready new k j.0 x j.1))
+
+-- as many can be read as were made, so nothing waits
+read_all : (z : Value) (n : List Node) (k : ℕ) → IsForest z (forest_of n) → IsTable z n → IsBegun n k → length (ready_at n k) ≤ length (made_at n k) → IsAll (Has z (forest_of n) (Some k)) (made_at n k)
+read_all z n k forest table b le = all_made z n k forest table b (ap queue_in b.here ∙ nothing_waits (values_of b.node) (heap_items b.node.queue) (subst (λ (o : Option Node). length (ready_in o) ≤ length (made_in o)) b.here le))
+  where
+    nothing_waits : (xs : List Value) (q : List Waiting) → length (xs ++ least_part q) ≤ length xs → q ≡ []
+    nothing_waits xs [] h = refl
+    nothing_waits xs (w ∷ q) h = absurd (let m = pushed_long xs (value_of w.part) in omega arith)
+
+-- at the place behind those that were made
+pub nth_last : (z : Value) (n : List Node) (k i : ℕ) (b : Bool) → IsForest z (forest_of n) → IsTable z n → IsBegun n k → i ≤ length (made_at n k) → (b ≡ true → i < length (ready_at n k)) → (b ≡ false → length (ready_at n k) ≤ i) → IsNth z n (Some k) i b
+nth_last z n k i true forest table begun le up down = up refl
+nth_last z n k i false forest table begun le up down = λ x h. (
+    let few : length (ready_at n k) ≤ i = down refl in
+    let all : length (ready_at n k) ≤ length (made_at n k) = omega arith in
+    let j = read_all z n k forest table begun all x h in
+    let p = made_ready n k j.0 x j.1 in
+    let less = slice_get_within (ready_at n k) j.0 x p in
+    (j.0, omega arith, p))
+
+lt_yes : (i n : ℕ) → nat_lt i n ≡ true → i < n
+lt_yes i n e = grind (arith, nat_tests)
+
+lt_no : (i n : ℕ) → nat_lt i n ≡ false → n ≤ i
+lt_no i n e = grind (arith, nat_tests)
+
+-- the same by counts of a slice
+pub nth_ready : (z : Value) (n slice last : List Node) (k i made count : ℕ) → slice ≡ n → last ≡ n → IsForest z (forest_of n) → IsTable z n → IsBegun n k → made ≡ length (made_at slice k) → i ≤ made → count ≡ length (ready_at last k) → IsNth z n (Some k) i (nat_lt i count)
+nth_ready z n slice last k i made count e f forest table begun made_is le count_is =
+    let many : made ≡ length (made_at n k) = made_is ∙ (λ j. length (made_at (e j) k)) in
+    let all : count ≡ length (ready_at n k) = count_is ∙ (λ j. length (ready_at (f j) k)) in
+    nth_last z n k i (nat_lt i count) forest table begun (omega arith) (λ a. let h = lt_yes i count a in omega arith) (λ a. let h = lt_no i count a in omega arith)
 
 -- ---- what the small functions come to
 pub candidate_sound : (z : Value) (n : List Node) (k : ℕ) (r : Row) (w : Way) (x y : Value) → IsForest z (forest_of n) → IsTable z n → Holds z n k r → IsWayOf n k r.way w → slice_get (parts z n w.left) r.next ≡ Some x → slice_get (parts z n w.right) r.at ≡ Some y

@@ -1,4 +1,5 @@
 -- Nodes for the keys of a forest.
+use Rattle.std.specs.BinaryHeap.{heap_items}
 use Rattle.std.specs.Prelude.{◌≡◌, ℕ, ◌<◌, ◌≤◌, false, List, [], ◌∷◌, ◌++◌, length, Option, None, Some, slice_get, slice_index_or, ◌⊎◌}
 use Rattle.lg_gram.specs.Connectors.{Connector}
 use Rattle.lg_gram.specs.declared.disjunct.Disjunct.{Disjunct}
@@ -123,6 +124,7 @@ pub record AreWaysOf (positions : List (List Disjunct)) (subjects : ℕ → Subj
 pub record IsFresh (node : Node) : Type 0 where
   pub idle : node.begun ≡ false
   pub made : node.made.items ≡ []
+  pub waiting : heap_items node.queue ≡ []
 
 -- the nodes of so many subjects
 pub record AreNodesOf (positions : List (List Disjunct)) (subjects : ℕ → Subject) (count : ℕ) (nodes : List Node) : Type 0 where

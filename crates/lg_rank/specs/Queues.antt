@@ -1,6 +1,6 @@
 -- The rows of a node that still make a part: each waits with that part, the least part first.
 use Rattle.std.specs.Prelude.{◌≡◌, ℕ, ◌==◌, Bool, List, [], ◌∷◌, ◌++◌, Option, Some, None, slice_get}
-use Rattle.std.specs.BinaryHeap.{IsHeap, IsUpperBound, KeepsHeap}
+use Rattle.std.specs.BinaryHeap.{IsHeap, KeepsHeap}
 use Rattle.std.specs.List.{Contains, IsDistinct}
 use Rattle.std.specs.List.Sorted.{IsPermutation}
 use Rattle.std.specs.Ordering.{on, flip_args}
@@ -20,6 +20,11 @@ abbrev pub waiting_list : Option Waiting → List Waiting
 waiting_list None = []
 waiting_list (Some w) = w ∷ []
 
+-- the part of the first, which is the least, or none where no row waits
+abbrev pub least_part : List Waiting → List Value
+least_part [] = []
+least_part (w ∷ rest) = value_of w.part ∷ []
+
 -- the row at m makes v
 pub record MakesAt {R : Type 0} (held : R → Option Value) (rows : List R) (m : ℕ) (v : Value) : Type 0 where
   pub row : R
@@ -37,12 +42,11 @@ pub record IsQueue {R : Type 0} (held : R → Option Value) (rows : List R) (que
   pub heap : IsHeap waiting_cmp queue
   pub waits : Waits held rows queue
 
--- the first of the queue is the row at m, and no part is less than its part
+-- the first of the queue is the row at m
 pub record IsFirstAt (queue : List Waiting) (m : ℕ) : Type 0 where
   pub first : Waiting
   pub here : slice_get queue 0 ≡ Some first
   pub place : first.place ≡ m
-  pub least : IsHeap waiting_cmp queue → IsUpperBound waiting_cmp first queue
 
 -- what the row r, which comes to stand at m, is to wait with: nothing where it makes nothing
 abbrev pub IsWaiting : {R : Type 0} → (R → Option Value) → ℕ → R → Option Waiting → Type 0

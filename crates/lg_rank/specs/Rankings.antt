@@ -1,5 +1,5 @@
 -- The listing of a problem's good linkages with so many unlinked positions.
-use Rattle.std.specs.Prelude.{◌≡◌, ℕ, ◌<◌, List, length, Option, None, Some, slice_get}
+use Rattle.std.specs.Prelude.{◌≡◌, ℕ, ◌<◌, Bool, true, false, List, length, Option, None, Some, is_some, slice_get}
 use Rattle.lg_gram.specs.Linkages.{Linkage}
 use Rattle.lg_gram.specs.declared.disjunct.Disjunct.{Disjunct}
 use Rattle.lg_rank.specs.Meanings.{IsPacked, Subject, whole, IsForestOf}
@@ -8,7 +8,7 @@ use Rattle.lg_rank.specs.Values.{Value}
 use Rattle.lg_rank.specs.declared.node.Node.{Node}
 use Rattle.lg_rank.specs.declared.part.Way.{Way}
 
--- the problem, how many positions are unlinked, and how many linkages were given
+-- the problem, how many positions are unlinked, and how many linkages were given or passed over
 pub record Ranking : Type 0 where
   pub positions : List (List Disjunct)
   pub nulls : ℕ
@@ -18,6 +18,15 @@ pub record Ranking : Type 0 where
 abbrev pub given : Option Linkage → ℕ
 given None = 0
 given (Some g) = 1
+
+-- how many linkages are passed over
+abbrev pub passed_over : Bool → ℕ
+passed_over false = 0
+passed_over true = 1
+
+-- Whether there is a next linkage: one that Next is said of, or none.
+abbrev pub IsThere : (Option Linkage → Type 0) → Bool → Type 0
+IsThere Next there = (g : Option Linkage) × Next g × (there ≡ is_some g)
 
 -- the node of the whole sentence, or none where all positions are unlinked
 abbrev pub IsRoot : List (List Disjunct) → List (List Way) → (ℕ → Subject) → ℕ → Option ℕ → Type 0

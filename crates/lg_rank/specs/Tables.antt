@@ -2,9 +2,9 @@
 use Rattle.std.specs.Prelude.{◌≡◌, ◌≢◌, ℕ, suc, ◌+◌, ◌<◌, ◌≤◌, Bool, true, false, List, [], ◌∷◌, ◌++◌, ◌⊎◌, length, Option, Some, None, slice_get, slice_index_or, map}
 use Rattle.std.specs.BinaryHeap.{heap_items, heap_len, heap_capacity}
 use Rattle.std.specs.Vec.{vec_len, vec_capacity}
-use Rattle.lg_rank.specs.Fronts.{IsAll, Extends, AtMost}
+use Rattle.lg_rank.specs.Fronts.{IsAll, IsFront, Extends, AtMost}
 use Rattle.lg_rank.specs.Merges.{Merged, Advanced, PlaceRow, Row as Seen, seen_by}
-use Rattle.lg_rank.specs.Queues.{IsQueue, IsFirstAt, Requeued}
+use Rattle.lg_rank.specs.Queues.{least_part, IsQueue, IsFirstAt, Requeued}
 use Rattle.lg_rank.specs.Values.{Value, value_of, value_cmp, combine}
 use Rattle.lg_rank.specs.Nodes.{Has, ways_of, way_at, setting}
 use Rattle.lg_rank.specs.declared.part.Part.{Part}
@@ -28,10 +28,22 @@ made_in (Some n) = values_of n
 abbrev pub made_at : List Node → ℕ → List Value
 made_at nodes k = made_in (slice_get nodes k)
 
--- the values of a part that were made
+-- the values of a node that can be read: those that were made, and the least that waits
+abbrev pub ready_of : Node → List Value
+ready_of n = values_of n ++ least_part (heap_items n.queue)
+
+abbrev pub ready_in : Option Node → List Value
+ready_in None = []
+ready_in (Some n) = ready_of n
+
+-- the values of node k that can be read
+abbrev pub ready_at : List Node → ℕ → List Value
+ready_at nodes k = ready_in (slice_get nodes k)
+
+-- the values of a part that can be read
 abbrev pub parts : Value → List Node → Option ℕ → List Value
 parts z nodes None = z ∷ []
-parts z nodes (Some j) = made_at nodes j
+parts z nodes (Some j) = ready_at nodes j
 
 abbrev pub place_of : Row → PlaceRow
 place_of r = record { alt = r.way; at = r.at; next = r.next; live = r.live }
@@ -50,18 +62,19 @@ held_in z forest lists k r = (seen z forest lists k r).value
 
 pub record IsNode (z : Value) (forest : List (List Way)) (lists : Option ℕ → List Value) (k : ℕ) (node : Node) : Type 0 where
   pub ways : node.ways.items ≡ ways_of forest k
-  pub idle : node.begun ≡ false → values_of node ≡ []
+  pub idle : node.begun ≡ false → ready_of node ≡ []
   pub busy : node.begun ≡ true → RowsOf z forest lists k (length (ways_of forest k)) (values_of node) node.rows.items
   pub queue : node.begun ≡ true → IsQueue (held_in z forest lists k) node.rows.items (heap_items node.queue)
+  pub front : IsFront value_cmp (Has z forest (Some k)) (ready_of node)
 
 abbrev pub IsTable : Value → List Node → Type 0
 IsTable z nodes = (k : ℕ) (node : Node) → slice_get nodes k ≡ Some node → IsNode z (forest_of nodes) (parts z nodes) k node
 
--- the nodes below n may have more values, and nothing else has changed
+-- the nodes below n may have more values to read, and nothing else has changed
 pub record Grown (n : ℕ) (old new : List Node) : Type 0 where
   pub forest : forest_of new ≡ forest_of old
   pub long : length new ≡ length old
-  pub more : (k : ℕ) → Extends (made_at old k) (made_at new k)
+  pub more : (k : ℕ) → Extends (ready_at old k) (ready_at new k)
   pub above : (k : ℕ) → n ≤ k → slice_get new k ≡ slice_get old k
 
 -- one more than the node of a part
@@ -69,7 +82,7 @@ abbrev pub end_of : Option ℕ → ℕ
 end_of None = 0
 end_of (Some j) = suc j
 
--- whether the value at i was made; where it was not, each value of the part stands before i
+-- whether the value at i can be read; where it cannot, each value of the part stands before i
 abbrev pub IsNth : Value → List Node → Option ℕ → ℕ → Bool → Type 0
 IsNth z nodes part i true = i < length (parts z nodes part)
 IsNth z nodes part i false = (x : Value) → Has z (forest_of nodes) part x → (j : ℕ) × (j < i) × (slice_get (parts z nodes part) j ≡ Some x)

@@ -8,11 +8,11 @@ ghost use Rattle.lg_rank.specs.Values.{value_of};
 ghost use Rattle.lg_rank.specs.Candidates.{made_by, positions_of, IsCandidate};
 ghost use Rattle.lg_rank.specs.Nodes.{Has, ways_of, IsForest};
 ghost use Rattle.lg_rank.specs.Queues.{IsQueue, IsFirstAt, IsWaiting, IsOpened};
-ghost use Rattle.lg_rank.specs.Tables.{forest_of, parts, made_at, IsTable, IsBegun, IsIdle, rows_at, queue_at, held_by, IsWayOf, Holds, value_at, Chosen, GoesOn, Begin, HasRoom, Puts, IsSameNode, Starts, Stepped, RowsOf, row_list};
+ghost use Rattle.lg_rank.specs.Tables.{forest_of, parts, made_at, ready_at, IsTable, IsBegun, IsIdle, rows_at, queue_at, held_by, IsWayOf, Holds, value_at, Chosen, GoesOn, Begin, HasRoom, Puts, IsSameNode, Starts, Stepped, RowsOf, row_list};
 
 use crate::candidate::Candidate;
 use crate::part::{Part, Way};
-use crate::queue::{Waiting, first_place, put_in, take_first};
+use crate::queue::{Waiting, first_place, least_count, least_of, put_in, take_first};
 use crate::small::SmallWay;
 use lg_base::NoMemory;
 use std::alloc::Global;
@@ -28,7 +28,8 @@ pub struct Row {
     pub live: bool,
 }
 
-/// A node, with the parts that were made. A live row waits in the queue with the part that it makes next.
+/// A node, with the parts that were made. A live row waits in the queue with the part that it makes next. The first of the queue
+/// is the part behind those that were made: it can be read there, so that no part is made before the one behind it is asked for.
 #[derive(Debug, Drop)]
 pub struct Node {
     pub ways: Vec<SmallWay>,
@@ -43,6 +44,7 @@ impl Node {
     pub fn idle(alloc: Global, ways: Vec<SmallWay>) -> Node
         ensures ways { result.ways ≡ ways }
         ensures made { result.made.items ≡ [] }
+        ensures waiting { heap_items result.queue ≡ [] }
         ensures idle { result.begun ≡ false }
     {
         Node {
@@ -98,7 +100,16 @@ pub fn way_of(nothing: &Part, nodes: &[Node], k: usize, p: usize) -> Way
     nodes[k].ways[p].full()
 }
 
-/// How many values of a part were made.
+/// How many parts of the node can be read: those that were made, and the least that waits.
+pub fn ready_count(nodes: &[Node], k: usize) -> usize
+    requires { k < length nodes.now }
+    ensures { result ≡ length (ready_at nodes.now k) }
+{
+    let node = &nodes[k];
+    node.made.len() + least_count(&node.queue)
+}
+
+/// How many values of a part can be read.
 pub fn part_count(nothing: &Part, nodes: &[Node], part: Option<usize>) -> usize
     ensures { result ≡ length (parts (value_of nothing.now) nodes.now part) }
 {
@@ -106,7 +117,7 @@ pub fn part_count(nothing: &Part, nodes: &[Node], part: Option<usize>) -> usize
         None => 1,
         Some(k) => {
             if k < nodes.len() {
-                made_count(nodes, k)
+                ready_count(nodes, k)
             } else {
                 0
             }
@@ -121,16 +132,21 @@ pub fn part_of<'a>(nothing: &'a Part, nodes: &'a [Node], part: Option<usize>, i:
 {
     match part {
         None => nothing,
-        Some(k) => made_part(nodes, k, i),
+        Some(k) => ready_part(nodes, k, i),
     }
 }
 
-/// Part `i` of those of the node that were made.
-pub fn made_part(nodes: &[Node], k: usize, i: usize) -> &Part
-    requires { i < length (made_at nodes.now k) }
-    ensures { slice_get (made_at nodes.now k) i ≡ Some (value_of result.now) }
+// Part `i` of those of the node that can be read. Behind those that were made stands the least that waits.
+fn ready_part(nodes: &[Node], k: usize, i: usize) -> &Part
+    requires { i < length (ready_at nodes.now k) }
+    ensures { slice_get (ready_at nodes.now k) i ≡ Some (value_of result.now) }
 {
-    &nodes[k].made[i]
+    let node = &nodes[k];
+    if i < node.made.len() {
+        &node.made[i]
+    } else {
+        least_of(&node.queue)
+    }
 }
 
 fn row_count(nodes: &[Node], k: usize) -> usize
@@ -350,6 +366,7 @@ pub fn start_node(
     rows: Vec<Row>,
     queue: BinaryHeap<Waiting>,
 )
+    requires forest { IsForest (value_of nothing.now) (forest_of nodes.old.items) }
     requires table { IsTable (value_of nothing.now) nodes.old.items }
     requires idle { IsIdle nodes.old.items k }
     requires all { RowsOf (value_of nothing.now) (forest_of nodes.old.items) (parts (value_of nothing.now) nodes.old.items) k (length (ways_of (forest_of nodes.old.items) k)) [] rows.items }

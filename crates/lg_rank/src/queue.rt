@@ -1,12 +1,13 @@
 //! The rows of a node that still make a part: each waits with that part, and the least part comes first.
-ghost use Rattle.std.specs.Prelude.{◌≡◌, ◌≢◌, ◌+◌, ◌<◌, ◌≤◌, ◌++◌, [], IsOk, OnOk, MatchOption};
+ghost use Rattle.std.specs.Prelude.{◌≡◌, ◌≢◌, ◌+◌, ◌<◌, ◌≤◌, ◌++◌, ◌∷◌, [], length, IsOk, OnOk, MatchOption};
 ghost use Rattle.std.specs.BinaryHeap.{heap_items, heap_len, heap_capacity, KeepsHeap};
 ghost use Rattle.std.specs.Cmp.{partial_order_from_own_ties};
 ghost use Rattle.std.specs.Cmp.Rules.{comparing};
 ghost use Rattle.std.specs.List.Sorted.{IsPermutation};
 ghost use Rattle.std.specs.Ordering.{as_partial_cmp, eq_by_cmp};
 ghost use Rattle.std.proofs.Common.{rules};
-ghost use Rattle.lg_rank.specs.Queues.{waiting_cmp, waiting_list, IsFirstAt, Requeued};
+ghost use Rattle.lg_rank.specs.Queues.{waiting_cmp, waiting_list, least_part, IsFirstAt, Requeued};
+ghost use Rattle.lg_rank.specs.Values.{value_of};
 
 use crate::part::Part;
 use lg_base::NoMemory;
@@ -66,6 +67,26 @@ pub fn first_place(queue: &BinaryHeap<Waiting>) -> Option<usize>
         None => None,
         Some(first) => Some(first.place),
     }
+}
+
+/// How many parts can be read: the first, if a row waits.
+pub fn least_count(queue: &BinaryHeap<Waiting>) -> usize
+    ensures value { result ≡ length (least_part (heap_items queue.now)) }
+    ensures few { result ≤ 1 }
+{
+    match queue.peek() {
+        None => 0,
+        Some(_) => 1,
+    }
+}
+
+/// The part of the first. A row has to wait.
+pub fn least_of(queue: &BinaryHeap<Waiting>) -> &Part
+    requires { heap_items queue.now ≢ [] }
+    ensures { least_part (heap_items queue.now) ≡ value_of result.now ∷ [] }
+{
+    let first = queue.peek().unwrap();
+    &first.part
 }
 
 /// Puts one more in, if there is one. With room for it that does not fail.

@@ -1,11 +1,12 @@
 //! The good linkages of a problem with so many unlinked positions, one by one in order.
-ghost use Rattle.std.specs.Prelude.{◌≡◌, ◌+◌, ◌<◌, ◌^◌, ℕ, List, length, slice_get, IfOk, OnOk, OnErr};
+ghost use Rattle.std.specs.Prelude.{◌≡◌, ◌+◌, ◌<◌, ◌^◌, ℕ, List, length, slice_get, is_some, IfOk, OnOk, OnErr};
 ghost use Rattle.lg_gram.specs.Levels.{IsLevel};
 ghost use Rattle.lg_gram.specs.Linkages.{Linkage as Seen, linkage_cmp};
+ghost use Rattle.lg_gram.specs.declared.disjunct.Disjunct.{Disjunct};
 ghost use Rattle.lg_forest.specs.Forests.{IsForest};
 ghost use Rattle.lg_region.specs.Parts.{UnderWhole};
 ghost use Rattle.lg_rank.specs.Fronts.{IsFront, IsNext};
-ghost use Rattle.lg_rank.specs.Rankings.{Ranking, IsListing, IsLinkageAt, given};
+ghost use Rattle.lg_rank.specs.Rankings.{Ranking, IsListing, IsLinkageAt, given, passed_over, IsThere};
 ghost use Rattle.lg_rank.specs.Tables.{parts};
 ghost use Rattle.lg_rank.specs.Values.{value_of};
 
@@ -22,7 +23,7 @@ use lg_region::sentences_are_cut_once;
 use std::alloc::Global;
 use std::marker::Model;
 
-// The linkage of the value at `i` of the whole sentence, which stands in the table.
+// The linkage of the value at `i` of the whole sentence, which can be read.
 fn linkage_at(
     alloc: Global,
     problem: &Problem,
@@ -64,10 +65,29 @@ pub(crate) fn nth_linkage(
     Ok(Some(linkage))
 }
 
+/// Whether the level has a linkage at `i`, counted from 0. It is not written. After an error the next call goes on.
+pub(crate) fn has_linkage(
+    alloc: Global,
+    nothing: &Part,
+    table: &mut Table,
+    root: Option<usize>,
+    i: usize,
+) -> Result<bool, NoMemory>
+    requires listing { (positions : List (List Disjunct)) × (nulls : ℕ) × IsListing positions (value_of nothing.now) table.old.nodes.items nulls root }
+    ensures keeps { (positions : List (List Disjunct)) (nulls : ℕ) → IsListing positions (value_of nothing.now) table.old.nodes.items nulls root → IsListing positions (value_of nothing.now) table.new.nodes.items nulls root }
+    ensures next { (positions : List (List Disjunct)) (nulls : ℕ) (gs : List Seen) → IsListing positions (value_of nothing.now) table.old.nodes.items nulls root → IsFront linkage_cmp (UnderWhole positions nulls) gs → length gs ≡ i → IfOk result (IsThere (IsNext linkage_cmp (UnderWhole positions nulls) gs)) }
+    ensures listed { (positions : List (List Disjunct)) (nulls : ℕ) (level : List Seen) → IsListing positions (value_of nothing.now) table.old.nodes.items nulls root → IsLevel positions nulls level → IfOk result (λ there. there ≡ is_some (slice_get level i)) }
+{
+    values_are_linkages();
+    sentences_are_cut_once();
+    let there = table.has_part(alloc, nothing, root, i)?;
+    Ok(there)
+}
+
 /// The good linkages of a problem with so many unlinked positions, in order: the next is made when it is asked for.
 ///
 /// Contracts see `{ positions, nulls, position }`: the problem, how many positions are unlinked, and how many linkages were
-/// given.
+/// given or passed over.
 #[derive(Drop)]
 pub struct Ranked {
     problem: Problem,
@@ -177,7 +197,23 @@ impl Ranked {
         Ok(found)
     }
 
-    /// How many linkages were given.
+    /// Passes over the next linkage without writing it: whether there is one. After an error nothing has changed.
+    pub fn pass(&mut self, alloc: Global) -> Result<bool, NoMemory>
+        requires { self.old.position < 2 ^ 63 }
+        ensures next { (gs : List Seen) → IsFront linkage_cmp (UnderWhole self.old.positions self.old.nulls) gs → length gs ≡ self.old.position → IfOk result (IsThere (IsNext linkage_cmp (UnderWhole self.old.positions self.old.nulls) gs)) }
+        ensures listed { (level : List Seen) → IsLevel self.old.positions self.old.nulls level → IfOk result (λ there. there ≡ is_some (slice_get level self.old.position)) }
+        ensures moved { IfOk result (λ there. self.new ≡ record self.old { position = self.old.position + passed_over there }) }
+        ensures unchanged { OnErr result (self.new ≡ self.old) }
+    {
+        let i = self.position as usize;
+        let there = has_linkage(alloc, &self.nothing, &mut self.table, self.root, i)?;
+        if there {
+            self.position += 1;
+        }
+        Ok(there)
+    }
+
+    /// How many linkages were given or passed over.
     pub fn position(&self) -> u64
         ensures { result ≡ self.now.position }
     {

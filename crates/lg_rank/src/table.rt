@@ -6,8 +6,8 @@ ghost use Rattle.lg_rank.specs.Nodes.{Has, IsForest};
 ghost use Rattle.lg_rank.specs.Tables.{forest_of, parts, made_at, IsTable, Grown, end_of, IsNth, IsBegun, IsPart, GoesOn, IsFirstOf, Advances, Begin, IsIdle};
 
 use crate::node::{
-    Node, Row, add, choose, is_begun, made_count, part_count, queue_of, start_node, take_part,
-    way_count, way_of,
+    Node, Row, add, choose, is_begun, made_count, part_count, queue_of, ready_count, start_node,
+    take_part, way_count, way_of,
 };
 use crate::part::{Part, Way};
 use lg_base::NoMemory;
@@ -19,7 +19,7 @@ pub struct Table {
     pub nodes: Vec<Node>,
 }
 
-// The place behind that of a value that was made.
+// The place behind that of a value that can be read.
 fn next_place(nothing: &Part, nodes: &[Node], part: Option<usize>, i: usize) -> usize
     requires { i < length (parts (value_of nothing.now) nodes.now part) }
     ensures { result ≡ suc i }
@@ -31,7 +31,7 @@ fn next_place(nothing: &Part, nodes: &[Node], part: Option<usize>, i: usize) -> 
 }
 
 impl Table {
-    /// Whether node `k` has a part at `i`, which stands in the table then.
+    /// Whether node `k` has a part at `i`, which can be read then. Only the parts before it are made for that.
     #[cycle(merge)]
     pub fn nth(
         &mut self,
@@ -50,12 +50,12 @@ impl Table {
         if !is_begun(self.nodes.as_slice(), k) {
             self.begin(alloc, nothing, k)?;
         }
-        'making: while made_count(self.nodes.as_slice(), k) <= i {
+        'making: while made_count(self.nodes.as_slice(), k) < i {
             if !self.advance(alloc, nothing, k)? {
                 return Ok(false);
             }
         }
-        Ok(true)
+        Ok(i < ready_count(self.nodes.as_slice(), k))
     }
 
     #[cycle(merge)]
@@ -216,7 +216,7 @@ impl Table {
 }
 
 impl Table {
-    /// Whether a part has a value at `i`, counted from 0 in order. It stands in the table then. After an error what was made is
+    /// Whether a part has a value at `i`, counted from 0 in order. It can be read then. After an error what was made is
     /// kept, and the next call goes on.
     pub fn has_part(
         &mut self,

@@ -6,7 +6,7 @@ use Rattle.lg_rank.specs.Values.{value_of}
 use Rattle.lg_rank.specs.Tables.{IsTable, IsBegun, IsIdle, Chosen, Stepped, IsNth, Advances, made_at}
 use Rattle.lg_rank.proofs.Forests.{begun_more, grown_more, grown_none, forest_more}
 use Rattle.lg_rank.proofs.Reading.{idle_more}
-use Rattle.lg_rank.proofs.Steps.{chosen_left, chosen_right, chosen_grown, goes_on_grown, begin_step, begin_all, begin_slices, queue_slices, nth_none, first_made}
+use Rattle.lg_rank.proofs.Steps.{chosen_left, chosen_right, chosen_grown, goes_on_grown, begin_step, begin_all, begin_slices, queue_slices, nth_none, nth_ready, first_made}
 use Rattle.lg_rank.proofs.table.Table.+merge.Goals as goal
 use Rattle.lg_rank.proofs.table.Table.+merge.Goals.{nth-then-not-is_begun+in_ok-begin, nth-else-not-is_begun}
 
@@ -75,6 +75,12 @@ nth-returns-then-not-branch-clause-value t c =
     nth_none (value_of c.args.nothing.now) c.making.self.nodes.items c.advance.new.self.nodes.items c.args.k c.args.i
     (subst (λ (n : List Node). length (made_at n c.args.k) ≤ c.args.i) c.as_slice-in-making.ensures.value few)
     (subst (λ (b : Bool). Advances (value_of c.args.nothing.now) c.making.self.nodes.items c.advance.new.self.nodes.items c.args.k b) c.if-not-branch.true c.in_ok-advance.ensures.more)
+
+pub nth-returns-clause-value : goal.nth-returns-clause-value
+nth-returns-clause-value t c =
+    let s = c.making.invariant in
+    let forest = forest_more (value_of c.args.nothing.now) (suc c.args.k) c.args.self.now.nodes.items c.making.self.nodes.items s.grown c.requires.forest in
+    nth_ready (value_of c.args.nothing.now) c.making.self.nodes.items c.as_slice-in-making.result.now c.as_slice-2.result.now c.args.k c.args.i _ _ c.as_slice-in-making.ensures.value c.as_slice-2.ensures.value forest s.table s.begun c.made_count.ensures (omega arith) c.ready_count.ensures
 
 pub advance-beginning-requires : goal.advance-beginning-requires
 advance-beginning-requires t c =
