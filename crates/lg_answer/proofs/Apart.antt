@@ -1,11 +1,11 @@
 -- At a position no two formulas in use share a disjunct, so that their order tells the disjuncts of a position apart.
-use Rattle.std.proofs.Common.{◌≡◌, ◌⊎◌, ℕ, zero, suc, ◌+◌, ◌-◌, ◌<◌, ◌≤◌, Bool, true, false, List, [], ◌∷◌, ◌++◌, length, map, Contains, All, Some, slice_get, get_or, inl, inr, refl, sym, ap, ◌∙◌, subst, arith, Less, Equal, Greater, append-nil, le-leb}
+use Rattle.std.proofs.Common.{◌≡◌, ◌⊎◌, ℕ, zero, suc, ◌+◌, ◌-◌, ◌≤◌, Bool, true, false, List, [], ◌∷◌, ◌++◌, length, map, Contains, All, Some, slice_get, get_or, inl, inr, refl, sym, ap, ◌∙◌, subst, arith, Less, Equal, Greater, append-nil, le-leb}
 use Rattle.std.specs.Prelude.{slice_index_or, nat_le, ◌&&◌}
 use Rattle.std.specs.FinMap.{get}
 use Rattle.std.specs.Ordering.{nat_cmp, ordering_then}
 use Rattle.std.specs.Cmp.Lexicographic.{slice_cmp}
 use Rattle.std.proofs.lemmas.Bool.{and_from, cases_lt}
-use Rattle.std.proofs.lemmas.Cmp.{tied_itself, nat_list_cmp_total}
+use Rattle.std.proofs.lemmas.Cmp.{tied_itself}
 use Rattle.std.proofs.lemmas.List.{get_or_past}
 use Rattle.std.proofs.lemmas.List.Elements.{All-contains, Contains-append_cases}
 use Rattle.std.proofs.lemmas.Map.Lookups.{exact_unsigned}
@@ -23,9 +23,9 @@ use Rattle.lg_gram.proofs.Exact.{Less≢Equal, Greater≢Equal, first_equal, sec
 use Rattle.lg_dict.specs.Dictionary.{Dictionary}
 use Rattle.lg_disj.specs.Exist.{HasNames, ExpressionsHaveDisjuncts}
 use Rattle.lg_eprune.specs.Live.{WordTree}
-use Rattle.lg_idiom.specs.Idioms.{Chain, joint_of, formula_at, IsUsable, IsChain, AreIdioms, StandsForPart, Covers, AreTaken, no_chain, taken, left_out}
+use Rattle.lg_idiom.specs.Idioms.{Chain, joint_of, formula_at, IsUsable, StandsForPart, Covers, AreTaken, no_chain, taken, left_out}
 use Rattle.lg_idiom.specs.Sentences.{AddIdioms, AreTakenOf}
-use Rattle.lg_idiom.proofs.Chains.{contains_at, taken_in, told_apart, taken_within, lies}
+use Rattle.lg_idiom.proofs.Chains.{contains_at, taken_in, told_apart, taken_within}
 use Rattle.lg_idiom.proofs.JointTexts.{joint_read}
 use Rattle.lg_idiom.proofs.Parts.{Part, begins, goes_on, ends, part_of}
 use Rattle.lg_idiom.proofs.Sorting.{chains_total}

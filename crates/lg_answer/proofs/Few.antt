@@ -1,5 +1,5 @@
 -- A problem has no more disjuncts than the formulas of its words have choices, and these are few.
-use Rattle.std.proofs.Common.{◌≡◌, ℕ, zero, suc, ◌+◌, ◌<◌, ◌≤◌, Bool, true, false, cond, List, [], ◌∷◌, ◌++◌, length, map, Contains, All, Option, Some, None, inl, inr, refl, sym, ap, ◌∙◌, subst, arith, length-append}
+use Rattle.std.proofs.Common.{◌≡◌, ℕ, zero, suc, ◌+◌, ◌≤◌, Bool, true, false, cond, List, [], ◌∷◌, ◌++◌, length, map, Contains, All, Option, Some, None, refl, sym, ap, ◌∙◌, subst, arith, length-append}
 use Rattle.std.specs.Prelude.{nat_lt, slice_index_or}
 use Rattle.std.specs.Cmp.{eq_by_cmp_equiv}
 use Rattle.std.specs.Ordering.{eq_by_cmp}
@@ -16,10 +16,10 @@ use Rattle.std.proofs.lemmas.Map.Keys.{IsDistinct-from_sorted}
 use Rattle.std.proofs.lemmas.Map.Made.{length-le_from_is_member}
 use Rattle.std.proofs.lemmas.Slice.Zip.{AllZip-long}
 use Rattle.lg_base.proofs.Elements.{map_in, flat_in}
-use Rattle.lg_gram.specs.Limits.{POSITIONS, DISJUNCTS}
+use Rattle.lg_gram.specs.Limits.{POSITIONS}
 use Rattle.lg_gram.specs.Measures.{Choice, choices_of, choice_count}
 use Rattle.lg_gram.specs.Problems.{IsProblem, IsPosition}
-use Rattle.lg_gram.specs.Disjuncts.{disjunct_cmp, choice_of, IsDisjunctOf}
+use Rattle.lg_gram.specs.Disjuncts.{disjunct_cmp, choice_of}
 use Rattle.lg_gram.specs.Trees.{Tree}
 use Rattle.lg_gram.specs.declared.disjunct.Disjunct.{Disjunct}
 use Rattle.lg_gram.specs.declared.listing.Token.{Token}
@@ -29,7 +29,6 @@ use Rattle.lg_eprune.specs.Live.{WordTree}
 use Rattle.lg_token.specs.Bounds.{LISTED_CHOICES, word_choices, token_choices, all_choices, bound_of}
 use Rattle.lg_idiom.specs.Overlays.{AddedAreFew}
 use Rattle.lg_answer.proofs.Apart.{pairs}
-use Rattle.lg_answer.proofs.Lists.{zip_each}
 use Rattle.lg_answer.specs.Steps.{AreOfSentence, of_word, word_trees, AreWordTrees, AreWordTreesFor, AreAddedInUse, AreExprsInUse, IsOfTrees, AreMade}
 
 -- ---- the bounds of a sentence

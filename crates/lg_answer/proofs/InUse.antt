@@ -1,5 +1,5 @@
 -- The problem of the formulas in use is that of the tokens, with idioms or without.
-use Rattle.std.proofs.Common.{◌≡◌, ◌⊎◌, ◌↔◌, ℕ, zero, suc, ◌≤◌, Bool, true, false, List, [], ◌∷◌, ◌++◌, length, map, Contains, All, Some, slice_get, get_or, inl, inr, refl, sym, ap, ◌∙◌, subst, arith, append-nil}
+use Rattle.std.proofs.Common.{◌≡◌, ◌⊎◌, ◌↔◌, ℕ, zero, suc, Bool, true, false, List, [], ◌∷◌, ◌++◌, length, map, Contains, All, Some, slice_get, inl, inr, refl, sym, ap, ◌∙◌, subst, arith, append-nil}
 use Rattle.std.specs.Prelude.{slice_index_or}
 use Rattle.std.specs.List.{AllZip}
 use Rattle.std.proofs.lemmas.Bool.{cases_lt}
@@ -23,8 +23,8 @@ use Rattle.lg_answer.proofs.Lists.{zip_at, zip_each}
 use Rattle.lg_answer.proofs.Made.{expanded_none, are_expanded, have_expanded}
 use Rattle.lg_answer.proofs.Narrowed.{keeps_linkages}
 use Rattle.lg_answer.proofs.Words.{trees_out, trees_in}
-use Rattle.lg_answer.specs.Problems.{IsOfWords, IsProblemOf, IsIdiomProblem, IsProblemInUse}
-use Rattle.lg_answer.specs.Steps.{AreOfSentence, word_trees, AreNamed, AreWordTrees, AreWordTreesFor, AreAddedInUse, AreExprsInUse, behind, IsOfTrees, AreApart, AreExpanded, AreMade, HaveProblem, IsNarrowed}
+use Rattle.lg_answer.specs.Problems.{IsOfWords, IsProblemInUse}
+use Rattle.lg_answer.specs.Steps.{AreOfSentence, word_trees, AreNamed, AreWordTrees, AreWordTreesFor, AreExprsInUse, behind, IsOfTrees, AreApart, AreExpanded, AreMade, HaveProblem, IsNarrowed}
 
 -- ---- the formulas in use
 

@@ -1,5 +1,5 @@
 -- The work step by step: what the loops over words, tokens and candidates keep.
-use Rattle.std.specs.Prelude.{◌≡◌, ◌↔◌, ◌≤◌, ◌<◌, ℕ, ◌+◌, List, [], ◌∷◌, ◌++◌, length, map, take, drop, All, Contains, Bool, true, false, MatchBool, Option, Some, None, ◌⊎◌, slice_index_or}
+use Rattle.std.specs.Prelude.{◌≡◌, ◌↔◌, ◌<◌, ℕ, ◌+◌, List, [], ◌∷◌, ◌++◌, length, map, take, drop, All, Contains, Bool, true, false, MatchBool, Option, Some, None, ◌⊎◌, slice_index_or}
 use Rattle.std.specs.List.{AllZip, flat_map, enumerate_from}
 use Rattle.std.specs.FinMap.{get}
 use Rattle.std.specs.List.Sorted.{IsStrictlySortedBy}

@@ -1,5 +1,5 @@
 //! The words of a sentence with their formulas.
-ghost use Rattle.std.specs.Prelude.{◌≡◌, ◌++◌, All, IfOk, OnOk, length};
+ghost use Rattle.std.specs.Prelude.{◌≡◌, ◌++◌, All, IfOk, OnOk};
 ghost use Rattle.lg_gram.specs.Trees.{tree_of};
 ghost use Rattle.lg_answer.specs.Steps.{AreOfSentence, AreNamed, AreWordTrees, AddsTree, AreWordTreesFor, AreExprsInUse, behind};
 

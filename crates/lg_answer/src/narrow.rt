@@ -1,5 +1,5 @@
 //! The problem of a sentence, whole or without the choices that no linkage can use.
-ghost use Rattle.std.specs.Prelude.{◌≡◌, IfOk};
+ghost use Rattle.std.specs.Prelude.{IfOk};
 ghost use Rattle.lg_answer.specs.Steps.{AreOfSentence, HaveProblem, IsNarrowed};
 
 use crate::expanded::expanded;

@@ -28,7 +28,7 @@ use Rattle.lg_gram.specs.declared.listing.Violation.{Violation}
 use Rattle.lg_gram.proofs.Exact.{first_equal, second_equal}
 use Rattle.lg_gram.proofs.Orders.{disjuncts_total, linkages_total}
 use Rattle.lg_dict.specs.Dictionary.{Dictionary}
-use Rattle.lg_idiom.specs.Idioms.{Chain, Covers, AreAdded, AreIdioms, formula_at, word_cmp}
+use Rattle.lg_idiom.specs.Idioms.{Chain, Covers, AreAdded, AreIdioms, formula_at}
 use Rattle.lg_idiom.specs.Overlays.{IsOfAdded, TakenAreOne}
 use Rattle.lg_idiom.proofs.Sorting.{chains_total}
 use Rattle.lg_knowread.specs.declared.knowledge.Knowledge.{Knowledge}
