@@ -8,9 +8,9 @@ use Rattle.lg_gram.specs.Linkages.{Linkage, link_length}
 use Rattle.lg_gram.specs.Rules.{chosen_at, left_list, right_list, HasLink}
 use Rattle.lg_gram.specs.declared.disjunct.Disjunct.{Disjunct}
 use Rattle.lg_gram.specs.declared.linkage.Link.{Link}
-use Rattle.lg_sharpen.specs.Sites.{own, place_on, across, MatchOn}
+use Rattle.lg_sharpen.specs.Sites.{own, place_on, across, MatchOn, IsBeforeOf}
 use Rattle.lg_member.specs.Members.{list_on}
-use Rattle.lg_sharpen.specs.Bounds.{list_at, Fits, IsNearest, Allows, Covers}
+use Rattle.lg_sharpen.specs.Bounds.{list_at, Fits, IsNearest, HasFarther, HasNearer, Allows, Covers}
 use Rattle.lg_sharpen.specs.declared.site.Site.{Site}
 use Rattle.lg_member.proofs.Linked.{linked_at}
 use Rattle.lg_sharpen.proofs.Apart.{is_short}
@@ -152,3 +152,70 @@ near_link most g f right l h true p =
         λ e x hx same. n.least x hx (same ∙ n.own_is),
       )
     ]
+
+-- a link whose connector has another one behind it
+pub has_farther : (most : ℕ) (g : Linkage) → Fits most g → (right : Bool) (l : Link) → HasLink g l → place_on right l + 1 < length (list_at right g (own right l)) → HasFarther g right l
+has_farther most g f right l h w =
+    let j = joined most g f right l h in
+    let at = slice_get-get_or (list_at right g (own right l)) (place_on right l + 1) j.0 w in
+    let k = served most g f right (own right l) (place_on right l + 1) _ at in
+    let kp = k.3 in
+    (k.0, k.1, k.2, longer most g f right l k.0 h k.1 (sym k.2) (omega arith))
+
+pub fewer_before : (g : Linkage) (right : Bool) (l : Link) (n m : ℕ) → m ≤ n → (n ≡ 0) ⊎ HasNearer g right n l → (m ≡ 0) ⊎ HasNearer g right m l
+fewer_before g right l n m le (inl z) = inl (omega arith)
+fewer_before g right l n m le (inr e) = let a = e.3 in inr (e.0, e.1, e.2, omega arith, e.4)
+
+-- links farther than both ends of a link would cross
+both_farther : (most : ℕ) (g : Linkage) → Fits most g → (l : Link) → HasLink g l → HasFarther g true l → HasFarther g false l → ⊥
+both_farther most g f l h a b =
+    let w = f.rules.matched.forward l h in
+    let wa = f.rules.matched.forward a.0 a.1 in
+    let wb = f.rules.matched.forward b.0 b.1 in
+    let ea : a.0.left ≡ l.left = a.2 in
+    let eb : b.0.right ≡ l.right = b.2 in
+    let la : l.right - l.left < a.0.right - a.0.left = a.3 in
+    let lb : l.right - l.left < b.0.right - b.0.left = b.3 in
+    f.rules.planar b.0 a.0 b.1 a.1 (omega arith) (omega arith) (omega arith)
+
+pub farther_cross : (most : ℕ) (g : Linkage) → Fits most g → (right : Bool) (l : Link) → HasLink g l → HasFarther g right l → HasFarther g (not right) l → ⊥
+farther_cross most g f true l h a b = both_farther most g f l h a b
+farther_cross most g f false l h a b = both_farther most g f l h b a
+
+-- links nearer than both ends of a link have room
+nearer_fit : (most : ℕ) (g : Linkage) → Fits most g → (l : Link) → HasLink g l → (n m : ℕ) → HasNearer g true n l → HasNearer g false m l → n + m ≤ link_length l
+nearer_fit most g f l h n m a b =
+    let w = f.rules.matched.forward l h in
+    let wa = f.rules.matched.forward a.0 a.1 in
+    let wb = f.rules.matched.forward b.0 b.1 in
+    let ea : a.0.left ≡ l.left = a.2 in
+    let eb : b.0.right ≡ l.right = b.2 in
+    let na : n ≤ a.0.right - a.0.left = a.3 in
+    let nb : m ≤ b.0.right - b.0.left = b.3 in
+    let la : a.0.right - a.0.left < l.right - l.left = a.4 in
+    let lb : b.0.right - b.0.left < l.right - l.left = b.4 in
+    let r : n + m ≤ l.right - l.left = elim (cases_lt b.0.left a.0.right) [
+      | inl cross ↦ absurd (f.rules.planar a.0 b.0 a.1 b.1 (omega arith) cross (omega arith))
+      | inr apart ↦ omega arith
+    ] in
+    r
+
+pub before_fit : (most : ℕ) (g : Linkage) → Fits most g → (right : Bool) (l : Link) → HasLink g l → (n m : ℕ) → (n ≡ 0) ⊎ HasNearer g right n l → (m ≡ 0) ⊎ HasNearer g (not right) m l → n + m ≤ link_length l
+before_fit most g f right l h n m (inl a) (inl b) = omega arith
+before_fit most g f right l h n m (inl a) (inr b) = let x = b.3 in let y = b.4 in omega arith
+before_fit most g f right l h n m (inr a) (inl b) = let x = a.3 in let y = a.4 in omega arith
+before_fit most g f true l h n m (inr a) (inr b) = nearer_fit most g f l h n m a b
+before_fit most g f false l h n m (inr a) (inr b) = let r = nearer_fit most g f l h m n b a in omega arith
+
+-- what the place before says of a link
+pub before_is : (most : ℕ) (g : Linkage) → Fits most g → (right : Bool) (i : ℕ) (sites : List Site) → Covers g right i sites → (l : Link) → HasLink g l → own right l ≡ i → (p r : ℕ) → place_on right l ≡ p → p < length sites
+    → IsBeforeOf sites p r → (r ≡ 0) ⊎ HasNearer g right r l
+before_is most g f right i sites c l h o zero r pl w is = inl (is.first refl)
+before_is most g f right i sites c l h o (suc q) r pl w is =
+    let s = c.each l h o in
+    let at = slice_get-get_or sites q s.0 (omega arith) in
+    let k = covered most g f right i sites c q _ at (omega arith) in
+    let kf = k.4.from in
+    let kp = k.3 in
+    let low = is.other q _ (omega arith) at in
+    inr (k.0, k.1, k.2 ∙ sym o, omega arith, longer most g f right k.0 l k.1 h (k.2 ∙ sym o) (omega arith))

@@ -1,5 +1,5 @@
 -- Sites that are narrowed still allow all links.
-use Rattle.std.proofs.Common.{◌≡◌, ℕ, ◌+◌, ◌-◌, ◌<◌, ◌≤◌, List, length, set, refl, sym, ap, ◌∙◌, subst, Some, inl, inr, Bool, true, false, not, arith}
+use Rattle.std.proofs.Common.{◌≡◌, ℕ, ◌+◌, ◌-◌, ◌<◌, ◌≤◌, ◌⊎◌, List, length, set, refl, sym, ap, ◌∙◌, subst, Some, inl, inr, Bool, true, false, not, arith}
 use Rattle.std.specs.List.{slice_get}
 use Rattle.std.proofs.lemmas.Bool.{cases_eq, cases_lt}
 use Rattle.std.proofs.lemmas.Option.{same_Some, slice_get_within}
@@ -9,22 +9,23 @@ use Rattle.lg_gram.specs.Connectors.{Connector}
 use Rattle.lg_gram.specs.Linkages.{Linkage, link_length}
 use Rattle.lg_gram.specs.Rules.{HasLink}
 use Rattle.lg_gram.specs.declared.linkage.Link.{Link}
-use Rattle.lg_sharpen.specs.Sites.{own, place_on, across, MatchOn, Holds, HasPartner, IsFrom, IsBelow, IsFromOf, IsEndOf, IsAfter, IsAhead}
-use Rattle.lg_sharpen.specs.Bounds.{Fits, IsNearest, AllowsGaps, Allows, Covers, AllowsAll, IsNarrowed, Narrows, NarrowsAll}
+use Rattle.lg_sharpen.specs.Sites.{own, place_on, across, MatchOn, Holds, HasPartner, IsFrom, IsBelow, IsFromOf, IsEndOf, IsBeforeOf, IsAfter, IsAhead}
+use Rattle.lg_sharpen.specs.Bounds.{Fits, IsNearest, HasFarther, HasNearer, AllowsGaps, Allows, Covers, AllowsAll, IsNarrowed, Narrows, NarrowsAll}
 use Rattle.lg_member.specs.Cells.{Table}
 use Rattle.lg_member.specs.declared.side.Side.{Side}
 use Rattle.lg_sharpen.specs.Filling.{MaySpan}
 use Rattle.lg_sharpen.specs.declared.gaps.Gaps.{Gaps}
 use Rattle.lg_sharpen.specs.declared.site.Site.{Site}
-use Rattle.lg_sharpen.proofs.Ends.{longer, joined, is_across, short_on, covered, near_link}
+use Rattle.lg_sharpen.proofs.Ends.{longer, joined, is_across, short_on, covered, near_link, farther_cross, before_fit, before_is}
 
 match_same : (right : Bool) (a b c d : Connector) → a ≡ c → b ≡ d → MatchOn right a b → MatchOn right c d
 match_same right a b c d e f m = subst (λ z. MatchOn right z d) e (subst (λ z. MatchOn right a z) f m)
 
 -- a link has a partner of its site in the table, over its length
 has_partner : (right : Bool) (most : ℕ) (gaps : Gaps) (i : ℕ) (table : Table Site) (g : Linkage) → Fits most g → AllowsGaps g gaps → AllowsAll g (not right) table → (l : Link) → HasLink g l → own right l ≡ i
-    → (s asked : Site) → Allows g right l s → asked.connector ≡ s.connector → (asked.nearest ≡ true → IsNearest g right l) → HasPartner right most gaps i table asked (link_length l)
-has_partner right most gaps i table g f spans all l h o s asked a ec near =
+    → (s asked : Site) → Allows g right l s → asked.connector ≡ s.connector → (asked.nearest ≡ true → IsNearest g right l) → (asked.later ≡ true → HasFarther g right l)
+    → (asked.before ≡ 0) ⊎ HasNearer g right asked.before l → HasPartner right most gaps i table asked (link_length l)
+has_partner right most gaps i table g f spans all l h o s asked a ec near later before =
     let u = all l h in
     let j = joined most g f right l h in
     let far = subst (λ z. own (not right) l ≡ across right z (link_length l)) o (is_across right l (f.rules.matched.forward l h)) in
@@ -40,6 +41,8 @@ has_partner right most gaps i table g f spans all l h o s asked a ec near =
           span = subst (λ z. MaySpan (not right) gaps z (link_length l)) far (spans (not right) l h (u.2.nearest n));
           short = λ m. short_on most g f right l h (near m) (u.2.nearest n);
         };
+        later = λ n m. farther_cross most g f right l h (later n) (u.2.later m);
+        before = before_fit most g f right l h asked.before u.0.before before u.2.before;
         match_at = match_same right j.0 j.1 asked.connector u.0.connector x y j.4;
       },
     )
@@ -69,24 +72,29 @@ left_by_sides right most i g f sites p s asked at from end cov l h o pl =
 
 pub narrowed_is : (right : Bool) (most : ℕ) (gaps : Gaps) (i : ℕ) (table : Table Site) (sites : List Site) (p : ℕ) (s near far r : Site) → slice_get sites p ≡ Some s → IsFromOf sites p near.span.from
     → IsEndOf sites p near.span.end → near.connector ≡ s.connector → (near.nearest ≡ true → p ≡ 0) → far.span ≡ near.span → far.connector ≡ s.connector → far.nearest ≡ s.nearest
+    → near.later ≡ s.later → far.later ≡ s.later → r.later ≡ s.later → IsBeforeOf sites p near.before → far.before ≡ near.before → r.before ≡ near.before
     → IsFrom right most gaps i table near r.span.from → IsBelow right most gaps i table far r.span.end → r.connector ≡ s.connector → r.nearest ≡ s.nearest → IsNarrowed right most gaps i table sites p r
-narrowed_is right most gaps i table sites p s near far r at from end en nn es ef nf first last rc rn g f spans all cov l h o pl =
+narrowed_is right most gaps i table sites p s near far r at from end en nn es ef nf ln lf lr is_before bf br first last rc rn g f spans all cov l h o pl =
     let x = left_by_sides right most i g f sites p s near at from end cov l h o pl in
     let a = x.0 in
     let x1 = x.1 in
     let x2 = x.2 in
+    let inside = slice_get_within sites p s at in
+    let now = before_is most g f right i sites cov l h o p near.before pl inside is_before in
     let k = near_link most g f right l h near.nearest (λ n. pl ∙ nn n) in
     let y = left_by_sides right most i g f sites p s near at from end cov k.0 k.1 (k.2 ∙ o) (k.3 ∙ pl) in
     let y1 = y.1 in
-    let nearer = first (link_length k.0) y.2 y.1 (has_partner right most gaps i table g f spans all k.0 k.1 (k.2 ∙ o) s near y.0 en k.5) in
+    let nearer = first (link_length k.0) y.2 y.1 (has_partner right most gaps i table g f spans all k.0 k.1 (k.2 ∙ o) s near y.0 en k.5 (λ n. y.0.later (sym ln ∙ n)) (before_is most g f right i sites cov k.0 k.1 (k.2 ∙ o) p near.before (k.3 ∙ pl) inside is_before)) in
     let k4 = k.4 in
     let low : far.span.from ≤ link_length l = (let q = ap (λ z. z.from) es in omega arith) in
     let high : link_length l < far.span.end = (let q = ap (λ z. z.end) es in omega arith) in
     record {
       connector = a.connector ∙ ap (λ z. Some z) (sym rc);
       from = omega arith;
-      end = last (link_length l) high low (has_partner right most gaps i table g f spans all l h o s far a ef (λ n. a.nearest (sym nf ∙ n)));
+      end = last (link_length l) high low (has_partner right most gaps i table g f spans all l h o s far a ef (λ n. a.nearest (sym nf ∙ n)) (λ n. a.later (sym lf ∙ n)) (subst (λ z. (z ≡ 0) ⊎ HasNearer g right z l) (sym bf) now));
       nearest = λ n. a.nearest (sym rn ∙ n);
+      later = λ n. a.later (sym lr ∙ n);
+      before = subst (λ z. (z ≡ 0) ⊎ HasNearer g right z l) (sym br) now;
     }
 
 pub narrow_set : (right : Bool) (most : ℕ) (gaps : Gaps) (i : ℕ) (table : Table Site) (old now : List Site) (p : ℕ) (r : Site) → p < length now → IsNarrowed right most gaps i table now p r → Narrows right most gaps i table old now

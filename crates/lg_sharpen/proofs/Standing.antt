@@ -18,7 +18,7 @@ use Rattle.lg_member.specs.declared.side.Side.{Side}
 use Rattle.lg_sharpen.specs.declared.gaps.Gaps.{Gaps}
 use Rattle.lg_sharpen.specs.declared.site.Site.{Site}
 use Rattle.lg_member.specs.declared.member.Member.{Member}
-use Rattle.lg_sharpen.proofs.Ends.{joined, chosen_of, list_of, covered, only_is_nearest}
+use Rattle.lg_sharpen.proofs.Ends.{joined, chosen_of, list_of, covered, only_is_nearest, fewer_before, has_farther}
 
 -- which lists are open
 pub record OpenUpTo (lists : List (List Site)) (k : ℕ) (flags : List Bool) : Type 0 where
@@ -58,6 +58,8 @@ allows_wider g right l s w a is =
       from = omega arith;
       end = omega arith;
       nearest = λ n. a.nearest (is.nearest n);
+      later = λ n. a.later (is.later n);
+      before = fewer_before g right l s.before w.before is.before a.before;
     }
 
 -- the side of the member that a linkage uses at a position
@@ -174,6 +176,8 @@ starts most g f right n sides lists en a k side at e =
                 from = from;
                 end = end;
                 nearest = λ n. let q = s.nearest n in only_is_nearest most g f right l h t.0.connector connector q.0 q.1;
+                later = λ n. has_farther most g f right l h (let q = s.later n in let x = ap length (ap (λ z. list_at right g z) o) in let y = ap length e in omega arith);
+                before = inl s.before;
               },
             );
       },

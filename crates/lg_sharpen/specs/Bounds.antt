@@ -1,5 +1,5 @@
 -- What holds of each linkage that keeps the rules and has few unlinked words.
-use Rattle.std.specs.Prelude.{◌≡◌, ℕ, ◌<◌, ◌≤◌, Bool, true, false, not, cond, List, length, Some, slice_get}
+use Rattle.std.specs.Prelude.{◌≡◌, ℕ, ◌<◌, ◌≤◌, ◌⊎◌, Bool, true, false, not, cond, List, length, Some, slice_get}
 use Rattle.std.specs.List.{All}
 use Rattle.lg_gram.specs.Connectors.{Connector}
 use Rattle.lg_gram.specs.Linkages.{Linkage, unlinked, link_length}
@@ -30,6 +30,13 @@ pub record Fits (most : ℕ) (g : Linkage) : Type 0 where
 abbrev pub IsNearest : Linkage → Bool → Link → Type 0
 IsNearest g right l = (e : Link) → HasLink g e → own right e ≡ own right l → link_length l ≤ link_length e
 
+-- the position at this end has, on the same side of it, a farther link; a nearer one, which is no shorter than this
+abbrev pub HasFarther : Linkage → Bool → Link → Type 0
+HasFarther g right l = (e : Link) × HasLink g e × (own right e ≡ own right l) × (link_length l < link_length e)
+
+abbrev pub HasNearer : Linkage → Bool → ℕ → Link → Type 0
+HasNearer g right n l = (e : Link) × HasLink g e × (own right e ≡ own right l) × (n ≤ link_length e) × (link_length e < link_length l)
+
 -- nearest links span no gap that is shut
 abbrev pub AllowsGaps : Linkage → Gaps → Type 0
 AllowsGaps g gaps = (right : Bool) (l : Link) → HasLink g l → IsNearest g right l → MaySpan right gaps (own right l) (link_length l)
@@ -40,6 +47,8 @@ pub record Allows (g : Linkage) (right : Bool) (l : Link) (s : Site) : Type 0 wh
   pub from : s.span.from ≤ link_length l
   pub end : link_length l < s.span.end
   pub nearest : s.nearest ≡ true → IsNearest g right l
+  pub later : s.later ≡ true → HasFarther g right l
+  pub before : (s.before ≡ 0) ⊎ HasNearer g right s.before l
 
 -- the sites are those of the list of position i, and allow all its links
 pub record Covers (g : Linkage) (right : Bool) (i : ℕ) (sites : List Site) : Type 0 where

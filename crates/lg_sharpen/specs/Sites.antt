@@ -31,6 +31,8 @@ pub record MeetsOver (right lone : Bool) (d : ℕ) (s other : Site) : Type 0 whe
   pub from : other.span.from ≤ d
   pub end : d < other.span.end
   pub nearest : other.nearest ≡ true → lone ≡ true
+  pub later : s.later ≡ true → other.later ≡ true → ⊥
+  pub before : s.before + other.before ≤ d
   pub match_at : MatchOn right s.connector other.connector
 
 -- A link of this length from position i to the right, or to the left, may be the nearest of its other end. Where it is the nearest of both it is no longer than
@@ -45,6 +47,8 @@ pub record IsPartner (right : Bool) (most : ℕ) (gaps : Gaps) (i d : ℕ) (s ot
   pub end : d < other.span.end
   pub own : s.nearest ≡ true → MaySpan right gaps i d
   pub lone : other.nearest ≡ true → MayBeLone right most gaps i d s.nearest
+  pub later : s.later ≡ true → other.later ≡ true → ⊥
+  pub before : s.before + other.before ≤ d
   pub match_at : MatchOn right s.connector other.connector
 
 -- what can be linked to the second can be linked to the first
@@ -52,6 +56,8 @@ pub record IsWider (wide s : Site) : Type 0 where
   pub from : wide.span.from ≤ s.span.from
   pub end : s.span.end ≤ wide.span.end
   pub nearest : wide.nearest ≡ true → s.nearest ≡ true
+  pub later : wide.later ≡ true → s.later ≡ true
+  pub before : wide.before ≤ s.before
   pub connector : wide.connector ≡ s.connector
 
 -- more than the length of each link that a position of n can have, to the right, or to the left
@@ -64,6 +70,8 @@ pub record IsStarted (cs : List Connector) (end p : ℕ) (s : Site) : Type 0 whe
   pub from : s.span.from ≤ 1
   pub end_is : end ≤ s.span.end
   pub nearest : s.nearest ≡ true → (p ≡ 0) × (s.connector.multi ≡ false)
+  pub later : s.later ≡ true → p + 1 < length cs
+  pub before : s.before ≡ 0
 
 pub record AreStarted (cs : List Connector) (end : ℕ) (sites : List Site) : Type 0 where
   pub same_length : length sites ≡ length cs
@@ -117,6 +125,11 @@ IsFromOf sites p r = (d : ℕ) (s : Site) → slice_get sites p ≡ Some s → s
 -- more than the distances of a place, which are less than one of the next place
 abbrev pub IsEndOf : List Site → ℕ → ℕ → Type 0
 IsEndOf sites p r = (d : ℕ) (s : Site) → slice_get sites p ≡ Some s → d < s.span.end → ((t : Site) → slice_get sites (p + 1) ≡ Some t → d + 1 < t.span.end) → d < r
+
+-- no more than the distances of the place before, and 0 where there is none
+pub record IsBeforeOf (sites : List Site) (p r : ℕ) : Type 0 where
+  pub first : p ≡ 0 → r ≡ 0
+  pub other : (q : ℕ) (t : Site) → q + 1 ≡ p → slice_get sites q ≡ Some t → r ≤ t.span.from
 
 abbrev pub items_in : List (Vec Site) → List (List Site)
 items_in lists = map (λ v. v.items) lists

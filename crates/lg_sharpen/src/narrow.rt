@@ -1,6 +1,6 @@
 //! How far away the partners of a list's connectors may be.
 ghost use Rattle.std.specs.Prelude.{◌≡◌, ◌<◌, length};
-ghost use Rattle.lg_sharpen.specs.Sites.{IsAfter, IsAhead, IsBelow, IsEndOf, IsFrom, IsFromOf, items_in};
+ghost use Rattle.lg_sharpen.specs.Sites.{IsAfter, IsAhead, IsBeforeOf, IsBelow, IsEndOf, IsFrom, IsFromOf, items_in};
 ghost use Rattle.lg_sharpen.specs.Bounds.{IsNarrowed, Narrows, NarrowsAll};
 
 use crate::gaps::Gaps;
@@ -108,11 +108,15 @@ fn narrowed(
         connector: old.connector,
         span,
         nearest: place == 0,
+        later: old.later,
+        before: before_of(sites, place),
     };
     let far = Site {
         connector: old.connector,
         span,
         nearest: old.nearest,
+        later: old.later,
+        before: near.before,
     };
     let from = first(right, most, gaps, position, table, &near);
     let end = last(right, most, gaps, position, table, &far);
@@ -120,7 +124,22 @@ fn narrowed(
         connector: old.connector,
         span: Span { from, end },
         nearest: old.nearest,
+        later: old.later,
+        before: near.before,
     }
+}
+
+// How long each link of the place before is at least.
+fn before_of(sites: &[Site], place: usize) -> u32
+    requires { place < length sites.now }
+    ensures { IsBeforeOf sites.now place result }
+{
+    if place == 0 {
+        return 0;
+    }
+    let earlier = place - 1;
+    let before = sites[earlier];
+    before.span.from
 }
 
 fn from_of(sites: &[Site], place: usize) -> u32

@@ -1,5 +1,5 @@
 //! Sites: the connectors of lists, with how far away their partners may be.
-ghost use Rattle.std.specs.Prelude.{◌≡◌, ◌↔◌, ◌≤◌, true, IsTrue};
+ghost use Rattle.std.specs.Prelude.{◌≡◌, ◌↔◌, ◌≤◌, ◌+◌, true, IsTrue};
 ghost use Rattle.lg_sharpen.specs.Sites.{IsWider, MatchOn, MeetsOver};
 
 use lg_gram::{Connector, matches};
@@ -19,6 +19,10 @@ pub(crate) struct Site {
     pub(crate) span: Span,
     /// It is the first of its list, and each of its links is the nearest: it takes one link alone.
     pub(crate) nearest: bool,
+    /// A connector stands behind it on its list, whose links are farther.
+    pub(crate) later: bool,
+    /// How long each link of the connector before it is at least; 0 where there is none.
+    pub(crate) before: u32,
 }
 
 /// Whether two sites over this distance, the first of a list to the right, or to the left, can be linked, where the other may, or
@@ -29,7 +33,23 @@ pub(crate) fn meets(right: bool, lone: bool, distance: u32, site: &Site, other: 
     other.span.from <= distance
         && distance < other.span.end
         && implies(other.nearest, lone)
+        && are_not_both(site.later, other.later)
+        && has_room(site.before, other.before, distance)
         && matches_on(right, &site.connector, &other.connector)
+}
+
+// Links of later places on both sides of a link would cross.
+fn are_not_both(a: bool, b: bool) -> bool
+    ensures { IsTrue result ↔ (a ≡ true → b ≡ true → ⊥) }
+{
+    !(a && b)
+}
+
+// Links of earlier places on both sides of a link may meet, and do not cross.
+fn has_room(a: u32, b: u32, distance: u32) -> bool
+    ensures { IsTrue result ↔ (a + b ≤ distance) }
+{
+    u64::from(a) + u64::from(b) <= u64::from(distance)
 }
 
 fn matches_on(right: bool, a: &Connector, b: &Connector) -> bool
@@ -48,10 +68,12 @@ impl Wide for Site {
         self.span.from <= site.span.from
             && site.span.end <= self.span.end
             && implies(self.nearest, site.nearest)
+            && implies(self.later, site.later)
+            && self.before <= site.before
             && is_same_connector(&self.connector, &site.connector)
     }
 
-    ghost itself = { λ s. record { from = omega arith; end = omega arith; nearest = λ n. n; connector = refl } };
+    ghost itself = { λ s. record { from = omega arith; end = omega arith; nearest = λ n. n; later = λ n. n; before = omega arith; connector = refl } };
 }
 
 fn implies(wide: bool, nearest: bool) -> bool

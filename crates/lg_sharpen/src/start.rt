@@ -59,5 +59,7 @@ fn site_at(list: &[Connector], end: u32, place: usize) -> Site
         connector,
         span: Span { from: 1, end },
         nearest: place == 0 && !connector.is_multi(),
+        later: place + 1 < list.len(),
+        before: 0,
     }
 }
