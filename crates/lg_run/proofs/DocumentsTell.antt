@@ -90,8 +90,8 @@ same_versions session (commands ∷ scripts) (rs ∷ replies) (os ∷ others) a 
     length_map (r ∷ l) = ap suc (length_map l)
 
 pub documents_tell_answers : AnswersAreDetermined → RunsOfInputsAreShown → DocumentsTellAnswers
-documents_tell_answers determined shown contents words setup dict know scripts document is one other off =
-    let both = shown contents contents words words setup setup dict dict know know scripts scripts document is is one other off off in
+documents_tell_answers determined shown contents words setup dict know scripts document is one other =
+    let both = shown contents contents words words setup setup dict dict know know scripts scripts document is is one other in
     let versions = same_versions 1 scripts one.replies other.replies (whole_of scripts one.replies one.legal.same_length one.whole) (whole_of scripts other.replies other.legal.same_length other.whole)
     (ap (map (λ (s : Shown). number_of s.version)) both.0) in
     let legal = subst (λ (j : List Place). AreAnswersBy know setup.listing scripts dict j other.replies) (sym both.1) other.legal in

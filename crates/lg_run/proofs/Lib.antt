@@ -18,6 +18,7 @@ pub mod Shares
 pub mod JournalLines
 pub mod Printed
 pub mod Turned
+pub mod JournalFront
 pub mod Shown
 pub mod Numbers
 pub mod MadeAnswers

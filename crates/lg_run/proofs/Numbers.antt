@@ -5,7 +5,6 @@ use Rattle.std.specs.Option.{is_some, option_map_or}
 use Rattle.std.specs.List.{filter, enumerate_from, AllByRecursion}
 use Rattle.std.proofs.lemmas.Bool.{cond-true, cond-false, lt-leb}
 use Rattle.std.proofs.lemmas.Option.{slice_get-get_or}
-use Rattle.lg_gram.specs.Linkages.{Linkage}
 use Rattle.lg_gram.specs.declared.reply.Place.{Place}
 use Rattle.lg_gram.specs.declared.reply.Reply.{Reply}
 use Rattle.lg_gram.specs.declared.reply.Reply.TheVariants.{Listed, Beyond, Published, Refused, At, NoListing}
@@ -15,7 +14,7 @@ use Rattle.lg_run.specs.declared.setup.Setup.{Setup}
 use Rattle.lg_script.specs.Commands.{CommandView}
 use Rattle.lg_script.specs.Histories.{numbered, is_published, published_by, reply_version}
 use Rattle.lg_text.specs.Shown.{IsPlain, IsPlainReply, shown_version}
-use Rattle.lg_run.specs.Documents.{AreUsageLines, all_first_linkages, outcome_text, IsOutcome}
+use Rattle.lg_run.specs.Documents.{IsOutcome}
 use Rattle.lg_run.specs.Shown.{placed, all_placed, ArePlain, HasShortScripts, HasPlainTexts, OutcomesAreShown, RunsAreShown}
 
 pub from_all : {X : Type 0} (P : X → Type 0) (xs : List X) → All P xs → AllByRecursion P xs
@@ -223,19 +222,10 @@ module _ (setup : Setup) (dict : Dictionary) (know : Knowledge) (scripts : List 
   are_plain plain = let few = short.few in record {
     answers = sessions_plain 1 (length o.journal) scripts o.replies (omega arith) journal_few short.each there plain;
     places = each_both (λ (p : Place). p.session < 2 ^ 32) (λ (p : Place). p.command < 2 ^ 32) o.journal sessions_small commands_small;
+    few = journal_few;
   }
 
--- there are no lines of usage if they are not asked for
-no_lines : (asked : Bool) (gs : List Linkage) (lines : List ℕ) → asked ≡ false → AreUsageLines asked gs lines → lines ≡ []
-no_lines true gs lines e are = absurd (true≢false e)
-no_lines false gs lines e are = are
-
-is_bare : (setup : Setup) (dict : Dictionary) (know : Knowledge) (scripts : List (List CommandView)) (document : List ℕ) (o : IsOutcome setup dict know scripts document) → setup.usage ≡ false
-    → document ≡ outcome_text setup.look scripts o.replies o.journal []
-is_bare setup dict know scripts document o off = o.is ∙ ap (outcome_text setup.look scripts o.replies o.journal) (no_lines setup.usage (all_first_linkages scripts o.replies) o.lines off o.counted)
-
 pub runs_are_shown : OutcomesAreShown → RunsAreShown
-runs_are_shown shows setup setup' dict dict' know know' scripts scripts' document one other off off' short short' plain plain' =
-    shows setup.look setup'.look scripts scripts' one.replies other.replies one.journal other.journal
-    (are_plain setup dict know scripts document one short plain) (are_plain setup' dict' know' scripts' document other short' plain')
-    (sym (is_bare setup dict know scripts document one off) ∙ is_bare setup' dict' know' scripts' document other off')
+runs_are_shown shows setup setup' dict dict' know know' scripts scripts' document one other short short' plain plain' =
+    shows setup.look setup'.look scripts scripts' one.replies other.replies one.journal other.journal one.lines other.lines
+    (are_plain setup dict know scripts document one short plain) (are_plain setup' dict' know' scripts' document other short' plain') (sym one.is ∙ other.is)

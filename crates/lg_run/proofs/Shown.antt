@@ -6,12 +6,13 @@ use Rattle.lg_gram.specs.declared.reply.Place.{Place}
 use Rattle.lg_gram.specs.declared.reply.Reply.{Reply}
 use Rattle.lg_script.specs.Commands.{CommandView}
 use Rattle.lg_script.specs.Kinds.{kind_of}
-use Rattle.lg_text.specs.Replies.{reply_text, journal_text}
-use Rattle.lg_text.specs.Shown.{answer_text, document_text, DocumentsShow}
+use Rattle.lg_text.specs.Replies.{reply_text}
+use Rattle.lg_text.specs.Shown.{answer_text, LinesAreApart, DocumentsShow}
 use Rattle.lg_text.specs.declared.look.Look.{Look}
 use Rattle.lg_run.specs.Lines.{joined}
-use Rattle.lg_run.specs.Documents.{reply_texts, session_texts, outcome_text}
+use Rattle.lg_run.specs.Documents.{reply_texts, session_texts, journal_with, outcome_text}
 use Rattle.lg_run.specs.Shown.{placed, all_placed, OutcomesAreShown}
+use Rattle.lg_run.proofs.JournalFront.{same_without_lines}
 
 of_session : (look : Look) (session n : ℕ) (commands : List CommandView) (rs : List Reply) → joined (reply_texts look session n commands rs) ≡ flat_map (answer_text look) (placed session n commands rs)
 of_session look session n [] [] = refl
@@ -28,10 +29,11 @@ of_sessions look session (commands ∷ scripts) (rs ∷ replies) =
     ∙ (λ i. of_session look session 1 commands rs i ++ of_sessions look (session + 1) scripts replies i)
     ∙ sym (flat_map-append (answer_text look) (placed session 1 commands rs) (all_placed (session + 1) scripts replies))
 
-document_is : (look : Look) (scripts : List (List CommandView)) (replies : List (List Reply)) (journal : List Place) → outcome_text look scripts replies journal [] ≡ document_text look (all_placed 1 scripts replies) journal
-document_is look scripts replies journal = ap (λ (l : List ℕ). l ++ journal_text journal) (of_sessions look 1 scripts replies)
+document_is : (look : Look) (scripts : List (List CommandView)) (replies : List (List Reply)) (journal : List Place) (lines : List ℕ) → outcome_text look scripts replies journal lines ≡ flat_map (answer_text look) (all_placed 1 scripts replies) ++ journal_with lines journal
+document_is look scripts replies journal lines = ap (λ (l : List ℕ). l ++ journal_with lines journal) (of_sessions look 1 scripts replies)
 
-pub outcomes_are_shown : DocumentsShow → OutcomesAreShown
-outcomes_are_shown shows look look' scripts others replies answers journal edits p q e =
+pub outcomes_are_shown : LinesAreApart → DocumentsShow → OutcomesAreShown
+outcomes_are_shown apart shows look look' scripts others replies answers journal edits lines more p q e =
     shows look look' (all_placed 1 scripts replies) (all_placed 1 others answers) journal edits p.answers q.answers p.places q.places
-    (sym (document_is look scripts replies journal) ∙ e ∙ document_is look' others answers edits)
+    (same_without_lines apart look look' (all_placed 1 scripts replies) (all_placed 1 others answers) journal edits lines more p.answers q.answers p.few q.few
+    (sym (document_is look scripts replies journal lines) ∙ e ∙ document_is look' others answers edits more))

@@ -138,10 +138,10 @@ module _ (singles : ScriptsHaveSingleLines) (bounds : KeepBounds) (in_order : (d
       record { few = omega (arith, inputs.scripts_are.count, most); each = shorts_of scripts inputs.scripts_are.each }
 
   pub inputs_are_shown : RunsAreShown → RunsOfInputsAreShown
-  inputs_are_shown shown contents contents' words words' setup setup' dict dict' know know' scripts scripts' document is is' one other off off' =
+  inputs_are_shown shown contents contents' words words' setup setup' dict dict' know know' scripts scripts' document is is' one other =
       let inputs = inputs_of contents words setup dict know scripts is in
       let inputs' = inputs_of contents' words' setup' dict' know' scripts' is' in
-      shown setup setup' dict dict' know know' scripts scripts' document one other off off'
+      shown setup setup' dict dict' know know' scripts scripts' document one other
       (short_scripts contents words setup dict know scripts is) (short_scripts contents' words' setup' dict' know' scripts' is')
       (texts_plain know setup.listing scripts dict one.journal in_order (singles_of scripts inputs.scripts_are.each) inputs.plain one.replies one.legal)
       (texts_plain know' setup'.listing scripts' dict' other.journal in_order (singles_of scripts' inputs'.scripts_are.each) inputs'.plain other.replies other.legal)

@@ -1,5 +1,5 @@
 -- What the journal and the versions of the answers determine: every answer.
-use Rattle.std.specs.Prelude.{◌≡◌, true, false, ℕ, List, map, None}
+use Rattle.std.specs.Prelude.{◌≡◌, true, ℕ, List, map, None}
 use Rattle.lg_base.specs.Contents.{Contents}
 use Rattle.lg_gram.specs.declared.reply.Place.{Place}
 use Rattle.lg_gram.specs.declared.reply.Reply.{Reply}
@@ -35,10 +35,10 @@ AnswersAreDetermined =
     → AreAnswersBy know options scripts base journal replies → AreAnswersBy know options scripts base journal others → versions_named replies ≡ versions_named others
     → (map (λ (rs : List Reply). map without_stats rs) replies ≡ map (λ (rs : List Reply). map without_stats rs) others) × (options.count ≡ true → replies ≡ others)
 
--- The document of a run, without totals of usage, determines every answer, but for numbers of disjuncts that were not asked for: runs of
--- the same inputs that write the same document gave the same answers.
+-- The document of a run determines every answer, but for numbers of disjuncts that were not asked for: runs of the same inputs that write
+-- the same document gave the same answers.
 abbrev pub DocumentsTellAnswers : Type 0
 DocumentsTellAnswers =
     (contents : Contents) (words : List (List ℕ)) (setup : Setup) (dict : Dictionary) (know : Knowledge) (scripts : List (List CommandView)) (document : List ℕ)
-    → IsRunOf contents words setup dict know scripts → (one other : IsOutcome setup dict know scripts document) → setup.usage ≡ false
+    → IsRunOf contents words setup dict know scripts → (one other : IsOutcome setup dict know scripts document)
     → map (λ (rs : List Reply). map without_stats rs) one.replies ≡ map (λ (rs : List Reply). map without_stats rs) other.replies

@@ -1,5 +1,5 @@
 -- What the document of a run shows: the journal, and of each answer its place, its kind and its version.
-use Rattle.std.specs.Prelude.{◌≡◌, false, ℕ, ◌+◌, ◌<◌, ◌≤◌, ◌^◌, List, [], ◌∷◌, ◌++◌, length, map}
+use Rattle.std.specs.Prelude.{◌≡◌, ℕ, ◌+◌, ◌<◌, ◌≤◌, ◌^◌, List, [], ◌∷◌, ◌++◌, length, map}
 use Rattle.std.specs.List.{AllByRecursion}
 use Rattle.lg_base.specs.Contents.{Contents}
 use Rattle.lg_gram.specs.declared.reply.Place.{Place}
@@ -27,16 +27,18 @@ all_placed session (commands ∷ scripts) (rs ∷ replies) = placed session 1 co
 all_placed session scripts [] = []
 all_placed session [] replies = []
 
--- The numbers of answers and of the journal are of their types, and no text of an answer has a line feed.
+-- The numbers of answers and of the journal are of their types, also how many edits it has, and no text of an answer has a line feed.
 pub record ArePlain (scripts : List (List CommandView)) (replies : List (List Reply)) (journal : List Place) : Type 0 where
   pub answers : AllByRecursion IsPlain (all_placed 1 scripts replies)
   pub places : AllByRecursion IsPlace journal
+  pub few : length journal < 2 ^ 64
 
--- The document of a run determines the journal and, of each answer in order, its place, its kind and its version.
+-- The document of a run determines the journal and, of each answer in order, its place, its kind and its version, whatever stands before
+-- its last line.
 abbrev pub OutcomesAreShown : Type 0
 OutcomesAreShown =
-    (look look' : Look) (scripts others : List (List CommandView)) (replies answers : List (List Reply)) (journal edits : List Place) → ArePlain scripts replies journal → ArePlain others answers edits
-    → outcome_text look scripts replies journal [] ≡ outcome_text look' others answers edits []
+    (look look' : Look) (scripts others : List (List CommandView)) (replies answers : List (List Reply)) (journal edits : List Place) (lines more : List ℕ)
+    → ArePlain scripts replies journal → ArePlain others answers edits → outcome_text look scripts replies journal lines ≡ outcome_text look' others answers edits more
     → (map shown_of (all_placed 1 scripts replies) ≡ map shown_of (all_placed 1 others answers)) × (journal ≡ edits)
 
 -- fewer than 2^32 scripts, with fewer than 2^32 commands each
@@ -48,13 +50,12 @@ pub record HasShortScripts (scripts : List (List CommandView)) : Type 0 where
 abbrev pub HasPlainTexts : List (List Reply) → Type 0
 HasPlainTexts replies = AllByRecursion (λ rs. AllByRecursion IsPlainReply rs) replies
 
--- A document that is that of two runs, without totals of usage, shows of both the same journal and, of each answer in order, the same
--- place, kind and version.
+-- A document that is that of two runs shows of both the same journal and, of each answer in order, the same place, kind and version.
 abbrev pub RunsAreShown : Type 0
 RunsAreShown =
     (setup setup' : Setup) (dict dict' : Dictionary) (know know' : Knowledge) (scripts scripts' : List (List CommandView)) (document : List ℕ)
     (one : IsOutcome setup dict know scripts document) (other : IsOutcome setup' dict' know' scripts' document)
-    → setup.usage ≡ false → setup'.usage ≡ false → HasShortScripts scripts → HasShortScripts scripts' → HasPlainTexts one.replies → HasPlainTexts other.replies
+    → HasShortScripts scripts → HasShortScripts scripts' → HasPlainTexts one.replies → HasPlainTexts other.replies
     → (map shown_of (all_placed 1 scripts one.replies) ≡ map shown_of (all_placed 1 scripts' other.replies)) × (one.journal ≡ other.journal)
 
 -- Words that ask for sessions, and what files with these contents give for them.
@@ -66,11 +67,11 @@ pub record IsRunOf (contents : Contents) (words : List (List ℕ)) (setup : Setu
   pub names : List (List ℕ)
   pub read : InputsAre contents (Run setup dictionary knowledge files) names (accepted (RunGiven setup dict know scripts))
 
--- Whatever the inputs of two runs were: a document that is that of both, without totals of usage, shows of both the same journal and, of each
--- answer in order, the same place, kind and version.
+-- Whatever the inputs of two runs were: a document that is that of both shows of both the same journal and, of each answer in order, the
+-- same place, kind and version.
 abbrev pub RunsOfInputsAreShown : Type 0
 RunsOfInputsAreShown =
     (contents contents' : Contents) (words words' : List (List ℕ)) (setup setup' : Setup) (dict dict' : Dictionary) (know know' : Knowledge) (scripts scripts' : List (List CommandView)) (document : List ℕ)
     → IsRunOf contents words setup dict know scripts → IsRunOf contents' words' setup' dict' know' scripts'
-    → (one : IsOutcome setup dict know scripts document) (other : IsOutcome setup' dict' know' scripts' document) → setup.usage ≡ false → setup'.usage ≡ false
+    → (one : IsOutcome setup dict know scripts document) (other : IsOutcome setup' dict' know' scripts' document)
     → (map shown_of (all_placed 1 scripts one.replies) ≡ map shown_of (all_placed 1 scripts' other.replies)) × (one.journal ≡ other.journal)

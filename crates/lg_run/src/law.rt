@@ -42,9 +42,9 @@ pub fn dictionaries_are_plain()
 {}
 
 /// The document of a run determines the journal and, of each answer in order, its place, its kind and its version: `outcomes` for any
-/// answers whose numbers are of their types and whose texts have no line feed; `runs` for two runs of scripts that write the same
-/// document, without totals of usage, if no text of an answer has a line feed; and `inputs` for two such runs whatever their inputs
-/// are. The function does nothing: a caller whose proof needs the fact calls it.
+/// answers whose numbers are of their types and whose texts have no line feed, whatever lines stand before the last one; `runs` for
+/// two runs of scripts that write the same document, with totals of usage or without, if no text of an answer has a line feed; and
+/// `inputs` for two such runs whatever their inputs are. The function does nothing: a caller whose proof needs the fact calls it.
 pub fn documents_show()
     ensures outcomes { OutcomesAreShown }
     ensures runs { RunsAreShown }
@@ -57,8 +57,8 @@ pub fn documents_show()
 }
 
 /// The journal and the versions that answers name determine every answer: `answers` says all of it if disjuncts are counted, and else all
-/// but their numbers; and so the document of a run does, without totals of usage, whatever its inputs are (`documents`). The function
-/// does nothing: a caller whose proof needs the fact calls it.
+/// but their numbers; and so the document of a run does, whatever its inputs are (`documents`). The function does nothing: a caller
+/// whose proof needs the fact calls it.
 pub fn answers_are_determined()
     ensures answers { AnswersAreDetermined }
     ensures documents { DocumentsTellAnswers }

@@ -5,7 +5,7 @@ use Rattle.lg_run.proofs.law.documents_show.Goals as goal
 
 pub returns : goal.returns
 returns c =
-    let outcomes = outcomes_are_shown c.documents_show.ensures.documents in
+    let outcomes = outcomes_are_shown c.documents_show.ensures.lines c.documents_show.ensures.documents in
     let runs = runs_are_shown outcomes in
     record {
       outcomes = outcomes;
