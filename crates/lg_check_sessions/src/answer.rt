@@ -3,6 +3,7 @@ ghost use Rattle.std.specs.Prelude.{◌≡◌, ◌+◌, ◌≤◌, ◌<◌, ◌^
 ghost use Rattle.lg_gram.specs.Trees.{tree_of};
 ghost use Rattle.lg_gram.specs.Formulas.{LevelFits};
 ghost use Rattle.lg_dict.specs.Dictionary.{AreEntries};
+ghost use Rattle.lg_forest.specs.Forests.{AreWorkers};
 ghost use Rattle.lg_knowread.specs.declared.knowledge.Knowledge.{Knowledge as SeenKnowledge};
 ghost use Rattle.lg_answer.specs.Candidates.{StandsFor};
 
@@ -16,7 +17,7 @@ use std::process::Abort;
 use std::test::Fail;
 use std::thread::Threads;
 
-fn entry(alloc: Global, word: &[u8], expr: Expr) -> Result<Entry, Fail>
+pub(crate) fn entry(alloc: Global, word: &[u8], expr: Expr) -> Result<Entry, Fail>
     ensures words { IfOk result (λ entry. entry.words ≡ word.now ∷ []) }
     ensures macros { IfOk result (λ entry. entry.macros ≡ []) }
     ensures level { IfOk result (λ entry. LevelFits entry.level (tree_of entry.formula)) }
@@ -34,7 +35,7 @@ fn entry(alloc: Global, word: &[u8], expr: Expr) -> Result<Entry, Fail>
 }
 
 // A connector of one of these letters.
-fn any_of(alloc: Global, letters: &[u8], right: bool) -> Result<Expr, Fail> {
+pub(crate) fn any_of(alloc: Global, letters: &[u8], right: bool) -> Result<Expr, Fail> {
     let mut members = Vec::new(alloc);
     for letter in letters {
         let connector = Connector::of(&[*letter], b"", false, right).ok_or("a name")?;
@@ -55,7 +56,7 @@ fn entries(alloc: Global) -> Result<Vec<Entry>, Fail>
 }
 
 // No rule, or the one that each link A is part of a cycle.
-fn knowledge(alloc: Global, strict: bool) -> Result<Knowledge, Fail>
+pub(crate) fn knowledge(alloc: Global, strict: bool) -> Result<Knowledge, Fail>
     ensures { IfOk result (λ know. length know.rules ≤ 1) }
 {
     let mut rules = Vec::new(alloc);
@@ -126,7 +127,6 @@ fn started<R: Threads + Sync>(
     ensures first { IfOk result (λ listing. listing.course.position ≡ 0) }
     ensures stands { (know : SeenKnowledge) → IfOk result (λ listing. StandsFor know listing.course) }
 {
-    let dict = Dict::of(alloc, entries)?;
     let options = Options {
         want: 10,
         examine: 1000,
@@ -134,12 +134,31 @@ fn started<R: Threads + Sync>(
         prune: true,
         count: true,
         workers: 2,
+        idioms: false,
     };
-    Ok(Listing::start(rt, alloc, &View::of(alloc, &dict), text, &options)?)
+    started_by(rt, alloc, entries, text, &options)
+}
+
+// The same by these options.
+pub(crate) fn started_by<R: Threads + Sync>(
+    rt: &R,
+    alloc: Global,
+    entries: Vec<Entry>,
+    text: &str,
+    options: &Options,
+) -> Result<Listing, Fail>
+    requires entries { AreEntries entries.items }
+    requires short { length text.now < 2 ^ 32 }
+    requires workers { AreWorkers options.now.workers }
+    ensures first { IfOk result (λ listing. listing.course.position ≡ 0) }
+    ensures stands { (know : SeenKnowledge) → IfOk result (λ listing. StandsFor know listing.course) }
+{
+    let dict = Dict::of(alloc, entries)?;
+    Ok(Listing::start(rt, alloc, &View::of(alloc, &dict), text, options)?)
 }
 
 // The next page, of at most so many candidates that pass.
-fn turned(
+pub(crate) fn turned(
     alloc: Global,
     listing: Listing,
     know: &Knowledge,

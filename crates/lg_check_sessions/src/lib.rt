@@ -4,6 +4,8 @@
 #[cfg(test)]
 mod answer;
 #[cfg(test)]
+mod compounds;
+#[cfg(test)]
 mod log;
 #[cfg(test)]
 mod meeting;
