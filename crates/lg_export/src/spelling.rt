@@ -7,26 +7,20 @@ ghost use Rattle.lg_export.specs.Spots.{spot_of, is_empty, is_optional};
 use crate::spot::Spot;
 use lg_base::{NoMemory, write_bytes, write_cost};
 use lg_gram::{Connector, Expr, Exprs};
-use std::alloc::Global;
 
 /// Appends an expression as it is spelled at a spot.
 #[cycle(spell)]
-pub(crate) fn write_expr(
-    alloc: Global,
-    out: &mut Vec<u8>,
-    spot: Spot,
-    e: &Expr,
-) -> Result<(), NoMemory>
+pub(crate) fn write_expr(out: &mut Vec<u8>, spot: Spot, e: &Expr) -> Result<(), NoMemory>
     ensures { OnOk result (out.new.items ≡ out.old.items ++ spelled (spot_of spot) (tree_of e.now)) }
 {
     match e {
         Expr::Empty => write_bytes(out, b"()"),
         Expr::Conn(c) => write_connector(out, c),
-        Expr::And(members) => write_all(alloc, out, spot, members),
-        Expr::Or(members) => write_any(alloc, out, spot, members),
+        Expr::And(members) => write_all(out, spot, members),
+        Expr::Or(members) => write_any(out, spot, members),
         Expr::Priced(inner, cost) => {
             write_bytes(out, b"[")?;
-            write_expr(alloc, out, Spot::Top, inner)?;
+            write_expr(out, Spot::Top, inner)?;
             write_bytes(out, b"]")?;
             write_cost(out, *cost)
         }
@@ -35,14 +29,14 @@ pub(crate) fn write_expr(
 
 // Members joined by `&`, as a whole.
 #[cycle(spell)]
-fn write_all(alloc: Global, out: &mut Vec<u8>, spot: Spot, members: &Exprs) -> Result<(), NoMemory>
+fn write_all(out: &mut Vec<u8>, spot: Spot, members: &Exprs) -> Result<(), NoMemory>
     ensures { OnOk result (out.new.items ≡ out.old.items ++ spelled (spot_of spot) (all_of (trees_in (expr_items members.now)))) }
 {
     match spot {
-        Spot::Top | Spot::InOr => write_members(alloc, out, Spot::InAnd, b" & ", members),
+        Spot::Top | Spot::InOr => write_members(out, Spot::InAnd, b" & ", members),
         Spot::InAnd => {
             write_bytes(out, b"(")?;
-            write_members(alloc, out, Spot::InAnd, b" & ", members)?;
+            write_members(out, Spot::InAnd, b" & ", members)?;
             write_bytes(out, b")")
         }
     }
@@ -50,34 +44,33 @@ fn write_all(alloc: Global, out: &mut Vec<u8>, spot: Spot, members: &Exprs) -> R
 
 // Members joined by `or`, as a whole.
 #[cycle(spell)]
-fn write_any(alloc: Global, out: &mut Vec<u8>, spot: Spot, members: &Exprs) -> Result<(), NoMemory>
+fn write_any(out: &mut Vec<u8>, spot: Spot, members: &Exprs) -> Result<(), NoMemory>
     ensures { OnOk result (out.new.items ≡ out.old.items ++ spelled (spot_of spot) (one_of (trees_in (expr_items members.now)))) }
 {
     match spot {
-        Spot::Top => write_members(alloc, out, Spot::InOr, b" or ", members),
-        Spot::InOr | Spot::InAnd => write_any_in_brackets(alloc, out, members),
+        Spot::Top => write_members(out, Spot::InOr, b" or ", members),
+        Spot::InOr | Spot::InAnd => write_any_in_brackets(out, members),
     }
 }
 
 // The same, in the brackets that it has as a member.
 #[cycle(spell)]
-fn write_any_in_brackets(alloc: Global, out: &mut Vec<u8>, members: &Exprs) -> Result<(), NoMemory>
+fn write_any_in_brackets(out: &mut Vec<u8>, members: &Exprs) -> Result<(), NoMemory>
     ensures { OnOk result (out.new.items ≡ out.old.items ++ spelled in_or (one_of (trees_in (expr_items members.now)))) }
 {
     if is_optional(members) {
         write_bytes(out, b"{")?;
-        write_expr(alloc, out, Spot::Top, &members.items()[1])?;
+        write_expr(out, Spot::Top, &members.items()[1])?;
         return write_bytes(out, b"}");
     }
     write_bytes(out, b"(")?;
-    write_members(alloc, out, Spot::InOr, b" or ", members)?;
+    write_members(out, Spot::InOr, b" or ", members)?;
     write_bytes(out, b")")
 }
 
 // The members one after another, with this text between them.
 #[cycle(spell)]
 fn write_members(
-    alloc: Global,
     out: &mut Vec<u8>,
     spot: Spot,
     between: &[u8],
@@ -88,10 +81,10 @@ fn write_members(
     let Some((first, rest)) = members.items().split_first() else {
         return Ok(());
     };
-    write_expr(alloc, out, spot, first)?;
+    write_expr(out, spot, first)?;
     for member in rest {
         write_bytes(out, between)?;
-        write_expr(alloc, out, spot, member)?;
+        write_expr(out, spot, member)?;
     }
     Ok(())
 }

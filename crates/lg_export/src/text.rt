@@ -53,8 +53,8 @@ pub fn export(alloc: Global, view: &View) -> Result<Vec<u8>, ExportError>
     }
     let macros = view.macros(alloc)?;
     let mut out = Vec::new(alloc);
-    write_macros(alloc, &mut out, view, macros.items())?;
-    write_words(alloc, &mut out, view, words.items())?;
+    write_macros(&mut out, view, macros.items())?;
+    write_words(&mut out, view, words.items())?;
     Ok(out)
 }
 
@@ -65,31 +65,25 @@ fn quoted(words: &[Text]) -> Option<&Text>
     words.iter().find(|word| word.bytes().contains(&b'"'))
 }
 
-fn write_macros(
-    alloc: Global,
-    out: &mut Vec<u8>,
-    view: &View,
-    names: &[Text],
-) -> Result<(), NoMemory>
+fn write_macros(out: &mut Vec<u8>, view: &View, names: &[Text]) -> Result<(), NoMemory>
     ensures { OnOk result (out.new.items ≡ out.old.items ++ flat_map (line_of_macro view.now) names.now) }
 {
     for name in names {
-        write_macro(alloc, out, view, name)?;
+        write_macro(out, view, name)?;
     }
     Ok(())
 }
 
-fn write_macro(alloc: Global, out: &mut Vec<u8>, view: &View, name: &Text) -> Result<(), NoMemory>
+fn write_macro(out: &mut Vec<u8>, view: &View, name: &Text) -> Result<(), NoMemory>
     ensures { OnOk result (out.new.items ≡ out.old.items ++ line_of_macro view.now name.now) }
 {
     match view.named(name.bytes()) {
-        Some((formula, level)) => write_macro_line(alloc, out, name, formula, level),
+        Some((formula, level)) => write_macro_line(out, name, formula, level),
         None => Ok(()),
     }
 }
 
 fn write_macro_line(
-    alloc: Global,
     out: &mut Vec<u8>,
     name: &Text,
     formula: &Formula,
@@ -102,16 +96,16 @@ fn write_macro_line(
     let more = macro_level.saturating_sub(level(Spot::Top, e));
     write_bytes(out, name.bytes())?;
     write_bytes(out, b": ")?;
-    write_bracketed(alloc, out, more, e)?;
+    write_bracketed(out, more, e)?;
     write_bytes(out, b";\n")
 }
 
 // An expression in so many pairs of round brackets.
-fn write_bracketed(alloc: Global, out: &mut Vec<u8>, pairs: u32, e: &Expr) -> Result<(), NoMemory>
+fn write_bracketed(out: &mut Vec<u8>, pairs: u32, e: &Expr) -> Result<(), NoMemory>
     ensures { OnOk result (out.new.items ≡ out.old.items ++ bracketed pairs (spelled top (tree_of e.now))) }
 {
     write_repeated(out, b'(', pairs)?;
-    write_expr(alloc, out, Spot::Top, e)?;
+    write_expr(out, Spot::Top, e)?;
     write_repeated(out, b')', pairs)
 }
 
@@ -125,40 +119,30 @@ fn write_repeated(out: &mut Vec<u8>, byte: u8, count: u32) -> Result<(), NoMemor
     Ok(())
 }
 
-fn write_words(
-    alloc: Global,
-    out: &mut Vec<u8>,
-    view: &View,
-    words: &[Text],
-) -> Result<(), NoMemory>
+fn write_words(out: &mut Vec<u8>, view: &View, words: &[Text]) -> Result<(), NoMemory>
     ensures { OnOk result (out.new.items ≡ out.old.items ++ flat_map (line_of_word view.now) words.now) }
 {
     for word in words {
-        write_word(alloc, out, view, word)?;
+        write_word(out, view, word)?;
     }
     Ok(())
 }
 
-fn write_word(alloc: Global, out: &mut Vec<u8>, view: &View, word: &Text) -> Result<(), NoMemory>
+fn write_word(out: &mut Vec<u8>, view: &View, word: &Text) -> Result<(), NoMemory>
     ensures { OnOk result (out.new.items ≡ out.old.items ++ line_of_word view.now word.now) }
 {
     match view.get(word.bytes()) {
-        Some(formula) => write_word_line(alloc, out, word, formula),
+        Some(formula) => write_word_line(out, word, formula),
         None => Ok(()),
     }
 }
 
-fn write_word_line(
-    alloc: Global,
-    out: &mut Vec<u8>,
-    word: &Text,
-    formula: &Formula,
-) -> Result<(), NoMemory>
+fn write_word_line(out: &mut Vec<u8>, word: &Text, formula: &Formula) -> Result<(), NoMemory>
     ensures { OnOk result (out.new.items ≡ out.old.items ++ word_line (word.now, tree_of formula.now)) }
 {
     write_bytes(out, b"\"")?;
     write_bytes(out, word.bytes())?;
     write_bytes(out, b"\": ")?;
-    write_expr(alloc, out, Spot::Top, formula.expr())?;
+    write_expr(out, Spot::Top, formula.expr())?;
     write_bytes(out, b";\n")
 }
