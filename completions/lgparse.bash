@@ -1,7 +1,7 @@
 # Completion of lgparse for bash: commands, options with their values, and files in the places of files.
 _lgparse() {
   local word=${COMP_WORDS[COMP_CWORD]} before=${COMP_WORDS[COMP_CWORD - 1]} command=${COMP_WORDS[1]-} i operands=0
-  local options='--want --examine --nulls --diagram --stats --prune --workers'
+  local options='--want --examine --nulls --idioms --diagram --stats --prune --workers'
   [[ $command == run ]] && options+=' --usage'
   COMPREPLY=()
   # (`=` is a word of its own here: --want = 3)
@@ -17,7 +17,7 @@ _lgparse() {
   case $command:$before in
     --install:*) compopt -o filenames 2>/dev/null && mapfile -t COMPREPLY < <(compgen -d -- "$word") && return ;;
     [!-]*:--nulls) mapfile -t COMPREPLY < <(compgen -W 'first passing' -- "$word") && return ;;
-    [!-]*:--diagram | [!-]*:--stats | [!-]*:--prune | run:--usage) mapfile -t COMPREPLY < <(compgen -W 'on off' -- "$word") && return ;;
+    [!-]*:--idioms | [!-]*:--diagram | [!-]*:--stats | [!-]*:--prune | run:--usage) mapfile -t COMPREPLY < <(compgen -W 'on off' -- "$word") && return ;;
     [!-]*:--want | [!-]*:--examine | [!-]*:--workers) return ;;
   esac
   if [[ $command == export ]]; then

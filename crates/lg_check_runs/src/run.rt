@@ -3,6 +3,7 @@
 mod cuts;
 mod exports;
 mod faults;
+mod idioms;
 mod limits;
 mod looks;
 mod refusals;

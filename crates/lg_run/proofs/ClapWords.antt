@@ -20,7 +20,7 @@ use Rattle.lg_run.specs.Matched.{option_rule, TellsSettings}
 use Rattle.lg_run.specs.Settings.{name_of, value_kind, option_word}
 use Rattle.lg_run.proofs.OptionWords.{all_settings, setting_by, value_is}
 use Rattle.lg_run.specs.declared.options.Setting.{Setting}
-use Rattle.lg_run.specs.declared.options.Setting.TheVariants.{Want, Examine, Nulls, Prune, Stats, Diagram, Workers, Usage}
+use Rattle.lg_run.specs.declared.options.Setting.TheVariants.{Want, Examine, Nulls, Prune, Stats, Diagram, Workers, Idioms, Usage}
 
 abbrev Settings : Type 0
 Settings = List (Text × Text)
@@ -34,7 +34,7 @@ abbrev pub app : App
 app =
     let numbers = with_rule (with_rule bare (option_rule (codes "want"))) (option_rule (codes "examine")) in
     let switches = with_rule (with_rule (with_rule (with_rule numbers (option_rule (codes "nulls"))) (option_rule (codes "prune"))) (option_rule (codes "stats"))) (option_rule (codes "diagram")) in
-    with_rule (with_rule switches (option_rule (codes "workers"))) (option_rule (codes "usage"))
+    with_rule (with_rule (with_rule switches (option_rule (codes "workers"))) (option_rule (codes "idioms"))) (option_rule (codes "usage"))
 
 -- a command that is called so, with these settings
 pub bare_is : (a b c : Command) → app_of a ≡ new_app (codes "options") → out-Command b ≡ record (out-Command a) { no_binary_name = true } → out-Command c ≡ record (out-Command b) { disable_help_flag = true }
@@ -101,6 +101,7 @@ found Prune = record { by_long = refl; by_id = refl; alone = refl; open_end = re
 found Stats = record { by_long = refl; by_id = refl; alone = refl; open_end = refl; with_value = λ v. refl; open_with = λ v. refl }
 found Diagram = record { by_long = refl; by_id = refl; alone = refl; open_end = refl; with_value = λ v. refl; open_with = λ v. refl }
 found Workers = record { by_long = refl; by_id = refl; alone = refl; open_end = refl; with_value = λ v. refl; open_with = λ v. refl }
+found Idioms = record { by_long = refl; by_id = refl; alone = refl; open_end = refl; with_value = λ v. refl; open_with = λ v. refl }
 found Usage = record { by_long = refl; by_id = refl; alone = refl; open_end = refl; with_value = λ v. refl; open_with = λ v. refl }
 
 name_passes : (s : Setting) (h : Held) → settle_passes top.rules false h ≡ true → turn_passes top [] (at idle h) (option_word s) ≡ true
@@ -313,7 +314,7 @@ reads words settings are =
     record {
       taken = opened words ∙ ap (λ (x : Walk). after x (walk_passes top [] (walk_from nothing_held) words)) r.goes.goes ∙ ap (after (at idle r.end)) r.goes.passes ∙ ends_well r.end r.follows.passes;
       told = λ name. ap (λ (x : Walk). first_of name (finished top.rules x.held)) r.goes.goes
-          ∙ ap (first_of name) (no_default (settled top.rules r.end).rows top.rules (refl, (refl, (refl, (refl, (refl, (refl, (refl, (refl, tt)))))))) ∙ r.follows.rows) ∙ first_row name settings;
+          ∙ ap (first_of name) (no_default (settled top.rules r.end).rows top.rules (refl, (refl, (refl, (refl, (refl, (refl, (refl, (refl, (refl, tt))))))))) ∙ r.follows.rows) ∙ first_row name settings;
     }
 
 -- the matches tell the options

@@ -16,7 +16,7 @@ use Rattle.lg_run.specs.Words.{Task, One, Run, Gen, Export, HasForm, one_options
 use Rattle.lg_run.specs.Settings.{name_of, value_kind, named, operand, IsCut}
 use Rattle.lg_run.specs.declared.options.Kind.{Kind}
 use Rattle.lg_run.specs.declared.options.Setting.{Setting}
-use Rattle.lg_run.specs.declared.options.Setting.TheVariants.{Want, Examine, Nulls, Prune, Stats, Diagram, Workers, Usage}
+use Rattle.lg_run.specs.declared.options.Setting.TheVariants.{Want, Examine, Nulls, Prune, Stats, Diagram, Workers, Idioms, Usage}
 use Rattle.lg_run.specs.Commands.{option_words, task, IsCommand}
 use Rattle.lg_run.specs.declared.command.Command.{Command}
 use Rattle.lg_run.proofs.OptionWords.{Settings, one_settings, all_settings, more_known, setting_by, same_setting, same_cut}
@@ -62,10 +62,11 @@ gives_some known words settings read =
     let p = switch_given (value_of (codes "prune") settings) default_options.prune (form_given known Prune words settings read) in
     let s = switch_given (value_of (codes "stats") settings) default_look.stats (form_given known Stats words settings read) in
     let d = switch_given (value_of (codes "diagram") settings) default_look.diagram (form_given known Diagram words settings read) in
+    let j = switch_given (value_of (codes "idioms") settings) default_options.idioms (form_given known Idioms words settings read) in
     let u = switch_given (value_of (codes "usage") settings) false (form_given known Usage words settings read) in
     let k = workers_given (value_of (codes "workers") settings) default_options.workers (omega arith, omega arith) (form_given known Workers words settings read) in (
-      record { listing = record { want = w.0; examine = x.0; nulls = v.0; prune = p.0; count = s.0; workers = k.0 }; look = record { diagram = d.0; stats = s.0 }; usage = u.0 },
-      record { want = w.1; examine = x.1; nulls = v.1; prune = p.1; stats = s.1; diagram = d.1; workers = k.1; usage = u.1; count = refl },
+      record { listing = record { want = w.0; examine = x.0; nulls = v.0; prune = p.0; count = s.0; workers = k.0; idioms = j.0 }; look = record { diagram = d.0; stats = s.0 }; usage = u.0 },
+      record { want = w.1; examine = x.1; nulls = v.1; prune = p.1; stats = s.1; diagram = d.1; workers = k.1; idioms = j.1; usage = u.1; count = refl },
       record { want = w.2; examine = x.2; workers = k.2 },
     )
 
@@ -103,9 +104,9 @@ one_workers (Some value) usual n m h k = h.number.value ∙ sym k.number.value
 
 -- setups with the same values
 pub same_values : (x y : Setup) → x.listing.want ≡ y.listing.want → x.listing.examine ≡ y.listing.examine → x.listing.nulls ≡ y.listing.nulls → x.listing.prune ≡ y.listing.prune
-    → x.listing.count ≡ y.listing.count → x.listing.workers ≡ y.listing.workers → x.look.diagram ≡ y.look.diagram → x.look.stats ≡ y.look.stats → x.usage ≡ y.usage → x ≡ y
-same_values x y w e n p c k d s u = λ i. record {
-  listing = record { want = w i; examine = e i; nulls = n i; prune = p i; count = c i; workers = k i };
+    → x.listing.count ≡ y.listing.count → x.listing.workers ≡ y.listing.workers → x.listing.idioms ≡ y.listing.idioms → x.look.diagram ≡ y.look.diagram → x.look.stats ≡ y.look.stats → x.usage ≡ y.usage → x ≡ y
+same_values x y w e n p c k j d s u = λ i. record {
+  listing = record { want = w i; examine = e i; nulls = n i; prune = p i; count = c i; workers = k i; idioms = j i };
   look = record { diagram = d i; stats = s i };
   usage = u i;
 }
@@ -116,6 +117,7 @@ same_gives settings x y h k =
     same_values x y (one_number _ _ x.listing.want y.listing.want h.want k.want) (one_number _ _ x.listing.examine y.listing.examine h.examine k.examine)
     (one_nulls _ _ x.listing.nulls y.listing.nulls h.nulls k.nulls) (one_switch _ _ x.listing.prune y.listing.prune h.prune k.prune)
     (h.count ∙ stats ∙ sym k.count) (one_workers _ _ x.listing.workers y.listing.workers h.workers k.workers)
+    (one_switch _ _ x.listing.idioms y.listing.idioms h.idioms k.idioms)
     (one_switch _ _ x.look.diagram y.look.diagram h.diagram k.diagram) stats (one_switch _ _ x.usage y.usage h.usage k.usage)
 
 -- ---- the task

@@ -16,7 +16,7 @@ use Rattle.lg_run.specs.Words.{HasForm, one_options, run_options, IsKnown, Write
 use Rattle.lg_run.specs.Words as forms
 use Rattle.lg_run.specs.Settings.{name_of, value_kind, named, option_word, IsPlain, Begins, apart, joined, BeginsWith, front_of, is_given, Ends, nothing, operand, Cuts, IsCut}
 use Rattle.lg_run.specs.declared.options.Setting.{Setting}
-use Rattle.lg_run.specs.declared.options.Setting.TheVariants.{Want, Examine, Nulls, Prune, Stats, Diagram, Workers, Usage}
+use Rattle.lg_run.specs.declared.options.Setting.TheVariants.{Want, Examine, Nulls, Prune, Stats, Diagram, Workers, Idioms, Usage}
 use Rattle.lg_run.specs.declared.options.Kind.{Kind}
 use Rattle.lg_run.specs.declared.options.Kind.TheVariants as kinds
 
@@ -25,7 +25,7 @@ Settings = List (List ℕ × List ℕ)
 
 -- the options of `one`, and all that there are
 abbrev pub one_settings : List Setting
-one_settings = Want ∷ Examine ∷ Nulls ∷ Prune ∷ Stats ∷ Diagram ∷ Workers ∷ []
+one_settings = Want ∷ Examine ∷ Nulls ∷ Prune ∷ Stats ∷ Diagram ∷ Workers ∷ Idioms ∷ []
 
 abbrev pub all_settings : List Setting
 all_settings = one_settings ++ Usage ∷ []
@@ -98,6 +98,7 @@ plain_word Prune = plain_tested (option_word Prune) refl
 plain_word Stats = plain_tested (option_word Stats) refl
 plain_word Diagram = plain_tested (option_word Diagram) refl
 plain_word Workers = plain_tested (option_word Workers) refl
+plain_word Idioms = plain_tested (option_word Idioms) refl
 plain_word Usage = plain_tested (option_word Usage) refl
 
 -- a known name is that of an option
@@ -138,6 +139,7 @@ begun_is Prune = refl
 begun_is Stats = refl
 begun_is Diagram = refl
 begun_is Workers = refl
+begun_is Idioms = refl
 begun_is Usage = refl
 
 pub same_setting : (s t : Setting) → option_word s ≡ option_word t → s ≡ t

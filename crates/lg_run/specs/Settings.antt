@@ -5,7 +5,7 @@ use Rattle.lg_run.specs.Words.{HasForm, Known, AreOptions, value_of, is_operand}
 use Rattle.lg_run.specs.declared.options.Kind.{Kind}
 use Rattle.lg_run.specs.declared.options.Kind.TheVariants as kinds
 use Rattle.lg_run.specs.declared.options.Setting.{Setting}
-use Rattle.lg_run.specs.declared.options.Setting.TheVariants.{Want, Examine, Nulls, Prune, Stats, Diagram, Workers, Usage}
+use Rattle.lg_run.specs.declared.options.Setting.TheVariants.{Want, Examine, Nulls, Prune, Stats, Diagram, Workers, Idioms, Usage}
 
 -- the name of an option
 abbrev pub name_of : Setting → List ℕ
@@ -16,6 +16,7 @@ name_of Prune = codes "prune"
 name_of Stats = codes "stats"
 name_of Diagram = codes "diagram"
 name_of Workers = codes "workers"
+name_of Idioms = codes "idioms"
 name_of Usage = codes "usage"
 
 -- how its value is written
@@ -27,6 +28,7 @@ value_kind Prune = kinds.Switch
 value_kind Stats = kinds.Switch
 value_kind Diagram = kinds.Switch
 value_kind Workers = kinds.Workers
+value_kind Idioms = kinds.Switch
 value_kind Usage = kinds.Switch
 
 -- options by their names

@@ -58,7 +58,7 @@ Known = List (List ℕ × Kind)
 abbrev pub one_options : Known
 one_options =
     (codes "want", kinds.Number) ∷ (codes "examine", kinds.Number) ∷ (codes "nulls", kinds.Nulls) ∷ (codes "prune", kinds.Switch)
-    ∷ (codes "stats", kinds.Switch) ∷ (codes "diagram", kinds.Switch) ∷ (codes "workers", kinds.Workers) ∷ []
+    ∷ (codes "stats", kinds.Switch) ∷ (codes "diagram", kinds.Switch) ∷ (codes "workers", kinds.Workers) ∷ (codes "idioms", kinds.Switch) ∷ []
 
 abbrev pub run_options : Known
 run_options = one_options ++ (codes "usage", kinds.Switch) ∷ []
@@ -119,6 +119,7 @@ pub record Gives (settings : List (List ℕ × List ℕ)) (setup : Setup) : Type
   pub stats : GivesSwitch (value_of (codes "stats") settings) default_look.stats setup.look.stats
   pub diagram : GivesSwitch (value_of (codes "diagram") settings) default_look.diagram setup.look.diagram
   pub workers : GivesWorkers (value_of (codes "workers") settings) default_options.workers setup.listing.workers
+  pub idioms : GivesSwitch (value_of (codes "idioms") settings) default_options.idioms setup.listing.idioms
   pub usage : GivesSwitch (value_of (codes "usage") settings) false setup.usage
   pub count : setup.listing.count ≡ setup.look.stats
 

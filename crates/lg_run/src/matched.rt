@@ -43,6 +43,7 @@ fn matches_of(alloc: Global, words: &[String]) -> Result<ArgMatches<'_>, Error>
         .arg(option(alloc, "stats"))?
         .arg(option(alloc, "diagram"))?
         .arg(option(alloc, "workers"))?
+        .arg(option(alloc, "idioms"))?
         .arg(option(alloc, "usage"))?;
     command.try_get_matches_from(words)
 }
@@ -68,6 +69,7 @@ fn setup_in(matches: &ArgMatches<'_>) -> Setup
             prune: switch_or(matches.get_str("prune"), usual.listing.prune),
             count: stats,
             workers: workers_or(matches.get_str("workers"), usual.listing.workers),
+            idioms: switch_or(matches.get_str("idioms"), usual.listing.idioms),
         },
         look: Look {
             diagram: switch_or(matches.get_str("diagram"), usual.look.diagram),

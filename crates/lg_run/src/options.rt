@@ -19,6 +19,7 @@ pub(crate) enum Setting {
     Stats,
     Diagram,
     Workers,
+    Idioms,
     Usage,
 }
 
@@ -32,7 +33,7 @@ pub(crate) enum Kind {
 }
 
 /// The options of `one`.
-pub(crate) const ONE: [Setting; 7] = [
+pub(crate) const ONE: [Setting; 8] = [
     Setting::Want,
     Setting::Examine,
     Setting::Nulls,
@@ -40,10 +41,11 @@ pub(crate) const ONE: [Setting; 7] = [
     Setting::Stats,
     Setting::Diagram,
     Setting::Workers,
+    Setting::Idioms,
 ];
 
 /// The options of `run`.
-pub(crate) const RUN: [Setting; 8] = [
+pub(crate) const RUN: [Setting; 9] = [
     Setting::Want,
     Setting::Examine,
     Setting::Nulls,
@@ -51,6 +53,7 @@ pub(crate) const RUN: [Setting; 8] = [
     Setting::Stats,
     Setting::Diagram,
     Setting::Workers,
+    Setting::Idioms,
     Setting::Usage,
 ];
 
@@ -192,6 +195,7 @@ fn setting_by(word: &str) -> Option<Setting>
         "--stats" => Some(Setting::Stats),
         "--diagram" => Some(Setting::Diagram),
         "--workers" => Some(Setting::Workers),
+        "--idioms" => Some(Setting::Idioms),
         "--usage" => Some(Setting::Usage),
         _ => None,
     }
@@ -204,7 +208,8 @@ impl Setting {
         match self {
             Setting::Want | Setting::Examine => Kind::Number,
             Setting::Nulls => Kind::Nulls,
-            Setting::Prune | Setting::Stats | Setting::Diagram | Setting::Usage => Kind::Switch,
+            Setting::Prune | Setting::Stats | Setting::Diagram | Setting::Idioms | Setting::Usage =>
+                Kind::Switch,
             Setting::Workers => Kind::Workers,
         }
     }

@@ -15,7 +15,8 @@ command_is c =
     let counts = c.in_ok-arg-5.ensures.shape c.option-5.ensures.local ∙ ap₂ with_rule prunes c.option-5.ensures.rule in
     let drawn = c.in_ok-arg-6.ensures.shape c.option-6.ensures.local ∙ ap₂ with_rule counts c.option-6.ensures.rule in
     let works = c.in_ok-arg-7.ensures.shape c.option-7.ensures.local ∙ ap₂ with_rule drawn c.option-7.ensures.rule in
-    c.in_ok-command.ensures.shape c.option-8.ensures.local ∙ ap₂ with_rule works c.option-8.ensures.rule
+    let joins = c.in_ok-arg-8.ensures.shape c.option-8.ensures.local ∙ ap₂ with_rule works c.option-8.ensures.rule in
+    c.in_ok-command.ensures.shape c.option-9.ensures.local ∙ ap₂ with_rule joins c.option-9.ensures.rule
 
 pub returns-clause-ok : goal.returns-clause-ok
 returns-clause-ok c = λ settings are.
