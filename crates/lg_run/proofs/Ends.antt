@@ -21,6 +21,7 @@ use Rattle.lg_run.specs.Lines.{memory_line, dict_line, know_line, script_line}
 use Rattle.lg_run.specs.Stops.{dict_status, know_status, script_status, stop_status, stop_line, EndsAs, EndsWithLine}
 use Rattle.lg_run.specs.Reads.{Comes, TellsStop, IsFaultOf, IsAbout}
 use Rattle.lg_run.specs.Answers.{WhereTold, IsNoTask, Unwritten, Caused, Told, AnswersRefused, AnswersAccepted, names_of, IsRefusal, HasLine, WritesLine, WritesLineFront, Finishes, last_line, IsStopped}
+use Rattle.lg_run.specs.Shown.{RunsOfInputsAreShown, ShowsWhatItSays}
 use Rattle.lg_run.specs.declared.stop.Stop.{Stop}
 use Rattle.lg_run.specs.declared.stop.Stop.TheVariants.{Memory, Unreadable, TooLong, Dictionary, Knowledge, Script, TooManyEdits, TooFewVersions, Quoted}
 use Rattle.lg_run.specs.declared.status.Status.{Status}
@@ -47,6 +48,23 @@ pub told_map : (contents : Option Contents) (words : List (List ℕ)) (Holds Mor
     ((known : Contents) (t : Task) → Holds (InputsAre known t) → More (InputsAre known t)) → WhereTold contents words Holds → WhereTold contents words More
 told_map None words Holds More leads h = tt
 told_map (Some known) words Holds More leads h = λ t is. leads known t (h t is)
+
+-- ---- what the bytes show
+
+-- by the law, whatever was written
+shown_so : RunsOfInputsAreShown → (contents : Contents) (words : List (List ℕ)) (before after : Option (List ℕ)) (status : Status) → ShowsWhatItSays contents words before after status
+shown_so shown contents words before after Done = λ setup dict know scripts document is written one other.
+    shown contents contents words words setup setup dict dict know know scripts scripts document is is one other
+shown_so shown contents words before after WriteFault = tt
+shown_so shown contents words before after BadInput = tt
+shown_so shown contents words before after Usage = tt
+shown_so shown contents words before after ReadFault = tt
+shown_so shown contents words before after NoMemory = tt
+
+pub shows_what_it_says : RunsOfInputsAreShown → (contents : Option Contents) (words : List (List ℕ)) (before after : Option (List ℕ)) (status : Status)
+    → IfSome contents (λ known. ShowsWhatItSays known words before after status)
+shows_what_it_says shown None words before after status = tt
+shows_what_it_says shown (Some known) words before after status = shown_so shown known words before after status
 
 -- ---- the options that were read
 
