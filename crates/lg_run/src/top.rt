@@ -10,7 +10,7 @@ ghost use Rattle.lg_run.specs.Lines.{line_about};
 ghost use Rattle.lg_run.specs.Reads.{AsksInOrder, AsksMore, given_in};
 ghost use Rattle.lg_run.specs.Written.{HasHaltCause};
 ghost use Rattle.lg_run.specs.Shown.{ShowsWhatItSays};
-ghost use Rattle.lg_run.specs.Stops.{dict_status, know_status, script_status, SaysOf, EndsAs, EndsWithLine};
+ghost use Rattle.lg_run.specs.Stops.{dict_status, SaysOf, EndsAs, EndsWithLine};
 ghost use Rattle.lg_run.specs.Answers.{WhereTold, IsNoTask, Unwritten, Caused, Told, AnswersRefused, AnswersAccepted, WritesLine, WritesLineFront, Finishes, Documents, last_line, IsStopped, IsGivenInBounds};
 
 use crate::command::command_of;
@@ -29,8 +29,8 @@ use crate::usage::usage_lines;
 use lg_base::{Files, NoMemory, Sink, SinkFault};
 use lg_dict::Dict;
 use lg_dictread::{DictError, WordFileError};
-use lg_knowread::{KnowError, Knowledge};
-use lg_script::{ScriptError, Scripts};
+use lg_knowread::Knowledge;
+use lg_script::Scripts;
 use lg_session::{Gate, run_sessions};
 use std::alloc::Global;
 use std::thread::Threads;
@@ -254,11 +254,11 @@ fn refuse<E: Sink>(alloc: Global, err: &mut E, stop: Stop<'_>) -> Status
         }
         Stop::Knowledge(name, error) => {
             let line = know_line(alloc, name.as_bytes(), error);
-            fail_with(err, know_status(error), line)
+            fail_with(err, Status::BadInput, line)
         }
         Stop::Script(name, error) => {
             let line = script_line(alloc, name.as_bytes(), error);
-            fail_with(err, script_status(error), line)
+            fail_with(err, Status::BadInput, line)
         }
         Stop::TooManyEdits(name) => {
             let line = edits_line(alloc, name.as_bytes());
@@ -295,32 +295,12 @@ fn fail_with<E: Sink>(err: &mut E, status: Status, line: Result<Vec<u8>, NoMemor
     }
 }
 
-fn know_status(error: KnowError) -> Status
-    ensures status { result ≡ know_status error }
-    ensures stopped { IsStopped result }
-{
-    match error {
-        KnowError::NoMemory => Status::NoMemory,
-        _ => Status::BadInput,
-    }
-}
-
-fn script_status(error: ScriptError) -> Status
-    ensures status { result ≡ script_status error }
-    ensures stopped { IsStopped result }
-{
-    match error {
-        ScriptError::NoMemory => Status::NoMemory,
-        _ => Status::BadInput,
-    }
-}
-
+// A word file that cannot be read is a read fault, and each other error is one of the text.
 fn dict_status(error: &DictError) -> Status
     ensures status { result ≡ dict_status error.now }
     ensures stopped { IsStopped result }
 {
     match error {
-        DictError::NoMemory => Status::NoMemory,
         DictError::WordFile(_, _, WordFileError::Failed) => Status::ReadFault,
         _ => Status::BadInput,
     }
