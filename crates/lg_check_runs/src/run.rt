@@ -5,6 +5,7 @@ mod exports;
 mod faults;
 mod limits;
 mod looks;
+mod recounts;
 mod refusals;
 mod rows;
 mod sessions;
