@@ -30,6 +30,8 @@ pub mod PlainMaps
 pub mod LeafChoices
 pub mod PlainTrees
 pub mod PlainDictionaries
+pub mod PlainLines
+pub mod PlainIdioms
 pub mod PlainAnswers
 pub mod ShownInputs
 pub mod DocumentsTell

@@ -1,13 +1,9 @@
 -- No text of a legal answer has a line feed, if no text of the scripts has one, nor of the dictionary.
-use Rattle.std.proofs.Common.{◌≡◌, ◌≢◌, ℕ, zero, suc, ◌+◌, ◌-◌, ◌||◌, Bool, true, false, eqb, List, [], ◌∷◌, length, take, drop, Option, Some, None, IfSome, slice_get, slice_index_or, refl, sym, subst, arith}
-use borrow.Author.Tests.{eqb-true}
-use Rattle.std.specs.List.{AllByRecursion, list_any}
-use Rattle.std.proofs.lemmas.List.Elements.{All-from_recursion, All-contains, recursion_from_All}
+use Rattle.std.proofs.Common.{◌≡◌, ℕ, zero, suc, ◌+◌, ◌-◌, ◌<◌, List, [], ◌∷◌, length, take, drop, Option, Some, None, IfSome, slice_get, slice_index_or, refl, sym, subst, arith}
+use Rattle.std.specs.List.{AllByRecursion}
+use Rattle.std.proofs.lemmas.List.Elements.{recursion_from_All}
 use Rattle.std.proofs.lemmas.Option.{get_or_from_slice_get, slice_get_within}
-use Rattle.lg_gram.specs.Connectors.{Connector, connector_text}
-use Rattle.lg_gram.specs.Disjuncts.{choice_of}
 use Rattle.lg_gram.specs.Linkages.{Linkage}
-use Rattle.lg_gram.specs.Measures.{choices_of}
 use Rattle.lg_gram.specs.Rules.{Good}
 use Rattle.lg_gram.specs.declared.disjunct.Disjunct.{Disjunct}
 use Rattle.lg_gram.specs.declared.edit.EditRefusal.{EditRefusal}
@@ -22,7 +18,6 @@ use Rattle.lg_expr.proofs.AllOf.{all_right}
 use Rattle.lg_knowread.specs.declared.knowledge.Knowledge.{Knowledge}
 use Rattle.lg_token.specs.Spans.{LiesIn, is_piece, is_left_wall, is_right_wall, LieInOrder}
 use Rattle.lg_token.specs.Tokens.{AreTokens}
-use Rattle.lg_answer.specs.Problems.{IsOfWords}
 use Rattle.lg_answer.specs.declared.options.Options.{Options}
 use Rattle.lg_script.specs.Commands.{CommandView, parses, lists, goes_on, makes, asks}
 use Rattle.lg_script.specs.Histories.{numbered, command_in, command_at, after_command, dictionary_after, names_in, unknown_name}
@@ -36,18 +31,8 @@ use Rattle.lg_run.specs.PlainInputs.{IsPlainDictionary}
 use Rattle.lg_run.specs.Shown.{HasPlainTexts}
 use Rattle.lg_run.proofs.OnePage.{item_at, some_at}
 use Rattle.lg_run.proofs.PlainDictionaries.{edits_keep_plain}
-use Rattle.lg_run.proofs.PlainTrees.{ArePlainConnectors, IsPlainChoice, choices_plain}
-
-abbrev NoFeed : ℕ → Type 0
-NoFeed b = b ≢ 10
-
-pub one_line : (text : List ℕ) → IsSingleLine text → IsOneLine text
-one_line [] h = refl
-one_line (b ∷ bs) h = by (eqb 10 b) refl (one_line bs h.1)
-  where
-    by : (c : Bool) → eqb 10 b ≡ c → IsOneLine bs → (c || list_any (eqb 10) bs) ≡ false
-    by true e rest = absurd (h.0 (sym (eqb-true 10 b e)))
-    by false e rest = rest
+use Rattle.lg_run.proofs.PlainIdioms.{in_use_long, in_use_plain}
+use Rattle.lg_run.proofs.PlainLines.{NoFeed, one_line}
 
 by_places : {X : Type 0} (Q : X → Type 0) (xs : List X) → ((i : ℕ) (x : X) → slice_get xs i ≡ Some x → Q x) → AllByRecursion Q xs
 by_places Q [] h = tt
@@ -71,22 +56,6 @@ ArePlainTokens ts = AllByRecursion (λ (t : Token). IsOneLine t.text) ts
 all_tokens : (text : List ℕ) (ts : List Token) → IsSingleLine text → AllByRecursion (LiesIn text) ts → ArePlainTokens ts
 all_tokens text [] h all = tt
 all_tokens text (t ∷ ts) h all = (token_plain text t h all.0, all_tokens text ts h all.1)
-
--- ---- disjuncts
-
-connectors_plain : (cs : List Connector) → ArePlainConnectors cs → AllByRecursion (λ (c : Connector). IsOneLine (connector_text c)) cs
-connectors_plain [] h = tt
-connectors_plain (c ∷ cs) h = (one_line (connector_text c) h.0, connectors_plain cs h.1)
-
-disjunct_plain : (dict : Dictionary) (words : List (List ℕ)) (d : Disjunct) → IsPlainDictionary dict → IsOfWords dict words d → IsPlainDisjunct d
-disjunct_plain dict words d plain (word, t, among, read, is) =
-    let both = plain.words word t read in
-    let choice : IsPlainChoice (choice_of d) = All-contains IsPlainChoice (choices_of t) (choice_of d) (All-from_recursion IsPlainChoice (choices_of t) (choices_plain t both.1)) is.chosen in
-    record {
-      word = subst IsOneLine (sym is.named) (one_line word both.0);
-      left = connectors_plain d.left choice.0;
-      right = connectors_plain d.right choice.1;
-    }
 
 -- ---- refusals
 
@@ -160,8 +129,10 @@ module _ (know : Knowledge) (options : Options) (scripts : List (List CommandVie
       chosen g good k None here = tt
       chosen g good k (Some d) here =
           let low = slice_get_within g.chosen k (Some d) here in
-          let t = some_at progress.tokens k (omega (arith, low, good.belongs.same_length, shown.sentence.of_tokens.same_length)) in
-          disjunct_plain dict t.0.words d plain (((shown.sentence.of_tokens.each k t.0 t.1).exactly d).0 (good.belongs.listed k d (get_or_from_slice_get g.chosen k (Some d) None here)))
+          let long = in_use_long dict plain progress.tokens shown.problem options.idioms shown.sentence.of_tokens in
+          let within : k < length progress.tokens = omega (arith, low, good.belongs.same_length, long) in
+          let t = some_at progress.tokens k within in
+          in_use_plain dict plain progress.tokens shown.problem options.idioms shown.sentence.of_tokens k t.0 t.1 within d (good.belongs.listed k d (get_or_from_slice_get g.chosen k (Some d) None here))
 
   abbrev IsPlainHeld : Option Holding → Type 0
   IsPlainHeld None = Unit {0}

@@ -59,15 +59,16 @@ const SCRIPTS: usize = 64;
 
 /// The command that the words ask for. None where they are in no form.
 ///
-/// The first word is `one`, `run`, `gen` or `export`. Behind the first two stand options, each at most once and in any order, in two words or
-/// joined by `=`: `--want N` and `--examine N`, where N is one to seven digits that write a number from 1 to 1,000,000,
-/// `--nulls first` or `--nulls passing`, `--prune`, `--stats`, `--diagram` and `--idioms`, each with `on` or `off`, and `--workers N`, where N is
-/// such a number from 1 to 16; and behind `run` alone `--usage` with `on` or `off`. Where an option is left out, want is 10, examine is
-/// 1000, nulls is first, prune is on, stats, diagram, idioms and usage are off, and workers is 1. Operands are last, and none of them begins with `-`: `one` has two, DICT and SENTENCE, of which the
-/// second has at most 67,108,864 bytes, and `run` has DICT, KNOWLEDGE and 1 to 64 scripts. Behind `gen` stand three words of digits
-/// alone: a seed of up to ten digits that write a number below 2^32, and the numbers of words and of sentences, each of up to six
-/// digits that write a number from 1 to 100,000. Behind `export` stand DICT and SCRIPT, which do not begin with `-`, and the number of
-/// edits: up to six digits that write a number up to 100,000.
+/// The first word is `one`, `run`, `gen` or `export`. After the first two stand options, each at most once and in any order, in
+/// two words or joined by `=`: `--want N` and `--examine N`, where N is one to seven digits that write a number from 1 to
+/// 1,000,000, `--nulls first` or `--nulls passing`, `--prune`, `--stats`, `--diagram` and `--idioms`, each with `on` or `off`,
+/// and `--workers N`, where N is such a number from 1 to 16; and after `run` alone `--usage` with `on` or `off`. If an option is
+/// left out, want is 10, examine is 1000, nulls is first, prune is on, stats, diagram, idioms and usage are off, and workers is
+/// 1. Operands are last, and none of them begins with `-`: `one` has two, DICT and SENTENCE, of which the second has at most
+/// 67,108,864 bytes, and `run` has DICT, KNOWLEDGE and 1 to 64 scripts. After `gen` stand three words of digits alone: a seed of
+/// up to ten digits that write a number below 2^32, and the numbers of words and of sentences, each of up to six digits that
+/// write a number from 1 to 100,000. After `export` stand DICT and SCRIPT, which do not begin with `-`, and the number of edits:
+/// up to six digits that write a number up to 100,000.
 pub fn command_of(words: &[String]) -> Option<Command<'_>>
     ensures { MatchOption result
         ((t : Task) → TaskIs (map string_bytes words.now) t → ⊥)

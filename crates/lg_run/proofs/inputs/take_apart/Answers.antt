@@ -54,3 +54,8 @@ returns-in-Err-of-clause-asks g c = record { names = names_of c.in-Ok.ensures.va
 
 pub returns-in-Err-clause-asks : goal.returns-in-Err-clause-asks
 returns-in-Err-clause-asks g c = asks_till_error (g.F.Files.contents c.args.files.now) _ _ (g.F.Files.asked c.args.files.now) (g.F.Files.asked c.read_dict.new.files) c.in-Err.error c.in-Err.ensures.fault
+
+-- memory ran out while the dictionary was read
+pub returns-in-Err-NoMemory-clause-names : goal.returns-in-Err-NoMemory-clause-names
+returns-in-Err-NoMemory-clause-names g c =
+    asks_text (g.F.Files.contents c.args.files.now) c.args.name.now c.args.bytes.now (g.F.Files.asked c.args.files.now) (g.F.Files.asked c.read_dict.new.files) c.read_dict.ensures.asks
