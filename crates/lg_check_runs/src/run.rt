@@ -6,6 +6,7 @@ mod faults;
 mod idioms;
 mod limits;
 mod looks;
+mod recounts;
 mod refusals;
 mod rows;
 mod sessions;

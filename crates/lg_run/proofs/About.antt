@@ -30,9 +30,9 @@ module _ (names more asked : Names) (wider : (x : List ℕ) → Contains names x
   about_more Memory h = tt
   about_more (Unreadable name) h = tt
   about_more (TooLong name) h = wider name.now h
-  about_more (Dictionary name error) h = (wider name.now h.0, h.1)
-  about_more (Knowledge name error) h = wider name.now h
-  about_more (Script name error) h = wider name.now h
+  about_more (Dictionary name error) h = (wider name.now h.0, h.1, h.2)
+  about_more (Knowledge name error) h = (wider name.now h.0, h.1)
+  about_more (Script name error) h = (wider name.now h.0, h.1)
   about_more (TooManyEdits name) h = wider name.now h
   about_more (TooFewVersions name count) h = wider name.now h
   about_more (Quoted name word) h = wider name.now h
@@ -80,9 +80,9 @@ pub stop_refuses : (names asked : Names) (stop : Stop) → IsAbout names asked s
 stop_refuses names asked Memory about h = cc
 stop_refuses names asked (Unreadable name) about h = cc
 stop_refuses names asked (TooLong name) about h = too_long name.now about
-stop_refuses names asked (Dictionary name error) about h = dictionary name.now error about.0 about.1 h
-stop_refuses names asked (Knowledge name error) about h = knowledge name.now error about h
-stop_refuses names asked (Script name error) about h = script name.now error about h
+stop_refuses names asked (Dictionary name error) about h = dictionary name.now error about.0 about.2 about.1 h
+stop_refuses names asked (Knowledge name error) about h = knowledge name.now error about.0 about.1
+stop_refuses names asked (Script name error) about h = script name.now error about.0 about.1
 stop_refuses names asked (TooManyEdits name) about h = too_many_edits name.now about
 stop_refuses names asked (TooFewVersions name count) about h = too_few_versions name.now count about
 stop_refuses names asked (Quoted name word) about h = quoted name.now word about

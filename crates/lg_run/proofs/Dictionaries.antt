@@ -115,30 +115,30 @@ module _ (contents : Contents) (name bytes : List ℕ) (old new : List (List ℕ
   }
 
   -- the first fault
-  first_known : (error : DictError) → Answers (Some contents) (DictionaryOf bytes) old new (refuse error) → ErrorTold contents name bytes old new error
-  first_known errors.NoMemory h = tt
-  first_known (errors.WordFile line file causes.Failed) h = tt
-  first_known (errors.WordFile line file causes.TooLong) h = read_so (refuse (errors.WordFile line file causes.TooLong)) (too_long_line file) refl h
-  first_known (errors.WordFile line file (causes.NotUtf8 n)) h = let e = errors.WordFile line file (causes.NotUtf8 n) in read_so (refuse e) (dict_line name e) refl h
-  first_known (errors.NotUtf8 n) h = let e = errors.NotUtf8 n in read_so (refuse e) (dict_line name e) refl h
-  first_known (errors.Syntax line column) h = let e = errors.Syntax line column in read_so (refuse e) (dict_line name e) refl h
-  first_known (errors.UnknownMacro line macro) h = let e = errors.UnknownMacro line macro in read_so (refuse e) (dict_line name e) refl h
-  first_known (errors.CostForm line) h = let e = errors.CostForm line in read_so (refuse e) (dict_line name e) refl h
-  first_known (errors.TooDeep line) h = let e = errors.TooDeep line in read_so (refuse e) (dict_line name e) refl h
-  first_known (errors.TooManyNodes line n) h = let e = errors.TooManyNodes line n in read_so (refuse e) (dict_line name e) refl h
-  first_known (errors.TooManyChoices line n) h = let e = errors.TooManyChoices line n in read_so (refuse e) (dict_line name e) refl h
-  first_known (errors.SideTooLong line n) h = let e = errors.SideTooLong line n in read_so (refuse e) (dict_line name e) refl h
-  first_known (errors.DuplicateWord word n m) h = let e = errors.DuplicateWord word n m in read_so (refuse e) (dict_line name e) refl h
+  first_known : (error : DictError) → (error ≡ errors.NoMemory → ⊥) → Answers (Some contents) (DictionaryOf bytes) old new (refuse error) → ErrorTold contents name bytes old new error
+  first_known errors.NoMemory other h = absurd (other refl)
+  first_known (errors.WordFile line file causes.Failed) other h = tt
+  first_known (errors.WordFile line file causes.TooLong) other h = read_so (refuse (errors.WordFile line file causes.TooLong)) (too_long_line file) refl h
+  first_known (errors.WordFile line file (causes.NotUtf8 n)) other h = let e = errors.WordFile line file (causes.NotUtf8 n) in read_so (refuse e) (dict_line name e) refl h
+  first_known (errors.NotUtf8 n) other h = let e = errors.NotUtf8 n in read_so (refuse e) (dict_line name e) refl h
+  first_known (errors.Syntax line column) other h = let e = errors.Syntax line column in read_so (refuse e) (dict_line name e) refl h
+  first_known (errors.UnknownMacro line macro) other h = let e = errors.UnknownMacro line macro in read_so (refuse e) (dict_line name e) refl h
+  first_known (errors.CostForm line) other h = let e = errors.CostForm line in read_so (refuse e) (dict_line name e) refl h
+  first_known (errors.TooDeep line) other h = let e = errors.TooDeep line in read_so (refuse e) (dict_line name e) refl h
+  first_known (errors.TooManyNodes line n) other h = let e = errors.TooManyNodes line n in read_so (refuse e) (dict_line name e) refl h
+  first_known (errors.TooManyChoices line n) other h = let e = errors.TooManyChoices line n in read_so (refuse e) (dict_line name e) refl h
+  first_known (errors.SideTooLong line n) other h = let e = errors.SideTooLong line n in read_so (refuse e) (dict_line name e) refl h
+  first_known (errors.DuplicateWord word n m) other h = let e = errors.DuplicateWord word n m in read_so (refuse e) (dict_line name e) refl h
 
-  told_known : (error : DictError) → ErrorTells (AsksFront (Some contents) (DictionaryOf bytes) old new) (Some contents) (DictionaryOf bytes) refuse old new error → ErrorTold contents name bytes old new error
-  told_known error (out_of_memory ended) = tt
-  told_known error (file_unread line file asked ended names found answers) = tt
-  told_known error (first_fault e h) = first_known e h
+  told_known : (error : DictError) → (error ≡ errors.NoMemory → ⊥) → ErrorTells (AsksFront (Some contents) (DictionaryOf bytes) old new) (Some contents) (DictionaryOf bytes) refuse old new error → ErrorTold contents name bytes old new error
+  told_known error other (out_of_memory ended) = absurd (other refl)
+  told_known error other (file_unread line file asked ended names found answers) = tt
+  told_known error other (first_fault e h) = first_known e other h
 
-pub told_error : (known : Option Contents) (name bytes : List ℕ) (old new : List (List ℕ)) (error : DictError) →
+pub told_error : (known : Option Contents) (name bytes : List ℕ) (old new : List (List ℕ)) (error : DictError) → (error ≡ errors.NoMemory → ⊥) →
     ErrorTells (AsksFront known (DictionaryOf bytes) old new) known (DictionaryOf bytes) refuse old new error → IfSome known (λ contents. ErrorTold contents name bytes old new error)
-told_error None name bytes old new error h = tt
-told_error (Some contents) name bytes old new error h = told_known contents name bytes old new error h
+told_error None name bytes old new error other h = tt
+told_error (Some contents) name bytes old new error other h = told_known contents name bytes old new error other h
 
 -- the dictionary of these entries is what the contents stand for
 pub told_value : (known : Option Contents) (bytes : List ℕ) (old new : List (List ℕ)) (answer : TextAnswer) → Answers known (DictionaryOf bytes) old new answer

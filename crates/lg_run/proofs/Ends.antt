@@ -1,26 +1,20 @@
 -- How a run ends, by what was read and how it finishes.
-use Rattle.std.proofs.Common.{◌≡◌, ℕ, List, [], inl, inr, Option, None, Some, IfSome, Vec, Result, Ok, Err, IfOk, refl, sym, ◌∙◌, subst}
+use Rattle.std.proofs.Common.{◌≡◌, Bool, true, false, cond, ℕ, List, inl, inr, Option, None, Some, IfSome, Vec, Result, Ok, Err, IfOk, refl, sym, ◌∙◌, subst}
 use Rattle.std.specs.Io.KnownBytes.{Appends, Keeps}
 use Rattle.lg_base.specs.Contents.{Contents}
 use Rattle.lg_base.specs.Faults.{Rose}
 use Rattle.lg_base.specs.Sinks.{AppendsFront}
 use Rattle.lg_base.specs.declared.memory.NoMemory.{NoMemory as OutOfMemory}
-use Rattle.lg_dictread.specs.declared.dict_error.DictError.{DictError}
-use Rattle.lg_dictread.specs.declared.dict_error.DictError.TheVariants as errors
-use Rattle.lg_dictread.specs.declared.dict_error.WordFileError.TheVariants as causes
-use Rattle.lg_knowread.specs.declared.fault.KnowError.{KnowError}
-use Rattle.lg_knowread.specs.declared.fault.KnowError.TheVariants as know_errors
-use Rattle.lg_script.specs.declared.script_error.ScriptError.{ScriptError}
-use Rattle.lg_script.specs.declared.script_error.ScriptError.TheVariants as script_errors
 use Rattle.lg_run.specs.Words.{Task, TaskIs, run_options, OptionsAre, AreInRange}
 use Rattle.lg_run.specs.Commands.{option_words, task, IsCommand}
 use Rattle.lg_run.specs.declared.command.Command.{Command}
 use Rattle.lg_run.specs.declared.setup.Setup.{Setup}
 use Rattle.lg_run.specs.Inputs.{Found, Reading, accepted, refused, IsOne, Given, InputsAre}
-use Rattle.lg_run.specs.Lines.{memory_line, dict_line, know_line, script_line}
-use Rattle.lg_run.specs.Stops.{dict_status, know_status, script_status, stop_status, stop_line, EndsAs, EndsWithLine}
+use Rattle.lg_run.specs.Lines.{memory_line}
+use Rattle.lg_run.specs.Stops.{is_unread, stop_status, stop_line, EndsAs, EndsWithLine}
 use Rattle.lg_run.specs.Reads.{Comes, TellsStop, IsFaultOf, IsAbout}
 use Rattle.lg_run.specs.Answers.{WhereTold, IsNoTask, Unwritten, Caused, Told, AnswersRefused, AnswersAccepted, names_of, IsRefusal, HasLine, WritesLine, WritesLineFront, Finishes, last_line, IsStopped}
+use Rattle.lg_run.specs.Shown.{RunsOfInputsAreShown, ShowsWhatItSays}
 use Rattle.lg_run.specs.declared.stop.Stop.{Stop}
 use Rattle.lg_run.specs.declared.stop.Stop.TheVariants.{Memory, Unreadable, TooLong, Dictionary, Knowledge, Script, TooManyEdits, TooFewVersions, Quoted}
 use Rattle.lg_run.specs.declared.status.Status.{Status}
@@ -47,6 +41,23 @@ pub told_map : (contents : Option Contents) (words : List (List ℕ)) (Holds Mor
     ((known : Contents) (t : Task) → Holds (InputsAre known t) → More (InputsAre known t)) → WhereTold contents words Holds → WhereTold contents words More
 told_map None words Holds More leads h = tt
 told_map (Some known) words Holds More leads h = λ t is. leads known t (h t is)
+
+-- ---- what the bytes show
+
+-- by the law, whatever was written
+shown_so : RunsOfInputsAreShown → (contents : Contents) (words : List (List ℕ)) (before after : Option (List ℕ)) (status : Status) → ShowsWhatItSays contents words before after status
+shown_so shown contents words before after Done = λ setup dict know scripts document is written one other.
+    shown contents contents words words setup setup dict dict know know scripts scripts document is is one other
+shown_so shown contents words before after WriteFault = tt
+shown_so shown contents words before after BadInput = tt
+shown_so shown contents words before after Usage = tt
+shown_so shown contents words before after ReadFault = tt
+shown_so shown contents words before after NoMemory = tt
+
+pub shows_what_it_says : RunsOfInputsAreShown → (contents : Option Contents) (words : List (List ℕ)) (before after : Option (List ℕ)) (status : Status)
+    → IfSome contents (λ known. ShowsWhatItSays known words before after status)
+shows_what_it_says shown None words before after status = tt
+shows_what_it_says shown (Some known) words before after status = shown_so shown known words before after status
 
 -- ---- the options that were read
 
@@ -138,44 +149,18 @@ module _ (inputs : Reading Given) (old new : List (List ℕ)) (before after : Op
 
 -- ---- the line
 
--- the line of an error where memory ran out
-memory_said : (name : List ℕ) (error : DictError) → dict_status error ≡ NoMemory → dict_line name error ≡ memory_line
-memory_said name errors.NoMemory h = refl
-memory_said name (errors.WordFile line file causes.Failed) h = cc
-memory_said name (errors.WordFile line file causes.TooLong) h = cc
-memory_said name (errors.WordFile line file (causes.NotUtf8 n)) h = cc
-memory_said name (errors.NotUtf8 n) h = cc
-memory_said name (errors.Syntax line column) h = cc
-memory_said name (errors.UnknownMacro line macro) h = cc
-memory_said name (errors.CostForm line) h = cc
-memory_said name (errors.TooDeep line) h = cc
-memory_said name (errors.TooManyNodes line n) h = cc
-memory_said name (errors.TooManyChoices line n) h = cc
-memory_said name (errors.SideTooLong line n) h = cc
-memory_said name (errors.DuplicateWord word n m) h = cc
-
-know_said : (name : List ℕ) (error : KnowError) → know_status error ≡ NoMemory → know_line name error ≡ memory_line
-know_said name know_errors.NoMemory h = refl
-know_said name (know_errors.NotUtf8 n) h = cc
-know_said name (know_errors.Syntax line column) h = cc
-know_said name (know_errors.UnknownSection line) h = cc
-know_said name (know_errors.BadPattern line) h = cc
-know_said name (know_errors.BadType line) h = cc
-
-script_said : (name : List ℕ) (error : ScriptError) → script_status error ≡ NoMemory → script_line name error ≡ memory_line
-script_said name script_errors.NoMemory h = refl
-script_said name (script_errors.NotUtf8 n) h = cc
-script_said name (script_errors.UnknownCommand line) h = cc
-script_said name (script_errors.BadNumber line) h = cc
-script_said name (script_errors.BadEdit line) h = cc
+-- the line of a stop where memory ran out
+never_memory : (b : Bool) → cond b ReadFault BadInput ≡ NoMemory → ⊥
+never_memory true h = cc
+never_memory false h = cc
 
 stop_said : (stop : Stop) → stop_status stop ≡ NoMemory → stop_line stop ≡ memory_line
 stop_said Memory h = refl
 stop_said (Unreadable name) h = cc
 stop_said (TooLong name) h = cc
-stop_said (Dictionary name error) h = memory_said name.now error h
-stop_said (Knowledge name error) h = know_said name.now error h
-stop_said (Script name error) h = script_said name.now error h
+stop_said (Dictionary name error) h = absurd (never_memory (is_unread error) h)
+stop_said (Knowledge name error) h = cc
+stop_said (Script name error) h = cc
 stop_said (TooManyEdits name) h = cc
 stop_said (TooFewVersions name count) h = cc
 stop_said (Quoted name word) h = cc

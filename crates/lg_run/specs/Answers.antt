@@ -1,5 +1,5 @@
 -- What each status says of a run.
-use Rattle.std.specs.Prelude.{◌≡◌, ℕ, ◌≤◌, ◌<◌, ◌^◌, List, [], ◌∷◌, length, Contains, ⊤, ◌⊎◌, IfSome, Result, Ok, Err}
+use Rattle.std.specs.Prelude.{◌≡◌, ◌≢◌, ℕ, ◌≤◌, ◌<◌, ◌^◌, List, [], ◌∷◌, length, Contains, ⊤, ◌⊎◌, IfSome, Result, Ok, Err}
 use Rattle.std.specs.declared.option.Option.{Option}
 use Rattle.std.specs.Io.KnownBytes.{Appends, Keeps}
 use Rattle.lg_base.specs.Contents.{Contents}
@@ -7,8 +7,11 @@ use Rattle.lg_base.specs.Faults.{Rose}
 use Rattle.lg_base.specs.Files.{EndsWith}
 use Rattle.lg_base.specs.Sinks.{AppendsFront}
 use Rattle.lg_dictread.specs.declared.dict_error.DictError.{DictError}
+use Rattle.lg_dictread.specs.declared.dict_error.DictError.TheVariants as errors
 use Rattle.lg_knowread.specs.declared.fault.KnowError.{KnowError}
+use Rattle.lg_knowread.specs.declared.fault.KnowError.TheVariants as know_errors
 use Rattle.lg_script.specs.declared.script_error.ScriptError.{ScriptError}
+use Rattle.lg_script.specs.declared.script_error.ScriptError.TheVariants as script_errors
 use Rattle.lg_script.specs.Codes.{AreScripts}
 use Rattle.lg_run.specs.Words.{Task, One, Run, Gen, Export, TaskIs, SENTENCE, AreInRange}
 use Rattle.lg_run.specs.Inputs.{Reading, accepted, refused, Given, OneGiven, RunGiven, GenGiven, ExportGiven, InputsAre}
@@ -17,7 +20,7 @@ use Rattle.lg_gen.specs.Accepted.{IsMade}
 use Rattle.lg_run.specs.Documents.{DocumentIs, IsOutcome}
 use Rattle.lg_run.specs.MadeRuns.{IsMadeDocument}
 use Rattle.lg_run.specs.Lines.{usage_line, memory_line, output_line, unreadable_line, too_long_line, dict_line, know_line, script_line, edits_line, versions_line, quote_line}
-use Rattle.lg_run.specs.Stops.{dict_status, know_status, script_status}
+use Rattle.lg_run.specs.Stops.{dict_status}
 use Rattle.lg_run.specs.declared.outcome.Halt.{Halt}
 use Rattle.lg_run.specs.declared.outcome.Halt.TheVariants.{Memory, Output}
 use Rattle.lg_run.specs.declared.status.Status.{Status}
@@ -100,9 +103,9 @@ names_of (Export dictionary script n) = dictionary ∷ script ∷ []
 -- what is said of a text that is refused: of a file with one of these names, or of the word file that was asked last
 pub data IsRefusal (names asked : List (List ℕ)) : List ℕ → Type 0 where
   too_long : (name : List ℕ) → Contains names name → IsRefusal names asked (too_long_line name)
-  dictionary : (name : List ℕ) (error : DictError) → Contains names name → IsOfLast asked error → dict_status error ≡ BadInput → IsRefusal names asked (dict_line name error)
-  knowledge : (name : List ℕ) (error : KnowError) → Contains names name → know_status error ≡ BadInput → IsRefusal names asked (know_line name error)
-  script : (name : List ℕ) (error : ScriptError) → Contains names name → script_status error ≡ BadInput → IsRefusal names asked (script_line name error)
+  dictionary : (name : List ℕ) (error : DictError) → Contains names name → IsOfLast asked error → error ≢ errors.NoMemory → dict_status error ≡ BadInput → IsRefusal names asked (dict_line name error)
+  knowledge : (name : List ℕ) (error : KnowError) → Contains names name → error ≢ know_errors.NoMemory → IsRefusal names asked (know_line name error)
+  script : (name : List ℕ) (error : ScriptError) → Contains names name → error ≢ script_errors.NoMemory → IsRefusal names asked (script_line name error)
   too_many_edits : (name : List ℕ) → Contains names name → IsRefusal names asked (edits_line name)
   too_few_versions : (name : List ℕ) (count : ℕ) → Contains names name → IsRefusal names asked (versions_line name count)
   quoted : (name word : List ℕ) → Contains names name → IsRefusal names asked (quote_line name word)

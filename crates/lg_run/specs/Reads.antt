@@ -1,11 +1,13 @@
 -- What calls that read the inputs promise.
-use Rattle.std.specs.Prelude.{◌≡◌, ℕ, ◌≤◌, List, ◌++◌, Contains, ⊤}
+use Rattle.std.specs.Prelude.{◌≡◌, ◌≢◌, ℕ, ◌≤◌, List, ◌++◌, Contains, ⊤}
 use Rattle.std.specs.declared.result.Result.{Result}
 use Rattle.std.specs.declared.result.Result.TheVariants.{Ok, Err}
 use Rattle.lg_base.specs.Faults.{Rose}
 use Rattle.lg_base.specs.Files.{AsksWithin, EndsWith}
 use Rattle.lg_dictread.specs.declared.dict_error.DictError.{DictError}
 use Rattle.lg_dictread.specs.declared.dict_error.DictError.TheVariants as errors
+use Rattle.lg_knowread.specs.declared.fault.KnowError.TheVariants as know_errors
+use Rattle.lg_script.specs.declared.script_error.ScriptError.TheVariants as script_errors
 use Rattle.lg_script.specs.Commands.{script_views}
 use Rattle.lg_run.specs.Inputs.{Found, Reading, accepted, refused, Given, OneGiven, RunGiven, GenGiven, ExportGiven}
 use Rattle.lg_run.specs.Lines.{unreadable_line}
@@ -56,14 +58,14 @@ abbrev pub IsOfLast : List (List ℕ) → DictError → Type 0
 IsOfLast asked (errors.WordFile line file cause) = EndsWith asked file
 IsOfLast asked _ = ⊤
 
--- the text that is refused is a file with one of these names, or a word file of it
+-- the text that is refused is a file with one of these names, or a word file of it, and its error is not that memory ran out
 abbrev pub IsAbout : List (List ℕ) → List (List ℕ) → Stop → Type 0
 IsAbout names asked Memory = ⊤
 IsAbout names asked (Unreadable name) = ⊤
 IsAbout names asked (TooLong name) = Contains names name.now
-IsAbout names asked (Dictionary name error) = Contains names name.now × IsOfLast asked error
-IsAbout names asked (Knowledge name error) = Contains names name.now
-IsAbout names asked (Script name error) = Contains names name.now
+IsAbout names asked (Dictionary name error) = Contains names name.now × (error ≢ errors.NoMemory) × IsOfLast asked error
+IsAbout names asked (Knowledge name error) = Contains names name.now × (error ≢ know_errors.NoMemory)
+IsAbout names asked (Script name error) = Contains names name.now × (error ≢ script_errors.NoMemory)
 IsAbout names asked (TooManyEdits name) = Contains names name.now
 IsAbout names asked (TooFewVersions name count) = Contains names name.now
 IsAbout names asked (Quoted name word) = Contains names name.now

@@ -1,5 +1,7 @@
 -- What the document of a run shows: the journal, and of each answer its place, its kind and its version.
-use Rattle.std.specs.Prelude.{◌≡◌, ℕ, ◌+◌, ◌<◌, ◌≤◌, ◌^◌, List, [], ◌∷◌, ◌++◌, length, map}
+use Rattle.std.specs.Prelude.{◌≡◌, ℕ, ◌+◌, ◌<◌, ◌≤◌, ◌^◌, List, [], ◌∷◌, ◌++◌, length, map, ⊤}
+use Rattle.std.specs.declared.option.Option.{Option}
+use Rattle.std.specs.Io.KnownBytes.{Appends}
 use Rattle.std.specs.List.{AllByRecursion}
 use Rattle.lg_base.specs.Contents.{Contents}
 use Rattle.lg_gram.specs.declared.reply.Place.{Place}
@@ -8,6 +10,8 @@ use Rattle.lg_dict.specs.Dictionary.{Dictionary}
 use Rattle.lg_knowread.specs.declared.knowledge.Knowledge.{Knowledge}
 use Rattle.lg_text.specs.declared.look.Look.{Look}
 use Rattle.lg_run.specs.declared.setup.Setup.{Setup}
+use Rattle.lg_run.specs.declared.status.Status.{Status}
+use Rattle.lg_run.specs.declared.status.Status.TheVariants.{Done}
 use Rattle.lg_script.specs.Commands.{CommandView}
 use Rattle.lg_script.specs.Kinds.{kind_of}
 use Rattle.lg_text.specs.Shown.{Answered, IsPlain, IsPlainReply, IsPlace, shown_of}
@@ -75,3 +79,12 @@ RunsOfInputsAreShown =
     → IsRunOf contents words setup dict know scripts → IsRunOf contents' words' setup' dict' know' scripts'
     → (one : IsOutcome setup dict know scripts document) (other : IsOutcome setup' dict' know' scripts' document)
     → (map shown_of (all_placed 1 scripts one.replies) ≡ map shown_of (all_placed 1 scripts' other.replies)) × (one.journal ≡ other.journal)
+
+-- A run that was written whole: however the bytes that were appended are seen as the document of the run that the words ask for, they show
+-- the same journal and, of each answer in order, the same place, kind and version.
+abbrev pub ShowsWhatItSays : Contents → List (List ℕ) → Option (List ℕ) → Option (List ℕ) → Status → Type 0
+ShowsWhatItSays contents words old new Done =
+    (setup : Setup) (dict : Dictionary) (know : Knowledge) (scripts : List (List CommandView)) (document : List ℕ)
+    → IsRunOf contents words setup dict know scripts → Appends old new document → (one other : IsOutcome setup dict know scripts document)
+    → (map shown_of (all_placed 1 scripts one.replies) ≡ map shown_of (all_placed 1 scripts other.replies)) × (one.journal ≡ other.journal)
+ShowsWhatItSays contents words old new _ = ⊤

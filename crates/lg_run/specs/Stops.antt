@@ -1,5 +1,5 @@
 -- The status and the line of inputs that are not had.
-use Rattle.std.specs.Prelude.{◌≡◌, ◌⊎◌, ℕ, List, Vec, Result, Ok, Err}
+use Rattle.std.specs.Prelude.{◌≡◌, ◌⊎◌, ℕ, Bool, true, false, if◌then◌else◌, List, Vec, Result, Ok, Err}
 use Rattle.lg_base.specs.declared.memory.NoMemory.{NoMemory as OutOfMemory}
 use Rattle.std.specs.declared.option.Option.{Option}
 use Rattle.std.specs.Io.KnownBytes.{Appends}
@@ -7,37 +7,28 @@ use Rattle.lg_base.specs.Sinks.{AppendsFront}
 use Rattle.lg_dictread.specs.declared.dict_error.DictError.{DictError}
 use Rattle.lg_dictread.specs.declared.dict_error.DictError.TheVariants as errors
 use Rattle.lg_dictread.specs.declared.dict_error.WordFileError.TheVariants as causes
-use Rattle.lg_knowread.specs.declared.fault.KnowError.{KnowError}
-use Rattle.lg_knowread.specs.declared.fault.KnowError.TheVariants as know_errors
-use Rattle.lg_script.specs.declared.script_error.ScriptError.{ScriptError}
-use Rattle.lg_script.specs.declared.script_error.ScriptError.TheVariants as script_errors
 use Rattle.lg_run.specs.Lines.{memory_line, unreadable_line, too_long_line, dict_line, know_line, script_line, edits_line, versions_line, quote_line}
 use Rattle.lg_run.specs.declared.status.Status.{Status}
 use Rattle.lg_run.specs.declared.status.Status.TheVariants.{BadInput, ReadFault, NoMemory}
 use Rattle.lg_run.specs.declared.stop.Stop.{Stop}
 use Rattle.lg_run.specs.declared.stop.Stop.TheVariants.{Memory, Unreadable, TooLong, Dictionary, Knowledge, Script, TooManyEdits, TooFewVersions, Quoted}
 
--- a word file that cannot be read is a read fault, and every other error but running out of memory is one of the input
+-- a word file cannot be read
+abbrev pub is_unread : DictError → Bool
+is_unread (errors.WordFile line file causes.Failed) = true
+is_unread _ = false
+
+-- a word file that cannot be read is a read fault, and each other error is one of the text
 abbrev pub dict_status : DictError → Status
-dict_status errors.NoMemory = NoMemory
-dict_status (errors.WordFile line file causes.Failed) = ReadFault
-dict_status _ = BadInput
-
-abbrev pub know_status : KnowError → Status
-know_status know_errors.NoMemory = NoMemory
-know_status _ = BadInput
-
-abbrev pub script_status : ScriptError → Status
-script_status script_errors.NoMemory = NoMemory
-script_status _ = BadInput
+dict_status error = if is_unread error then ReadFault else BadInput
 
 abbrev pub stop_status : Stop → Status
 stop_status Memory = NoMemory
 stop_status (Unreadable name) = ReadFault
 stop_status (TooLong name) = BadInput
 stop_status (Dictionary name error) = dict_status error
-stop_status (Knowledge name error) = know_status error
-stop_status (Script name error) = script_status error
+stop_status (Knowledge name error) = BadInput
+stop_status (Script name error) = BadInput
 stop_status (TooManyEdits name) = BadInput
 stop_status (TooFewVersions name count) = BadInput
 stop_status (Quoted name word) = BadInput

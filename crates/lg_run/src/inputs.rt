@@ -17,7 +17,7 @@ use crate::setup::Setup;
 use crate::stop::Stop;
 use lg_base::{FileError, Files, NoMemory};
 use lg_dict::Dict;
-use lg_dictread::{FILE, exactly_one_dictionary, read_dict};
+use lg_dictread::{DictError, FILE, exactly_one_dictionary, read_dict};
 use lg_knowread::{Knowledge, exactly_one_knowledge};
 use lg_script::{Scripts, exactly_one_script};
 use std::alloc::Global;
@@ -339,6 +339,7 @@ fn take_apart<'a, F: Files>(
             Ok(dict) => Ok(dict),
             Err(NoMemory) => Err(Stop::Memory),
         },
+        Err(DictError::NoMemory) => Err(Stop::Memory),
         Err(error) => Err(Stop::Dictionary(name, error)),
     }
 }

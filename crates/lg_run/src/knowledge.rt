@@ -7,7 +7,7 @@ ghost use Rattle.lg_run.specs.Reads.{AsksInOrder, AsksMore, Tells, HasCause, IsA
 use crate::inputs::read_file;
 use crate::stop::Stop;
 use lg_base::Files;
-use lg_knowread::{Knowledge, read_knowledge};
+use lg_knowread::{KnowError, Knowledge, read_knowledge};
 use std::alloc::Global;
 
 /// The knowledge with this name.
@@ -40,6 +40,7 @@ fn knowledge_of<'a>(alloc: Global, name: &'a str, bytes: &[u8]) -> Result<Knowle
 {
     match read_knowledge(alloc, bytes) {
         Ok(know) => Ok(know),
+        Err(KnowError::NoMemory) => Err(Stop::Memory),
         Err(error) => Err(Stop::Knowledge(name, error)),
     }
 }

@@ -12,7 +12,9 @@ ghost use Rattle.lg_run.specs.Reads.{AsksInOrder, AsksMore, Tells, HasCause, IsA
 use crate::inputs::read_file;
 use crate::stop::Stop;
 use lg_base::{Files, NoMemory};
-use lg_script::{Commands, Scripts, exactly_one_script, read_script, scripts_keep_bounds};
+use lg_script::{
+    Commands, ScriptError, Scripts, exactly_one_script, read_script, scripts_keep_bounds,
+};
 use std::alloc::Global;
 
 // The most edits of all scripts.
@@ -136,6 +138,7 @@ fn commands_of<'a>(alloc: Global, name: &'a str, bytes: &[u8]) -> Result<Command
             Ok(commands) => Ok(commands),
             Err(NoMemory) => Err(Stop::Memory),
         },
+        Err(ScriptError::NoMemory) => Err(Stop::Memory),
         Err(error) => Err(Stop::Script(name, error)),
     }
 }

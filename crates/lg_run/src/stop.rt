@@ -5,7 +5,7 @@ use lg_dictread::DictError;
 use lg_knowread::KnowError;
 use lg_script::ScriptError;
 
-/// Why reading the inputs failed: memory ran out, or a file by its name.
+/// Why reading the inputs failed: memory ran out, or a file by its name. The error of a text is never that memory ran out.
 #[derive(Debug, Drop)]
 pub enum Stop<'a> {
     Memory,

@@ -1,5 +1,5 @@
 //! The top call.
-ghost use Rattle.std.specs.Prelude.{◌≡◌, ◌↔◌, ◌≤◌, ◌++◌, length, OnOk, map, string_bytes};
+ghost use Rattle.std.specs.Prelude.{◌≡◌, ◌↔◌, ◌≤◌, ◌++◌, length, IfSome, OnOk, map, string_bytes};
 ghost use Rattle.std.specs.Io.KnownBytes.{Appends};
 ghost use Rattle.lg_base.specs.Faults.{Rose};
 ghost use Rattle.lg_base.specs.Sinks.{AppendsFront, HasWriteCause};
@@ -9,12 +9,13 @@ ghost use Rattle.lg_run.specs.Inputs.{OneGiven, RunGiven};
 ghost use Rattle.lg_run.specs.Lines.{line_about};
 ghost use Rattle.lg_run.specs.Reads.{AsksInOrder, AsksMore, given_in};
 ghost use Rattle.lg_run.specs.Written.{HasHaltCause};
-ghost use Rattle.lg_run.specs.Stops.{dict_status, know_status, script_status, SaysOf, EndsAs, EndsWithLine};
+ghost use Rattle.lg_run.specs.Shown.{ShowsWhatItSays};
+ghost use Rattle.lg_run.specs.Stops.{dict_status, SaysOf, EndsAs, EndsWithLine};
 ghost use Rattle.lg_run.specs.Answers.{WhereTold, IsNoTask, Unwritten, Caused, Told, AnswersRefused, AnswersAccepted, WritesLine, WritesLineFront, Finishes, Documents, last_line, IsStopped, IsGivenInBounds};
 
 use crate::command::command_of;
 use crate::inputs::{Inputs, read_inputs};
-use crate::law::{inputs_have_one_verdict, words_have_one_task};
+use crate::law::{documents_show, inputs_have_one_verdict, words_have_one_task};
 use crate::line::{dict_line, edits_line, know_line, quote_line, script_line, versions_line};
 use crate::lister::Lister;
 use crate::made::write_made;
@@ -28,8 +29,8 @@ use crate::usage::usage_lines;
 use lg_base::{Files, NoMemory, Sink, SinkFault};
 use lg_dict::Dict;
 use lg_dictread::{DictError, WordFileError};
-use lg_knowread::{KnowError, Knowledge};
-use lg_script::{ScriptError, Scripts};
+use lg_knowread::Knowledge;
+use lg_script::Scripts;
 use lg_session::{Gate, run_sessions};
 use std::alloc::Global;
 use std::thread::Threads;
@@ -72,6 +73,10 @@ pub fn run<R: Threads + Sync, F: Files, O: Sink, E: Sink, G: Gate>(
     ensures complete { WhereTold (F.contents files.old) (map string_bytes words.now) (λ inputs.
         AnswersAccepted inputs (¬ Rose (F.faults files.old) (F.faults files.new)) (¬ Rose (O.faults out.old) (O.faults out.new)) result) }
 
+    // What was written of a run shows its journal and the place, the kind and the version of each answer.
+    ensures shown { IfSome (F.contents files.old) (λ known.
+        ShowsWhatItSays known (map string_bytes words.now) (O.written out.old) (O.written out.new) result) }
+
     // Each status has its line.
     ensures line { ¬ Rose (E.faults err.old) (E.faults err.new) →
         WritesLine (F.contents files.old) (map string_bytes words.now) (F.asked files.old) (F.asked files.new) result (E.written err.old) (E.written err.new) }
@@ -87,6 +92,7 @@ pub fn run<R: Threads + Sync, F: Files, O: Sink, E: Sink, G: Gate>(
 {
     inputs_have_one_verdict();
     words_have_one_task();
+    documents_show();
     let Some(command) = command_of(words) else {
         return fail(err, Status::Usage, USAGE);
     };
@@ -248,11 +254,11 @@ fn refuse<E: Sink>(alloc: Global, err: &mut E, stop: Stop<'_>) -> Status
         }
         Stop::Knowledge(name, error) => {
             let line = know_line(alloc, name.as_bytes(), error);
-            fail_with(err, know_status(error), line)
+            fail_with(err, Status::BadInput, line)
         }
         Stop::Script(name, error) => {
             let line = script_line(alloc, name.as_bytes(), error);
-            fail_with(err, script_status(error), line)
+            fail_with(err, Status::BadInput, line)
         }
         Stop::TooManyEdits(name) => {
             let line = edits_line(alloc, name.as_bytes());
@@ -289,32 +295,12 @@ fn fail_with<E: Sink>(err: &mut E, status: Status, line: Result<Vec<u8>, NoMemor
     }
 }
 
-fn know_status(error: KnowError) -> Status
-    ensures status { result ≡ know_status error }
-    ensures stopped { IsStopped result }
-{
-    match error {
-        KnowError::NoMemory => Status::NoMemory,
-        _ => Status::BadInput,
-    }
-}
-
-fn script_status(error: ScriptError) -> Status
-    ensures status { result ≡ script_status error }
-    ensures stopped { IsStopped result }
-{
-    match error {
-        ScriptError::NoMemory => Status::NoMemory,
-        _ => Status::BadInput,
-    }
-}
-
+// A word file that cannot be read is a read fault, and each other error is one of the text.
 fn dict_status(error: &DictError) -> Status
     ensures status { result ≡ dict_status error.now }
     ensures stopped { IsStopped result }
 {
     match error {
-        DictError::NoMemory => Status::NoMemory,
         DictError::WordFile(_, _, WordFileError::Failed) => Status::ReadFault,
         _ => Status::BadInput,
     }

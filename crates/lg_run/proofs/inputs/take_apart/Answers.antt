@@ -1,4 +1,4 @@
-use Rattle.std.proofs.Common.{map, sym, ◌∙◌, subst, []}
+use Rattle.std.proofs.Common.{rules, map, sym, ◌∙◌, subst, []}
 use Rattle.std.proofs.lemmas.Option.{IfSome_then}
 use Rattle.lg_dict.specs.Dictionary.{Dictionary}
 use Rattle.lg_dictread.specs.Findings.{names_of}
@@ -40,10 +40,10 @@ returns-in-Ok-of-clause-told g c =
 -- an error of the text or of a word file
 pub returns-in-Err-clause-told : goal.returns-in-Err-clause-told
 returns-in-Err-clause-told g c =
-    told_error (g.F.Files.contents c.args.files.now) c.args.name.now c.args.bytes.now (g.F.Files.asked c.args.files.now) (g.F.Files.asked c.read_dict.new.files) c.in-Err.error c.in-Err.ensures.fault
+    told_error (g.F.Files.contents c.args.files.now) c.args.name.now c.args.bytes.now (g.F.Files.asked c.args.files.now) (g.F.Files.asked c.read_dict.new.files) c.in-Err.error (search rules) c.in-Err.ensures.fault
 
 pub returns-in-Err-clause-about : goal.returns-in-Err-clause-about
-returns-in-Err-clause-about g c = (first_name c.args.name.now [], of_last _ _ _ c.in-Err.error c.in-Err.ensures.cause.error)
+returns-in-Err-clause-about g c = (first_name c.args.name.now [], search rules, of_last _ _ _ c.in-Err.error c.in-Err.ensures.cause.error)
 
 -- the names only grow
 pub returns-in-Ok-of-clause-asks : goal.returns-in-Ok-of-clause-asks
@@ -54,3 +54,8 @@ returns-in-Err-of-clause-asks g c = record { names = names_of c.in-Ok.ensures.va
 
 pub returns-in-Err-clause-asks : goal.returns-in-Err-clause-asks
 returns-in-Err-clause-asks g c = asks_till_error (g.F.Files.contents c.args.files.now) _ _ (g.F.Files.asked c.args.files.now) (g.F.Files.asked c.read_dict.new.files) c.in-Err.error c.in-Err.ensures.fault
+
+-- memory ran out while the dictionary was read
+pub returns-in-Err-NoMemory-clause-names : goal.returns-in-Err-NoMemory-clause-names
+returns-in-Err-NoMemory-clause-names g c =
+    asks_text (g.F.Files.contents c.args.files.now) c.args.name.now c.args.bytes.now (g.F.Files.asked c.args.files.now) (g.F.Files.asked c.read_dict.new.files) c.read_dict.ensures.asks

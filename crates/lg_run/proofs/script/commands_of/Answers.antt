@@ -1,4 +1,4 @@
-use Rattle.std.proofs.Common.{map, [], arith}
+use Rattle.std.proofs.Common.{rules, map, [], arith}
 use Rattle.std.proofs.lemmas.List.{length-map}
 use Rattle.lg_script.specs.Commands.{command_view}
 use Rattle.lg_run.proofs.Told.{told_script, read_script_told}
@@ -16,7 +16,7 @@ pub returns-in-Ok-of-clause-told : goal.returns-in-Ok-of-clause-told
 returns-in-Ok-of-clause-told c = rw c.in-Ok-of.ensures (read_script_told c.args.name.now c.args.bytes.now (map command_view c.in-Ok.commands.items) c.in-Ok.ensures)
 
 pub returns-in-Err-clause-told : goal.returns-in-Err-clause-told
-returns-in-Err-clause-told c = told_script c.args.name.now c.args.bytes.now c.in-Err.error c.in-Err.ensures
+returns-in-Err-clause-told c = told_script c.args.name.now c.args.bytes.now c.in-Err.error (search rules) c.in-Err.ensures
 
 pub returns-in-Err-clause-about : goal.returns-in-Err-clause-about
-returns-in-Err-clause-about c = λ asked. first_name c.args.name.now []
+returns-in-Err-clause-about c = λ asked. (first_name c.args.name.now [], search rules)

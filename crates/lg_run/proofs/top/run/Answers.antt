@@ -7,7 +7,7 @@ use Rattle.lg_run.specs.Inputs.{InputsAre}
 use Rattle.lg_run.specs.Reads.{AsksInOrder, given_in, TellsStop}
 use Rattle.lg_run.specs.Stops.{stop_status, stop_line}
 use Rattle.lg_run.specs.Answers.{Told, AnswersRefused, AnswersAccepted}
-use Rattle.lg_run.proofs.Ends.{told_read, about_read, range_read, finished, told_stop, caused_so, unwritten_so, answers_refused, answers_accepted, stop_written, stop_front, last_written, last_front}
+use Rattle.lg_run.proofs.Ends.{told_read, about_read, range_read, finished, told_stop, caused_so, unwritten_so, answers_refused, answers_accepted, stop_written, stop_front, last_written, last_front, shows_what_it_says}
 use Rattle.lg_run.proofs.top.run.Goals as goal
 
 -- the options are those of the command
@@ -120,3 +120,8 @@ returns-in-Err-clause-line_front g c =
     c.refuse.ensures.stopped c.refuse.ensures.line c.in-Err.ensures.cause.fault
     (about_read _ _ _ _ c.in-Some.ensures c.options.ensures c.in-Ok.ensures c.words_have_one_task.ensures new stop c.in-Err.ensures.about)
     (told_read _ _ _ _ c.in-Some.ensures c.options.ensures c.in-Ok.ensures c.words_have_one_task.ensures (g.F.Files.contents c.args.files.now) (λ inputs. TellsStop inputs old new (stop_status stop) (stop_line stop)) c.in-Err.ensures.told)
+
+-- what was written shows the journal and the versions
+pub returns-in-Ok-read_inputs-clause-shown : goal.returns-in-Ok-read_inputs-clause-shown
+returns-in-Ok-read_inputs-clause-shown g c =
+    shows_what_it_says c.documents_show.ensures.inputs (g.F.Files.contents c.args.files.now) _ (g.O.Sink.written c.args.out.now) (g.O.Sink.written c.finish.new.out) c.finish.result
