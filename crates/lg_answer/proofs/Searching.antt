@@ -1,5 +1,5 @@
 -- A search begins with a sharper problem, and goes on with the problem itself.
-use Rattle.std.proofs.Common.{◌≡◌, ◌↔◌, ◌==◌, ℕ, suc, ◌+◌, ◌≤◌, inl, inr, cond, List, [], ◌∷◌, ◌++◌, length, get_or, Contains, Option, None, Some, refl, subst, ◌∙◌, arith}
+use Rattle.std.proofs.Common.{◌≡◌, ◌↔◌, ◌==◌, ℕ, suc, ◌+◌, ◌<◌, ◌≤◌, inl, inr, cond, List, [], ◌∷◌, ◌++◌, length, get_or, Contains, Option, None, Some, refl, subst, ◌∙◌, arith}
 use Rattle.std.specs.Prelude.{is_none}
 use Rattle.std.specs.List.{count_by}
 use Rattle.std.proofs.lemmas.Bool.{cases_lt, ne_eqb}
@@ -92,6 +92,15 @@ module _ (positions sharp : List (List Disjunct)) where
             let demanded : IsDemanded sharp made.lists n forest.unused (Whole forest.unused) = (forest.unused, omega arith, omega arith, itself (Whole forest.unused)) in
             absurd (none (omega arith, (made.nodes (Whole forest.unused)).1 (demanded, (g, under))))
             )
+      ]
+
+  -- more positions have no disjunct than so many words may stay unlinked, so each linkage leaves more
+  pub none_by_blanks : (n : ℕ) → HasNoFewer positions n → IsSharpened positions n sharp → n < blanks sharp → HasNoFewer positions (n + 1)
+  none_by_blanks n least is over g good =
+      let no_fewer = least g good in
+      elim (cases_lt n (unlinked g)) [
+        | inl more ↦ omega arith
+        | inr same ↦ (let blank = blanks_least sharp g ((is.same g (omega arith)).0 good) in absurd (omega (arith, blank, over, same)))
       ]
 
 -- each linkage leaves the words unlinked that have no disjunct

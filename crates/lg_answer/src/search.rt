@@ -207,7 +207,8 @@ fn sharper<R: Threads + Sync>(
     Ok(None)
 }
 
-// The linkages with so many unlinked words, of the problem that is sharpened for that number; none where there are none.
+// The linkages with so many unlinked words, of the problem that is sharpened for that number; none where there are none. Nothing is
+// searched where more positions than so many have lost all their disjuncts.
 fn level_of<R: Threads + Sync>(
     rt: &R,
     alloc: Global,
@@ -222,6 +223,9 @@ fn level_of<R: Threads + Sync>(
     requires sharp { IsSharpened problem.now nulls sharp }
     ensures { IfOk result (λ ranked. MatchOption ranked (HasNoFewer problem.now (nulls + 1)) (BeginsSharper problem.now)) }
 {
+    if blanks_of(&sharp) > nulls {
+        return Ok(None);
+    }
     let mut steps = Steps::<Own>::start();
     let forest = solve_at_by(rt, alloc, &sharp, nulls, workers, &mut steps)?;
     if !has_few(&forest, nulls) {
