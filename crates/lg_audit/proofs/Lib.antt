@@ -1,0 +1,16 @@
+pub mod Numerals
+pub mod Cuts
+pub mod PrintedCosts
+pub mod Choices
+pub mod Heads
+pub mod Causes
+pub mod Rows
+pub mod Singles
+pub mod LongRuns
+pub mod Items
+pub mod AnswerForms
+pub mod ReplyLines
+pub mod Chains
+pub mod Numbered
+pub mod Edits
+pub mod Whole
