@@ -14,3 +14,11 @@ pub mod Chains
 pub mod Numbered
 pub mod Edits
 pub mod Whole
+pub mod NarrowBounds
+pub mod NarrowChoices
+pub mod SideTexts
+pub mod PieceLists
+pub mod NamedChoices
+pub mod PrintedDisjuncts
+pub mod Weaker
+pub mod ShownChoices

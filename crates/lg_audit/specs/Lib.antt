@@ -7,3 +7,5 @@ pub mod Answers
 pub mod Journals
 pub mod Replies
 pub mod Audits
+pub mod Printed
+pub mod Pages

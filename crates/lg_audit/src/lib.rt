@@ -6,6 +6,7 @@ mod document;
 mod head;
 mod journal;
 mod lines;
+mod linkages;
 mod numeral;
 mod page;
 mod piece;

@@ -1,0 +1,5 @@
+//! The linkages of a page.
+
+mod choice;
+mod narrow;
+mod sides;
