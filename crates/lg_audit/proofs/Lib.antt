@@ -22,3 +22,14 @@ pub mod NamedChoices
 pub mod PrintedDisjuncts
 pub mod Weaker
 pub mod ShownChoices
+pub mod OneShown
+pub mod Alone
+pub mod ShownLinkages
+pub mod Sentences
+pub mod Rising
+pub mod Existing
+pub mod FoundPages
+pub mod Framed
+pub mod GoingOn
+pub mod NamedTokens
+pub mod Taken

@@ -69,6 +69,10 @@ module _ {A : Type 0} (N : Type 0) (S : A → Type 0) where
   pub when_none : (o : Option A) → o ≡ None → MatchOption o N S → N
   when_none o is m = subst (λ (p : Option A). MatchOption p N S) is m
 
+  pub unless_some : (o : Option A) → ((x : A) → o ≡ Some x → ⊥) → MatchOption o N S → N
+  unless_some None never m = m
+  unless_some (Some x) never m = absurd (never x refl)
+
 -- ---- one more at the end of a list
 
 pub all_push : {X : Type 0} (P : X → Type 0) (xs : List X) (x : X) → AllByRecursion P xs → P x → AllByRecursion P (xs ++ x ∷ [])
