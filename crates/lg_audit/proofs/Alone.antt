@@ -1,16 +1,15 @@
 -- A problem whose positions have just what a linkage uses: its limits, and what is good of it.
-use Rattle.std.proofs.Common.{◌≡◌, ℕ, zero, suc, ◌+◌, ◌<◌, ◌≤◌, ◌^◌, Bool, true, false, List, [], ◌∷◌, length, map, get_or, slice_get, Contains, inl, inr, Option, Some, None, refl, sym, ap, ◌∙◌, subst, arith}
+use Rattle.std.proofs.Common.{◌≡◌, ℕ, zero, suc, ◌<◌, ◌≤◌, true, false, List, [], ◌∷◌, length, get_or, slice_get, inl, inr, Option, Some, None, refl, ap, subst, arith}
 use Rattle.std.specs.List.{All, AllByRecursion, sum_by}
 use Rattle.std.specs.List.Sorted.{IsStrictlySortedBy}
 use Rattle.std.proofs.lemmas.Bool.{cases_lt}
 use Rattle.std.proofs.lemmas.List.{get_or_past}
-use Rattle.std.proofs.lemmas.List.Elements.{All-nil, All-cons, All-contains, All-from_recursion, Contains-get_or}
+use Rattle.std.proofs.lemmas.List.Elements.{All-nil, All-cons, Contains-get_or}
 use Rattle.std.proofs.lemmas.List.Sums.{sum_by-cons}
 use Rattle.std.proofs.lemmas.Option.{slice_get_within}
 use Rattle.lg_gram.specs.Connectors.{Connector}
-use Rattle.lg_gram.specs.Disjuncts.{disjunct_cmp}
 use Rattle.lg_gram.specs.Limits.{SIDE, LINKAGE_POSITIONS}
-use Rattle.lg_gram.specs.Linkages.{Linkage, IsLinkage, IsForward, HasSmallCost}
+use Rattle.lg_gram.specs.Linkages.{Linkage, IsLinkage, HasSmallCost}
 use Rattle.lg_gram.specs.Problems.{FitsProblem, IsPosition, IsProblem}
 use Rattle.lg_gram.specs.Rules.{Good, HasLink, chosen_at, left_list, right_list, rights_of, lefts_of}
 use Rattle.lg_gram.specs.declared.disjunct.Disjunct.{Disjunct}

@@ -1,5 +1,5 @@
 -- There is a problem of any tokens whose words' formulas have connectors with names.
-use Rattle.std.proofs.Common.{◌≡◌, ◌↔◌, ℕ, zero, suc, List, [], ◌∷◌, ◌++◌, length, get_or, slice_get, Contains, inl, inr, Option, Some, None, refl, sym, ap, ◌∙◌, subst, arith, Equal}
+use Rattle.std.proofs.Common.{◌≡◌, ◌↔◌, ℕ, zero, suc, List, [], ◌∷◌, ◌++◌, get_or, slice_get, Contains, inl, inr, Option, Some, None, refl, sym, ap, ◌∙◌, subst, arith, Equal}
 use Rattle.std.specs.FinMap.{get}
 use Rattle.std.specs.Ordering.{nat_cmp}
 use Rattle.std.proofs.lemmas.List.Elements.{Contains-append_left, Contains-append_right, Contains-append_cases}

@@ -1,7 +1,7 @@
 -- A page of a sentence, by its lines: what it shows is determined, and it is one of the sentence's problem.
-use Rattle.std.proofs.Common.{◌≡◌, ℕ, zero, suc, ◌+◌, ◌<◌, ◌≤◌, true, List, [], ◌∷◌, ◌++◌, length, map, get_or, take, Contains, inl, inr, ◌⊎◌, Option, Some, None, Result, Ok, Err, refl, sym, ap, ◌∙◌, subst, arith}
+use Rattle.std.proofs.Common.{◌≡◌, ℕ, List, [], ◌∷◌, ◌++◌, length, map, inl, inr, Some, None, Result, Ok, Err, refl, sym, ap, ◌∙◌, subst, arith}
 use Rattle.std.specs.Result.{IfErr}
-use Rattle.std.specs.List.{All, AllZip, flat_map, range_with_len}
+use Rattle.std.specs.List.{All}
 use Rattle.std.specs.List.Sorted.{IsStrictlySortedBy}
 use Rattle.std.proofs.lemmas.List.Elements.{All-nil, All-cons, All-head, All-tail}
 use Rattle.lg_gram.specs.Connectors.{ConnectorsToldApart}
@@ -20,7 +20,7 @@ use Rattle.lg_pp.specs.Breaks.{Judges}
 use Rattle.lg_answer.specs.Problems.{IsProblemOf}
 use Rattle.lg_audit.specs.Lines.{ShownLinkage, ShownPage}
 use Rattle.lg_audit.specs.Replies.{Begins, with_some, behind_all, IsPageOf, shown_linkage, linkages_on}
-use Rattle.lg_audit.specs.Pages.{HaveNamedWords, IsOneOf, AreOnesOf, BeginsWith, IsFramed, IsPageFor}
+use Rattle.lg_audit.specs.Pages.{HaveNamedWords, AreOnesOf, BeginsWith, IsFramed, IsPageFor}
 use Rattle.lg_audit.proofs.Existing.{some_problem}
 use Rattle.lg_audit.proofs.Sentences.{one_of_sentence, good_in_sentence}
 use Rattle.lg_audit.proofs.ShownLinkages.{one_linkage}

@@ -1,17 +1,17 @@
 -- The numbers and names of a page's candidates, one after another.
-use Rattle.std.proofs.Common.{◌≡◌, ℕ, ◌+◌, ◌<◌, List, [], ◌∷◌, ◌++◌, length, map, get_or, take, Contains, inl, inr, refl, sym, ap, ◌∙◌, subst, arith}
+use Rattle.std.proofs.Common.{◌≡◌, ℕ, ◌+◌, ◌<◌, List, [], ◌∷◌, ◌++◌, length, map, get_or, take, Contains, inl, inr, sym, ap, ◌∙◌, subst, arith}
 use Rattle.std.specs.List.{All, AllZip, flat_map, range_with_len}
 use Rattle.std.proofs.lemmas.Bool.{cases_lt}
 use Rattle.std.proofs.lemmas.Grind.{flat_map-append, same_number_lists}
 use Rattle.std.proofs.lemmas.List.{append-nil, get_or-map, length-map, map-append, take_more}
 use Rattle.std.proofs.lemmas.List.Elements.{All-map, All-contains, Contains-get_or}
 use Rattle.std.proofs.lemmas.List.FromFn.{length-range_with_len, get_or-range_with_len}
-use Rattle.lg_base.proofs.Elements.{contains_here, contains_later, contains_cases, contains_none, map_in, flat_in}
+use Rattle.lg_base.proofs.Elements.{contains_here, contains_cases, contains_none, map_in, flat_in}
 use Rattle.lg_gram.specs.Linkages.{Linkage}
 use Rattle.lg_gram.specs.declared.listing.Token.{Token}
 use Rattle.lg_dict.specs.Dictionary.{Dictionary}
 use Rattle.lg_knowread.specs.declared.knowledge.Knowledge.{Knowledge}
-use Rattle.lg_audit.specs.Lines.{ShownItem, ShownLinkage}
+use Rattle.lg_audit.specs.Lines.{ShownLinkage}
 use Rattle.lg_audit.specs.Pages.{IsOneOf, AreOnesOf}
 use Rattle.lg_audit.specs.Replies.{number_of, linkages_of, IsNamed}
 use Rattle.lg_audit.specs.Views.{item_of}

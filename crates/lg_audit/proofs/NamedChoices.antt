@@ -1,5 +1,5 @@
 -- In a choice of an expression whose connectors have names each connector is in the list of its direction.
-use Rattle.std.proofs.Common.{◌≡◌, ℤ, pos, Bool, true, false, List, [], ◌∷◌, ◌++◌, map, Contains, refl, if◌then◌else◌}
+use Rattle.std.proofs.Common.{◌≡◌, ℤ, pos, Bool, true, false, List, [], ◌∷◌, map, Contains, refl, if◌then◌else◌}
 use Rattle.std.specs.List.{All, flat_map, AllByRecursion}
 use Rattle.std.proofs.lemmas.List.Elements.{All-nil, All-cons, All-append, All-map, All-head, All-tail, All-weaker, All-contains, recursion_from_All}
 use Rattle.lg_gram.specs.Names.{IsName}

@@ -1,7 +1,6 @@
 -- What is shown of the positions is what they use: no two lists of choices are shown alike.
-use Rattle.std.proofs.Common.{◌≡◌, ℕ, ◌+◌, List, [], ◌∷◌, Contains, Option, Some, None, refl, sym, ap, ◌∙◌, subst}
+use Rattle.std.proofs.Common.{◌≡◌, ℕ, ◌+◌, List, [], ◌∷◌, Option, Some, None, refl, sym, ap, ◌∙◌, subst}
 use Rattle.std.specs.FinMap.{get}
-use Rattle.std.specs.List.{AllByRecursion}
 use Rattle.lg_gram.specs.Names.{NamesAreWritten}
 use Rattle.lg_gram.specs.Connectors.{ConnectorsToldApart}
 use Rattle.lg_gram.specs.Disjuncts.{IsDisjunctOf}
@@ -11,7 +10,7 @@ use Rattle.lg_gram.specs.declared.listing.Token.{Token}
 use Rattle.lg_dict.specs.Dictionary.{Dictionary}
 use Rattle.lg_answer.specs.Problems.{IsOfWords}
 use Rattle.lg_audit.specs.Lines.{ShownChoice, ShownWord}
-use Rattle.lg_audit.specs.Replies.{shown_choice, shown_of}
+use Rattle.lg_audit.specs.Replies.{shown_choice}
 use Rattle.lg_audit.specs.Pages.{IsShownAt, AreShown, HasNamedWords, HaveNamedWords}
 use Rattle.lg_audit.proofs.PrintedDisjuncts.{one_printed}
 

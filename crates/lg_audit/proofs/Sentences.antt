@@ -1,10 +1,10 @@
 -- The linkages of a sentence's problem are those of problems that have just what the linkage uses.
-use Rattle.std.proofs.Common.{◌≡◌, ℕ, zero, suc, ◌+◌, ◌<◌, List, [], ◌∷◌, length, map, get_or, drop, slice_get, Contains, Option, Some, None, refl, sym, ap, ◌∙◌, subst, arith}
+use Rattle.std.proofs.Common.{◌≡◌, ℕ, zero, suc, ◌+◌, List, [], ◌∷◌, length, map, get_or, drop, slice_get, Contains, Option, Some, None, refl, sym, ap, ◌∙◌, subst, arith}
 use Rattle.std.specs.Prelude.{IfSome}
 use Rattle.std.specs.List.{enumerate_from, zip}
 use Rattle.lg_base.proofs.Elements.{contains_here}
 use Rattle.lg_gram.specs.Linkages.{Linkage}
-use Rattle.lg_gram.specs.Rules.{Good, chosen_at}
+use Rattle.lg_gram.specs.Rules.{Good}
 use Rattle.lg_gram.specs.declared.disjunct.Disjunct.{Disjunct}
 use Rattle.lg_gram.specs.declared.listing.Token.{Token}
 use Rattle.lg_dict.specs.Dictionary.{Dictionary}
@@ -13,7 +13,7 @@ use Rattle.lg_pp.specs.Breaks.{Judges}
 use Rattle.lg_answer.specs.Problems.{IsOfWords, IsProblemOf}
 use Rattle.lg_audit.specs.Lines.{ShownWord, ShownLinkage}
 use Rattle.lg_audit.specs.Replies.{shown_word, shown_linkage}
-use Rattle.lg_audit.specs.Pages.{IsShownAt, AreShown, IsOneOf, alone, problem_of}
+use Rattle.lg_audit.specs.Pages.{AreShown, IsOneOf, alone, problem_of}
 use Rattle.lg_audit.proofs.Alone.{as_many}
 use Rattle.lg_audit.proofs.ShownLinkages.{row_length}
 

@@ -1,8 +1,6 @@
 -- What a line shows of a token: a disjunct of one of its words, or nothing.
-use Rattle.std.proofs.Common.{◌≡◌, ℕ, ◌+◌, ◌<◌, List, [], ◌∷◌, ◌++◌, length, get_or, drop, Contains, Option, Some, None, MatchOption, refl, sym, ap, ◌∙◌, subst, arith}
-use Rattle.std.specs.Prelude.{IfSome}
+use Rattle.std.proofs.Common.{◌≡◌, ℕ, ◌+◌, ◌<◌, List, [], ◌∷◌, ◌++◌, length, get_or, drop, Contains, Option, Some, None, refl, sym, ap, ◌∙◌, subst, arith}
 use Rattle.std.specs.FinMap.{get}
-use Rattle.std.specs.List.{AllByRecursion}
 use Rattle.std.proofs.lemmas.List.{append_assoc, append-nil, drop_more}
 use Rattle.lg_gram.specs.Disjuncts.{IsDisjunctOf}
 use Rattle.lg_gram.specs.Trees.{Tree}
@@ -12,7 +10,7 @@ use Rattle.lg_dict.specs.Dictionary.{Dictionary}
 use Rattle.lg_audit.specs.Lines.{ShownChoice, ShownWord}
 use Rattle.lg_audit.specs.Replies.{shown_choice, shown_of, shown_word}
 use Rattle.lg_audit.specs.Printed.{IsPrintedSo, IsPrintedBy}
-use Rattle.lg_audit.specs.Pages.{IsShownAs, IsFoundAs, IsShownAt, IsFoundAt, AreShown, AreFound, MayFit}
+use Rattle.lg_audit.specs.Pages.{IsShownAs, IsFoundAs, IsShownAt, IsFoundAt, AreShown, AreFound}
 
 module _ (dict : Dictionary) (words : List (List ℕ)) (s : ShownChoice) where
   -- the word that is shown is one of the words

@@ -17,8 +17,8 @@ use Rattle.lg_knowread.specs.declared.knowledge.Knowledge.{Knowledge}
 use Rattle.lg_pp.specs.Breaks.{Holds, IsBroken, Judges}
 use Rattle.lg_text.specs.Texts.{label_text}
 use Rattle.lg_audit.specs.Lines.{ShownWord, ShownLink, ShownLinkage}
-use Rattle.lg_audit.specs.Replies.{shown_word, shown_linkage}
-use Rattle.lg_audit.specs.Pages.{AreShown, AreFound, HaveNamedWords, MayFit, IsOneOf, Keeps, problem_of, links_in, sums_of, shown_links}
+use Rattle.lg_audit.specs.Replies.{shown_word}
+use Rattle.lg_audit.specs.Pages.{AreShown, AreFound, HaveNamedWords, MayFit, IsOneOf, Keeps, problem_of, links_in, shown_links}
 use Rattle.lg_audit.proofs.OneShown.{one_row}
 use Rattle.lg_audit.proofs.Alone.{good_linkage}
 

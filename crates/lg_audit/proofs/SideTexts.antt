@@ -1,17 +1,17 @@
 -- The text of a side tells its connectors apart, and each of them stands between its commas.
-use Rattle.std.proofs.Common.{◌≡◌, ℕ, ◌+◌, ◌<◌, ◌≤◌, Bool, true, false, ◌&&◌, ◌||◌, cond, eqb, eqb-true, List, [], ◌∷◌, ◌++◌, map, length, get_or, codes, decimal, Contains, Less, Equal, Greater, refl, ap, sym, ◌∙◌, subst, inl, inr, arith, true≢false, if◌then◌else◌}
+use Rattle.std.proofs.Common.{◌≡◌, ℕ, ◌<◌, ◌≤◌, Bool, true, false, eqb, eqb-true, List, [], ◌∷◌, ◌++◌, map, length, codes, decimal, Contains, Less, Equal, Greater, refl, ap, sym, ◌∙◌, subst, inl, inr, arith, true≢false, if◌then◌else◌}
 use Rattle.std.specs.Int.{IsInRange}
 use Rattle.std.specs.Cmp.Lexicographic.{pointwise, slice_cmp}
 use Rattle.std.specs.Ordering.{nat_cmp, ordering_reverse}
 use Rattle.std.specs.declared.cmp.Ordering.{Ordering}
-use Rattle.std.specs.List.{All, list_any, list_all, join_with_byte, AllByRecursion}
+use Rattle.std.specs.List.{list_any, list_all, join_with_byte, AllByRecursion}
 use Rattle.std.proofs.lemmas.Bool.{leb-true, or_left, or_right, and_parts, and_from, or_from, both_ways, false_from_ne_true}
 use Rattle.std.proofs.lemmas.List.Folds.{list_any-append}
 use Rattle.std.proofs.lemmas.Cmp.{nat_list_cmp_total}
 use Rattle.std.proofs.lemmas.Slice.Eq.{bytes_eq-Decides}
 use Rattle.lg_base.proofs.Elements.{contains_cases, contains_none, contains_here, contains_later}
 use Rattle.lg_gram.specs.Names.{IsName, by_letters, by_joint, NamesAreWritten, is_capital, is_subscript, joint_fits, joint_text}
-use Rattle.lg_gram.specs.Connectors.{Connector, connector_text, connector_cmp, name_of, ConnectorsToldApart}
+use Rattle.lg_gram.specs.Connectors.{Connector, connector_text, name_of, ConnectorsToldApart}
 use Rattle.lg_text.specs.Texts.{side_text}
 use Rattle.lg_audit.specs.Pieces.{Lacks}
 use Rattle.lg_audit.specs.Printed.{ArePieces, is_among}

@@ -1,5 +1,5 @@
 -- What the page shows, as the program holds it, is read off its fields.
-use Rattle.std.proofs.Common.{◌≡◌, List, ◌++◌, length, map, sym, ap, ◌∙◌, subst, true≢false}
+use Rattle.std.proofs.Common.{List, ◌++◌, map, sym, ◌∙◌, subst, true≢false}
 use Rattle.std.specs.List.{flat_map}
 use Rattle.std.specs.List.Sorted.{IsStrictlySortedBy}
 use Rattle.lg_gram.specs.Linkages.{Linkage, linkage_cmp}

@@ -1,5 +1,5 @@
 -- What the line shows, as the program holds it, is read off its fields.
-use Rattle.std.proofs.Common.{sym, ap, ◌∙◌, subst, true≢false, MatchOption}
+use Rattle.std.proofs.Common.{sym, ◌∙◌, subst, true≢false, MatchOption}
 use Rattle.std.specs.Result.{IfOk}
 use Rattle.lg_gram.specs.Trees.{tree_of}
 use Rattle.lg_gram.specs.declared.disjunct.Disjunct.{Disjunct}

@@ -1,4 +1,3 @@
-use Rattle.std.proofs.Common.{sym}
 use Rattle.lg_gram.specs.Linkages.{Linkage}
 use Rattle.lg_audit.proofs.Framed.{ones_more, ones_never}
 use Rattle.lg_audit.proofs.Singles.{when_some, unless_some}

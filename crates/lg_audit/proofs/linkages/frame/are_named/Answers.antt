@@ -1,4 +1,4 @@
-use Rattle.std.proofs.Common.{List, sym, subst, ◌∙◌, true≢false, refl, take}
+use Rattle.std.proofs.Common.{List, sym, subst, ◌∙◌, true≢false, refl}
 use Rattle.std.specs.List.{All}
 use Rattle.std.proofs.lemmas.Bool.{false≢true}
 use Rattle.std.proofs.lemmas.List.{take_all}

@@ -1,9 +1,8 @@
-use Rattle.std.proofs.Common.{List, sym, subst, ◌∙◌, true≢false, refl}
+use Rattle.std.proofs.Common.{sym, subst, ◌∙◌, true≢false, refl}
 use Rattle.std.specs.List.{All}
 use Rattle.std.proofs.lemmas.Bool.{false≢true}
 use Rattle.std.proofs.lemmas.List.{take_all}
 use Rattle.std.proofs.lemmas.List.Elements.{recursion_from_All}
-use Rattle.lg_audit.specs.Lines.{ShownLink}
 use Rattle.lg_audit.proofs.ShownLinkages.{IsLabelled, labels_are, not_labels, link_in}
 use Rattle.lg_audit.proofs.linkages.linkage.has_labels.Goals as goal
 

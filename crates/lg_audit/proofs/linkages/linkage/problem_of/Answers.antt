@@ -1,6 +1,5 @@
-use Rattle.std.proofs.Common.{sym, subst, List}
+use Rattle.std.proofs.Common.{sym, subst}
 use Rattle.lg_gram.specs.Problems.{IsProblem}
-use Rattle.lg_gram.specs.declared.disjunct.Disjunct.{Disjunct}
 use Rattle.lg_audit.proofs.Alone.{is_problem}
 use Rattle.lg_audit.proofs.Weaker.{is_there}
 use Rattle.lg_audit.proofs.linkages.linkage.problem_of.Goals as goal

@@ -1,6 +1,6 @@
-use Rattle.std.proofs.Common.{sym, subst, ◌∙◌}
+use Rattle.std.proofs.Common.{subst, ◌∙◌}
 use Rattle.std.proofs.lemmas.Option.{same_Some}
-use Rattle.lg_gram.specs.Trees.{Tree, tree_of}
+use Rattle.lg_gram.specs.Trees.{tree_of}
 use Rattle.lg_disj.specs.Exist.{HasNames}
 use Rattle.lg_audit.proofs.linkages.names.see_word.Goals as goal
 

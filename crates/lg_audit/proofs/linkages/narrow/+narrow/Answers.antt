@@ -1,5 +1,5 @@
-use Rattle.std.proofs.Common.{ap, sym, ◌∙◌}
-use Rattle.lg_gram.specs.Trees.{trees_in, trees_of}
+use Rattle.std.proofs.Common.{ap, ◌∙◌}
+use Rattle.lg_gram.specs.Trees.{trees_in}
 use Rattle.lg_audit.specs.Printed.{is_shown, all_narrowed}
 use Rattle.lg_audit.specs.Views.{texts}
 use Rattle.lg_audit.proofs.NarrowBounds.{pushed_narrowed, members_narrowed}

@@ -1,9 +1,7 @@
 -- A narrowed formula is within the limits.
-use Rattle.std.proofs.Common.{sym, subst, ap, ◌∙◌}
+use Rattle.std.proofs.Common.{sym, subst}
 use Rattle.lg_gram.specs.Trees.{tree_of}
 use Rattle.lg_gram.specs.Formulas.{IsFormula}
-use Rattle.lg_audit.specs.Printed.{is_shown, narrowed}
-use Rattle.lg_audit.specs.Views.{texts}
 use Rattle.lg_audit.proofs.NarrowBounds.{narrowed_formula}
 use Rattle.lg_audit.proofs.linkages.narrow.narrowed.Goals as goal
 
