@@ -1,0 +1,11 @@
+pub mod Pieces
+pub mod Lines
+pub mod Fronts
+pub mod Views
+pub mod Documents
+pub mod Answers
+pub mod Journals
+pub mod Replies
+pub mod Audits
+pub mod Printed
+pub mod Pages
