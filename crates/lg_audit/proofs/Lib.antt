@@ -14,3 +14,6 @@ pub mod Chains
 pub mod Numbered
 pub mod Edits
 pub mod Whole
+pub mod Refusals
+pub mod Brought
+pub mod Found

@@ -6,4 +6,6 @@ pub mod Documents
 pub mod Answers
 pub mod Journals
 pub mod Replies
+pub mod Rising
+pub mod Grounds
 pub mod Audits

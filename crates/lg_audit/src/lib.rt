@@ -1,7 +1,10 @@
 //! The audit of a document: whether each linkage that it shows is right, without a parser.
 #![tactic(auto)]
 
-mod audit;
+mod answer;
+mod basis;
+mod cause;
+mod dated;
 mod document;
 mod head;
 mod journal;
@@ -14,8 +17,9 @@ mod reply;
 mod runs;
 mod session;
 mod shown;
+mod versions;
 
-pub use audit::AuditAnswer;
+pub use answer::AuditAnswer;
 pub use document::{Document, read_document};
 pub use shown::{
     ShownChoice, ShownEnd, ShownItem, ShownLink, ShownLinkage, ShownPage, ShownReply, ShownSums,
