@@ -15,5 +15,8 @@ pub mod Numbered
 pub mod Edits
 pub mod Whole
 pub mod Refusals
+pub mod InTime
 pub mod Brought
+pub mod Comings
+pub mod Held
 pub mod Found

@@ -6,6 +6,8 @@ pub mod Documents
 pub mod Answers
 pub mod Journals
 pub mod Replies
+pub mod Pages
 pub mod Rising
 pub mod Grounds
+pub mod Walks
 pub mod Audits
