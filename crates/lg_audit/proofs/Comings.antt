@@ -12,7 +12,8 @@ use Rattle.lg_script.specs.Commands.{CommandView, parses, lists, goes_on, makes,
 use Rattle.lg_script.specs.Histories.{numbered}
 use Rattle.lg_audit.specs.Lines.{ShownPage, ShownReply, listed, beyond, published, refused, at, nothing_held}
 use Rattle.lg_audit.specs.Replies.{Basis, Held, AsksFor, parse, list, GoesOn, IsPageOf, ReplyHolds, edited, not_edited, tells, lists_page, past_bound, more, no_more, dictionary_at, outline}
-use Rattle.lg_audit.specs.Walks.{EditHolds, IsKept, IsGoing, Follows, IsNext, ComesTo}
+use Rattle.lg_audit.specs.Tests.{EditHolds}
+use Rattle.lg_audit.specs.Walks.{IsKept, IsGoing, Follows, IsNext, ComesTo}
 use Rattle.lg_audit.specs.declared.listed.Going.{Going}
 use Rattle.lg_audit.specs.declared.verdict.Verdict.TheVariants.{Wrong, Right}
 use Rattle.lg_audit.proofs.InTime.{MakesSome}
@@ -152,7 +153,7 @@ module _ (basis : Basis) (p : Place) (h : Held) (version : ℕ) (stats : Option 
       → ComesTo basis p (Some h) goes_on (listed version stats page) h.version (Right (Some g))
   is_next_page g same none stays sentence follows =
       let shown = follows.shown in
-      let is = more {basis = basis} {p = p} h page shown stays follows.just.is in (
+      let is : ReplyHolds basis p (Some h) goes_on (listed h.version None page) (Some (next_held h page shown)) = more h page shown stays follows.just.is in (
         Some (next_held h page shown),
         record { version_is = refl; text = sym follows.text_is; sentence = sentence; next = sym follows.next; last = follows.last; rise = follows.just.is.rise },
         record {

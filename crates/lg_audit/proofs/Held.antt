@@ -1,6 +1,6 @@
 -- The answers of a session, one after another.
 use Rattle.std.proofs.Common.{◌≡◌, ◌⊎◌, inl, inr, ℕ, suc, ◌+◌, ◌≤◌, ◌<◌, List, [], ◌∷◌, ◌++◌, length, map, take, get_or, slice_get, Option, Some, None, refl, ap, sym, subst, ◌∙◌, arith, add-one, length-append}
-use Rattle.std.proofs.lemmas.List.{take_more, map-append, length-map}
+use Rattle.std.proofs.lemmas.List.{take_more, map-append, length-map, length-take-le}
 use Rattle.std.proofs.lemmas.Option.{slice_get_within, get_or_from_slice_get}
 use Rattle.lg_gram.specs.declared.reply.Place.{Place}
 use Rattle.lg_gram.specs.declared.reply.Reply.{Reply}
@@ -59,20 +59,24 @@ module _ (basis : Basis) (session : ℕ) (commands : List CommandView) (replies 
   at_first : (then : Option Held) → Hold basis session commands replies 0 then → then ≡ None
   at_first then hold = go (came 0 then hold)
     where
-      go : ((0 ≡ 0) × (then ≡ None)) ⊎ Came basis session commands replies 0 then → then ≡ None
+      go : (◌≡◌ {A = ℕ} 0 0 × (then ≡ None)) ⊎ Came basis session commands replies 0 then → then ≡ None
       go (inl start) = start.1
       go (inr more) = absurd (omega (arith, more.is))
 
   -- the answers before hold too
-  pub earlier : (n : ℕ) (then : Option Held) → Hold basis session commands replies n then → (k : ℕ) → k ≤ n → HoldSome basis session commands replies k
-  earlier _ _ none_yet k le = let none : 0 ≡ k = omega (arith, le) in (None, subst (λ (m : ℕ). Hold basis session commands replies m None) none none_yet)
-  earlier _ _ (one_more n held then command r hold a b time holds) k le = go (at_most n k le)
+  one_of : (n : ℕ) (then : Option Held) → Hold basis session commands replies (n + 1) then → (k : ℕ) → k ≤ n + 1 → (k ≤ n → HoldSome basis session commands replies k) → HoldSome basis session commands replies k
+  one_of n then hold k le below = go (at_most n k le)
     where
       at_most : (n k : ℕ) → k ≤ n + 1 → (k ≤ n) ⊎ (n + 1 ≡ k)
       at_most n k le = grind (arith, le)
+
       go : (k ≤ n) ⊎ (n + 1 ≡ k) → HoldSome basis session commands replies k
-      go (inl low) = earlier n held hold k low
-      go (inr same) = (then, subst (λ (m : ℕ). Hold basis session commands replies m then) same (one_more n held then command r hold a b time holds))
+      go (inl low) = below low
+      go (inr same) = (then, subst (λ (m : ℕ). Hold basis session commands replies m then) same hold)
+
+  pub earlier : (n : ℕ) (then : Option Held) → Hold basis session commands replies n then → (k : ℕ) → k ≤ n → HoldSome basis session commands replies k
+  earlier _ _ none_yet k le = let none : 0 ≡ k = omega (arith, le) in (None, subst (λ (m : ℕ). Hold basis session commands replies m None) none none_yet)
+  earlier _ _ (one_more n held then command r hold a b time holds) k le = one_of n then (one_more n held then command r hold a b time holds) k le (λ low. earlier n held hold k low)
 
   -- ---- the walk
 
@@ -98,8 +102,9 @@ module _ (basis : Basis) (session : ℕ) (commands : List CommandView) (replies 
 
     long : length (map outline (take n replies)) ≡ length (take n commands)
     long =
-        length-map (take n replies) outline
-        ∙ grind (arith, within commands n c c_is, within replies n r r_is, ap length (take_next commands n c c_is), ap length (take_next replies n r r_is))
+        let cs = within commands n c c_is in
+        let rs = within replies n r r_is in
+        length-map (take n replies) outline ∙ length-take-le n replies (omega (arith, rs)) ∙ sym (length-take-le n commands (omega (arith, cs)))
 
     later : AreInTime basis.journal (take (n + 1) commands) (map outline (take (n + 1) replies)) → AreInTime basis.journal (take n commands ++ c ∷ []) (map outline (take n replies) ++ outline r ∷ [])
     later time =
@@ -126,6 +131,7 @@ module _ (basis : Basis) (session : ℕ) (commands : List CommandView) (replies 
               rises_so basis.journal (take n commands) (map outline (take n replies)) w.named long at.named r c (makes_some basis _ at.held c r then h4) (later time'),
               h4,
             )
+
         go : ((n + 1 ≡ 0) × (then ≡ None)) ⊎ Came basis session commands replies (n + 1) then
             → Rises w.named (length basis.journal) c r × ReplyHolds basis (record { session = session; command = n + 1 }) at.held c r then
         go (inl start) = absurd (omega (arith, start.0))

@@ -23,6 +23,7 @@ module _ {A : Type 0} (R : A → A → Type 0) (xs : List A) (y : A) where
     where
       at_most : (n k : ℕ) → k < n + 1 → (k < n) ⊎ (n ≡ k)
       at_most n k lt = grind (arith, lt)
+
       go : get_or (xs ++ y ∷ []) i d ≡ get_or xs i d → (j < length xs) ⊎ (length xs ≡ j) → R (get_or (xs ++ y ∷ []) i d) (get_or (xs ++ y ∷ []) j d)
       go first (inl lt) = subst (λ (x : A). R x (get_or (xs ++ y ∷ []) j d)) (sym first) (subst (λ (x : A). R (get_or xs i d) x) (sym (get_or_append_left xs (y ∷ []) d j lt)) (all i j d a lt))
       go first (inr same) =
@@ -158,3 +159,23 @@ module _ (journal : List Place) (cs : List CommandView) (rs : List Reply) (named
   rises_so goes_on some time = all_last (λ o. reply_version o ≤ length journal) rs (outline r) time.there
   rises_so (makes edit) some time = fresh_rises (makes edit) refl some time
   rises_so asks some time = fresh_rises asks refl some time
+
+-- ---- from a lower version on
+
+sooner : (low named : ℕ) (o : Reply) → low ≤ named → Precedes (At named) o → Precedes (At low) o
+sooner low named (Listed n tokens page stats) le h = omega (arith, le, h)
+sooner low named (Beyond n bound) le h = omega (arith, le, h)
+sooner low named (Published n) le h = omega (arith, le, h)
+sooner low named (Refused n cause name) le h = omega (arith, le, h)
+sooner low named (At n) le h = omega (arith, le, h)
+sooner low named NoListing le h = omega (arith, le, h)
+
+ahead_lower : (low named newest : ℕ) (r : ShownReply) → low ≤ named → IsAhead named newest r → IsAhead low newest r
+ahead_lower low named newest r le ahead = record { there = ahead.there; behind = sooner low named (outline r) le ahead.behind }
+
+pub rises_lower : (low named newest : ℕ) (c : CommandView) (r : ShownReply) → low ≤ named → Rises named newest c r → Rises low newest c r
+rises_lower low named newest (parses text) r le rises = ahead_lower low named newest r le rises
+rises_lower low named newest (lists from want text) r le rises = ahead_lower low named newest r le rises
+rises_lower low named newest goes_on r le rises = rises
+rises_lower low named newest (makes edit) r le rises = ahead_lower low named newest r le rises
+rises_lower low named newest asks r le rises = ahead_lower low named newest r le rises

@@ -20,3 +20,9 @@ pub mod Brought
 pub mod Comings
 pub mod Held
 pub mod Found
+pub mod Sharing
+pub mod Tested
+pub mod Goings
+pub mod Walking
+pub mod Tallies
+pub mod Audited

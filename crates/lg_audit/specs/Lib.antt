@@ -9,5 +9,7 @@ pub mod Replies
 pub mod Pages
 pub mod Rising
 pub mod Grounds
+pub mod Shares
+pub mod Tests
 pub mod Walks
 pub mod Audits

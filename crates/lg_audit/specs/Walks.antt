@@ -3,14 +3,11 @@ use Rattle.std.specs.Prelude.{◌≡◌, ◌⊎◌, ℕ, ◌^◌, ◌≤◌, ◌
 use Rattle.std.specs.Option.{option_map_or}
 use Rattle.std.specs.List.Sorted.{IsStrictlySortedBy}
 use Rattle.lg_gram.specs.Linkages.{Linkage, linkage_cmp}
-use Rattle.lg_gram.specs.declared.edit.EditRefusal.{EditRefusal}
 use Rattle.lg_gram.specs.declared.reply.Place.{Place}
 use Rattle.lg_gram.specs.declared.reply.Reply.{Reply}
 use Rattle.lg_gram.specs.declared.reply.Reply.TheVariants.{At}
 use Rattle.lg_dict.specs.Dictionary.{Dictionary}
-use Rattle.lg_edit.specs.Edits.{EditView}
 use Rattle.lg_knowread.specs.declared.knowledge.Knowledge.{Knowledge}
-use Rattle.lg_text.specs.Replies.{cause_pieces}
 use Rattle.lg_script.specs.Bounds.{IsSentence}
 use Rattle.lg_script.specs.Codes.{AreScripts}
 use Rattle.lg_script.specs.Commands.{CommandView, goes_on, is_edit, script_views}
@@ -25,20 +22,6 @@ use Rattle.lg_audit.specs.declared.listed.Going.{Going}
 use Rattle.lg_audit.specs.declared.verdict.Verdict.{Verdict}
 use Rattle.lg_audit.specs.declared.verdict.Verdict.TheVariants.{Wrong, Right}
 use Rattle.lg_audit.specs.declared.walk.Walked.{Walked}
-
--- ---- edits
-
--- this version refuses the edit, and the text tells the cause
-pub record TellsRefusal (basis : Basis) (edit : EditView) (version : ℕ) (text : List ℕ) : Type 0 where
-  pub cause : EditRefusal
-  pub name : List ℕ
-  pub refused : IsRefusedAt basis.scripts basis.base basis.journal edit version cause name
-  pub is : text ≡ line (cause_pieces cause name)
-
-abbrev pub EditHolds : Basis → Place → EditView → ShownReply → Type 0
-EditHolds basis p edit (published version) = IsPublishedAt basis.scripts basis.base basis.journal p edit version
-EditHolds basis p edit (refused version text) = TellsRefusal basis edit version text
-EditHolds basis p edit _ = ⊥
 
 -- ---- listings
 
@@ -120,10 +103,6 @@ pub record IsFirstWrong (basis : Basis) (session : ℕ) (commands : List Command
   pub wrong : HoldSome basis session commands replies n → ⊥
 
 -- ---- all answers
-
--- each line of the journal names a command that edits
-abbrev pub NamesEdits : List (List CommandView) → List Place → Type 0
-NamesEdits scripts journal = All (λ p. option_map_or is_edit (command_at scripts p) false ≡ true) journal
 
 -- every answer of each session holds, for the first n sessions
 abbrev pub AllHold : Basis → List (List ShownReply) → ℕ → Type 0

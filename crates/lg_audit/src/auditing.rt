@@ -43,7 +43,9 @@ pub fn audit(
         return Ok(AuditAnswer::Shape);
     };
     let Document {
-        replies, journal, ..
+        replies,
+        journal,
+        ..
     } = document;
     if !journal_holds(alloc, scripts, journal.as_slice(), replies.as_slice())? {
         return Ok(AuditAnswer::Journal);

@@ -1,13 +1,13 @@
 //! Answers to edits.
 
-ghost use Rattle.std.specs.Prelude.{◌≡◌, ◌↔◌, ◌≤◌, ◌<◌, length, IfOk, OnOk, IsTrue};
+ghost use Rattle.std.specs.Prelude.{◌≡◌, ◌↔◌, ◌≤◌, ◌<◌, length, Some, IfOk, OnOk, IsTrue};
 ghost use Rattle.lg_edit.specs.Edits.{edit_view, IsEditInBounds};
-ghost use Rattle.lg_script.specs.Histories.{IsPublishedAt, reply_version};
+ghost use Rattle.lg_script.specs.Histories.{numbered, IsPublishedAt, reply_version};
 ghost use Rattle.lg_audit.specs.Answers.{reply_of};
 ghost use Rattle.lg_audit.specs.Replies.{outline};
 ghost use Rattle.lg_audit.specs.Grounds.{basis_in, IsUsable, IsDated};
 ghost use Rattle.lg_audit.specs.Rising.{IsAhead};
-ghost use Rattle.lg_audit.specs.Walks.{EditHolds, TellsRefusal};
+ghost use Rattle.lg_audit.specs.Tests.{EditHolds, TellsRefusal};
 
 use crate::basis::Basis;
 use crate::cause::tells_cause;
@@ -65,10 +65,19 @@ fn published_holds(
     ensures within { OnOk result (dated.new.version ≤ version) }
 {
     bring(alloc, basis, dated, version - 1)?;
-    if basis.journal[version as usize - 1] != place {
+    if !stands(basis.journal, version, place) {
         return Ok(false);
     }
     Ok(check(&dated.view, edit).is_ok())
+}
+
+// Whether the edit at this place stands in the journal as the one that made the version.
+fn stands(journal: &[Place], version: u64, place: Place) -> bool
+    requires least { 1 ≤ version }
+    requires there { version ≤ length journal.now }
+    ensures { IsTrue result ↔ (numbered journal.now version ≡ Some place) }
+{
+    journal[version as usize - 1] == place
 }
 
 // Whether this version refuses the edit, and the text tells the cause.

@@ -107,7 +107,8 @@ fn past_bound<'a>(
     let Ok(sentence) = str::from_utf8(text.bytes()) else {
         unreachable!()
     };
-    if is_beyond(alloc, view, sentence, bound)? {
+    let beyond = is_beyond(alloc, view, sentence, bound)?;
+    if beyond {
         return Ok(Verdict::Right(None));
     }
     Ok(Verdict::Wrong)
@@ -119,10 +120,10 @@ fn is_beyond(alloc: Global, view: &View, text: &str, bound: Bound) -> Result<boo
     ensures { IfOk result (λ holds. IsTrue holds ↔ IsBeyond view.now text.now bound) }
 {
     tokens_are_one_list();
-    match listed_tokens(alloc, view, text)? {
-        Ok(_) => Ok(false),
-        Err(found) => Ok(found == bound),
-    }
+    let Err(found) = listed_tokens(alloc, view, text)? else {
+        return Ok(false);
+    };
+    Ok(found == bound)
 }
 
 /// Checks the answer to `more`.
@@ -172,7 +173,10 @@ fn next_page<'a>(
     let ShownReply::Listed { version, page, .. } = reply else {
         return Ok(Verdict::Wrong);
     };
-    if *version != dated.version || !begins_there(going.next, page) {
+    if *version != dated.version {
+        return Ok(Verdict::Wrong);
+    }
+    if !begins_there(going.next, page) {
         return Ok(Verdict::Wrong);
     }
     let Going { text, next, last } = going;

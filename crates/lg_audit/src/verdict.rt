@@ -87,7 +87,8 @@ fn edited<'a>(
     ensures dated { OnOk result (IsDated (basis_in basis.now) dated.new) }
     ensures within { OnOk result (dated.new.version ≤ reply_version (outline (reply_of reply.now))) }
 {
-    if edit_holds(alloc, basis, dated, place, edit, reply)? {
+    let holds = edit_holds(alloc, basis, dated, place, edit, reply)?;
+    if holds {
         return Ok(Verdict::Right(held));
     }
     Ok(Verdict::Wrong)

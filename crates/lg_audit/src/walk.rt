@@ -53,7 +53,9 @@ pub(crate) fn first_wrong_of(
         view: View::of(alloc, basis.base),
         version: 0,
     };
-    walk(alloc, basis, &mut edits, &mut lists, session, commands, replies)
+    walk(
+        alloc, basis, &mut edits, &mut lists, session, commands, replies,
+    )
 }
 
 // The same by two dictionaries at the start.
@@ -115,7 +117,7 @@ fn step<'a>(
     requires kept { (h : Option Held) × IsKept lists.old.version h walked.held }
     ensures { (h : Option Held) → IsKept lists.old.version h walked.entry.held → IfOk result (λ r. MatchOption r
         ((then : Option Held) → Rises walked.entry.named (length (basis_in basis.now).journal) (command_view command.now) (reply_of reply.now)
-            → ReplyHolds (basis_in basis.now) place h (command_view command.now) (reply_of reply.now) then → ⊥)
+        → ReplyHolds (basis_in basis.now) place h (command_view command.now) (reply_of reply.now) then → ⊥)
         (IsStepped (basis_in basis.now) place walked.entry.named h (command_view command.now) (reply_of reply.now) edits.new lists.new)) }
 {
     let newest = basis.journal.len() as u64;
@@ -123,7 +125,16 @@ fn step<'a>(
         return Ok(None);
     }
     let named = newly_named(walked.named, command, reply);
-    let comes = verdict_of(alloc, basis, edits, lists, walked.held, place, command, reply)?;
+    let comes = verdict_of(
+        alloc,
+        basis,
+        edits,
+        lists,
+        walked.held,
+        place,
+        command,
+        reply,
+    )?;
     match comes {
         Verdict::Right(held) => Ok(Some(Walked { named, held })),
         Verdict::Wrong => Ok(None),
