@@ -14,7 +14,7 @@ item_at xs ys i x same less is = subst (λ l. slice_get l i ≡ Some x) same (sl
 pub no_item_at : {A : Type 0} (xs ys : List A) (i : ℕ) → ys ≡ xs → length ys ≤ i → slice_get xs i ≡ None
 no_item_at xs ys i same past = subst (λ l. slice_get l i ≡ None) same (slice_get_past ys i past)
 
-by_index : {A : Type 0} (xs : List A) (n : ℕ) → (n ≡ 0 → ⊥) → numbered xs n ≡ slice_get xs (n - 1)
+pub by_index : {A : Type 0} (xs : List A) (n : ℕ) → (n ≡ 0 → ⊥) → numbered xs n ≡ slice_get xs (n - 1)
 by_index xs zero some = absurd (some refl)
 by_index xs (suc n) some = let same : n ≡ suc n - 1 = omega arith in ap (slice_get xs) same
 

@@ -17,3 +17,5 @@ pub mod Whole
 pub mod Refusals
 pub mod Brought
 pub mod Found
+pub mod Sharing
+pub mod Tested

@@ -8,4 +8,6 @@ pub mod Journals
 pub mod Replies
 pub mod Rising
 pub mod Grounds
+pub mod Shares
+pub mod Tests
 pub mod Audits
