@@ -33,3 +33,15 @@ pub mod Framed
 pub mod GoingOn
 pub mod NamedTokens
 pub mod Taken
+pub mod Refusals
+pub mod InTime
+pub mod Brought
+pub mod Comings
+pub mod Held
+pub mod Found
+pub mod Sharing
+pub mod Tested
+pub mod Goings
+pub mod Walking
+pub mod Tallies
+pub mod Audited

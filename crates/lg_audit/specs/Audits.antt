@@ -10,8 +10,8 @@ use Rattle.std.specs.Option.{option_map_or}
 use Rattle.lg_audit.specs.Lines.{ShownReply, listed}
 use Rattle.lg_audit.specs.Documents.{ShownDocument, Shows}
 use Rattle.lg_audit.specs.Replies.{Basis, Held, Hold, outline, linkages_on}
-use Rattle.lg_audit.specs.declared.audit.AuditAnswer.{AuditAnswer}
-use Rattle.lg_audit.specs.declared.audit.AuditAnswer.TheVariants.{Yes, Shape, Journal, Reply}
+use Rattle.lg_audit.specs.declared.answer.AuditAnswer.{AuditAnswer}
+use Rattle.lg_audit.specs.declared.answer.AuditAnswer.TheVariants.{Yes, Shape, Journal, Reply}
 
 -- what a document is audited by
 pub record Inputs : Type 0 where

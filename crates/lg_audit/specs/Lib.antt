@@ -6,6 +6,12 @@ pub mod Documents
 pub mod Answers
 pub mod Journals
 pub mod Replies
+pub mod Pages
+pub mod Rising
+pub mod Grounds
+pub mod Shares
+pub mod Tests
+pub mod Walks
 pub mod Audits
 pub mod Printed
 pub mod Pages

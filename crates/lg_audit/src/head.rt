@@ -205,7 +205,7 @@ fn is_cause(text: &[u8]) -> bool
 }
 
 // The number of 64 bits that stands alone behind these bytes at the front.
-fn count(text: &[u8], front: &[u8]) -> Option<u64>
+pub(crate) fn count(text: &[u8], front: &[u8]) -> Option<u64>
     ensures { MatchOption result
         ((n : ℕ) → IsNumber n → text.now ≡ front.now ++ decimal n → ⊥)
         (λ n. IsNumber n × (text.now ≡ front.now ++ decimal n)) }
@@ -217,7 +217,7 @@ fn count(text: &[u8], front: &[u8]) -> Option<u64>
 }
 
 // The same with a number of 32 bits.
-fn small_count(text: &[u8], front: &[u8]) -> Option<u32>
+pub(crate) fn small_count(text: &[u8], front: &[u8]) -> Option<u32>
     ensures { MatchOption result
         ((n : ℕ) → IsSmallNumber n → text.now ≡ front.now ++ decimal n → ⊥)
         (λ n. IsSmallNumber n × (text.now ≡ front.now ++ decimal n)) }
