@@ -23,7 +23,8 @@ use Rattle.lg_answer.proofs.Lists.{zip_at, zip_each}
 use Rattle.lg_answer.proofs.Made.{expanded_none, are_expanded, have_expanded}
 use Rattle.lg_answer.proofs.Narrowed.{keeps_linkages}
 use Rattle.lg_answer.proofs.Words.{trees_out, trees_in}
-use Rattle.lg_answer.specs.Problems.{IsOfWords, IsProblemInUse}
+use Rattle.lg_token.specs.Problems.{IsOfWords}
+use Rattle.lg_answer.specs.Problems.{IsProblemInUse}
 use Rattle.lg_answer.specs.Steps.{AreOfSentence, word_trees, AreNamed, AreWordTrees, AreWordTreesFor, AreExprsInUse, behind, IsOfTrees, AreApart, AreExpanded, AreMade, HaveProblem, IsNarrowed}
 
 -- ---- the formulas in use

@@ -17,7 +17,8 @@ use Rattle.lg_idiom.specs.Wholes.{HasNoJoint, AreChainsOfIdioms, AreLaidOver, Ch
 use Rattle.lg_answer.proofs.Apart.{no_token}
 use Rattle.lg_answer.specs.Idioms.{UsesChainsWhole, JoinsNeighbours, KeepsPlainLinkages, IdiomsStayWhole}
 use Rattle.lg_answer.specs.Pages.{HasLinkagesOf}
-use Rattle.lg_answer.specs.Problems.{IsProblemOf, IsIdiomProblem, IsProblemInUse}
+use Rattle.lg_token.specs.Problems.{IsProblemOf}
+use Rattle.lg_answer.specs.Problems.{IsIdiomProblem, IsProblemInUse}
 use Rattle.lg_answer.specs.Steps.{IsSearched}
 use Rattle.lg_answer.specs.declared.options.Options.{Options}
 

@@ -12,7 +12,8 @@ use Rattle.lg_idiom.specs.Overlays.{HasNoJoints}
 use Rattle.lg_idiom.specs.Sentences.{AreTakenOf}
 use Rattle.lg_idiom.specs.Wholes.{UsesAll, UsesNone, IsJointLink}
 use Rattle.lg_answer.specs.Pages.{HasLinkagesOf}
-use Rattle.lg_answer.specs.Problems.{IsProblemOf, IsIdiomProblem}
+use Rattle.lg_token.specs.Problems.{IsProblemOf}
+use Rattle.lg_answer.specs.Problems.{IsIdiomProblem}
 
 -- each chain that is taken of the sentence is used at all of its positions or at none
 abbrev pub UsesChainsWhole : Dictionary → List Token → List (List Disjunct) → Type 0

@@ -19,7 +19,8 @@ use Rattle.lg_knowread.specs.declared.knowledge.Knowledge.{Knowledge}
 use Rattle.lg_pp.specs.Breaks.{Judges}
 use Rattle.lg_token.specs.Bounds.{AreListed}
 use Rattle.lg_idiom.specs.Sentences.{AddIdioms}
-use Rattle.lg_answer.specs.Problems.{IsProblemOf, IsProblemInUse}
+use Rattle.lg_token.specs.Problems.{IsProblemOf}
+use Rattle.lg_answer.specs.Problems.{IsProblemInUse}
 use Rattle.lg_answer.specs.Candidates.{Course, HasCome, AreAll}
 use Rattle.lg_answer.specs.Pages.{passed, HasLinkagesOf, AreStats}
 use Rattle.lg_answer.specs.declared.options.Options.{Options}

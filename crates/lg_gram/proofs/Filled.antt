@@ -106,3 +106,13 @@ pub first_of_all : (formulas : Formulas) (ms : List (List ℕ × ℕ)) (answer :
     break_value answer ≡ option_map (λ n. min n REFERENCES_COUNTED) (position (is_unknown formulas) (map (λ m. m.0) ms))
 first_of_all formulas ms (Continue next) h = grind (arith, nat_tests, h.0, position_of_map (is_unknown formulas) (λ (m : List ℕ × ℕ). m.0) ms, length-map ms (λ (m : List ℕ × ℕ). m.0))
 first_of_all formulas ms (Break number) h = grind (arith, nat_tests, h.0, h.1, position_of_map (is_unknown formulas) (λ (m : List ℕ × ℕ). m.0) ms, length-map ms (λ (m : List ℕ × ℕ). m.0))
+
+-- the sizes of an expression that is within the limits are not capped
+pub sizes_fit : (t u : Tree) (sizes : Sizes) → t ≡ u → IsFormula u → sizes.nodes ≡ min (node_count u) COUNTED → sizes.choices ≡ min (choice_count u) COUNTED
+    → sizes.left ≡ min (side_count false u) SIDE_COUNTED → sizes.right ≡ min (side_count true u) SIDE_COUNTED → HasSizes t sizes
+sizes_fit t u sizes is small nodes choices left right = subst (λ (x : Tree). HasSizes x sizes) (sym is) (record {
+  nodes = omega (arith, nodes, small.nodes);
+  choices = omega (arith, choices, small.choices);
+  left = omega (arith, left, small.left_side);
+  right = omega (arith, right, small.right_side);
+})

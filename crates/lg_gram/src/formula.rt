@@ -86,6 +86,15 @@ impl Formula {
         ensures { result ≡ expr }
     {
         let sizes = sizes_of(&expr);
+        Formula::of_measured(expr, sizes)
+    }
+
+    // The formula of an expression that is known to be within the limits, and of which these are the sizes.
+    pub(crate) fn of_measured(expr: Expr, sizes: Sizes) -> Formula
+        requires small { IsFormula (tree_of expr) }
+        requires sizes { HasSizes (tree_of expr) sizes }
+        ensures { result ≡ expr }
+    {
         let body = Body::Own(expr);
         Formula { body, sizes }
     }

@@ -40,7 +40,8 @@ pub fn first_excess<M: Macros>(raw: &RawExpr, macros: &M) -> Option<Excess>
     None
 }
 
-/// The formula of an expression that is within the limits with its macros put in.
+/// The formula of an expression that is within the limits with its macros put in. It has the measures of its macros, which are not
+/// measured again.
 pub fn filled_formula<M: Macros>(
     alloc: Global,
     raw: &RawExpr,
@@ -49,5 +50,7 @@ pub fn filled_formula<M: Macros>(
     requires { IsFormula (filled (M.formulas macros.now) (raw_tree_of raw.now)) }
     ensures { IfOk result (λ f. tree_of f ≡ filled (M.formulas macros.now) (raw_tree_of raw.now)) }
 {
-    Ok(Formula::of_small(fill(alloc, raw, macros)?))
+    let sizes = filled_sizes(raw, macros);
+    let expr = fill(alloc, raw, macros)?;
+    Ok(Formula::of_measured(expr, sizes))
 }

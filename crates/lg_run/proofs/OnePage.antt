@@ -41,7 +41,8 @@ use Rattle.lg_rank.proofs.Nexts.{fronts_agree}
 use Rattle.lg_token.specs.Tokens.{AreTokens}
 use Rattle.lg_answer.specs.Candidates.{IsCandidate, AreAll, IsBehind}
 use Rattle.lg_answer.specs.Pages.{passed, IsPage, AreStats}
-use Rattle.lg_answer.specs.Problems.{IsOfWords, IsPositionOf, IsProblemOf, IsIdiomPosition, IsIdiomProblem, IsProblemInUse}
+use Rattle.lg_token.specs.Problems.{IsOfWords, IsPositionOf, IsProblemOf}
+use Rattle.lg_answer.specs.Problems.{IsIdiomPosition, IsIdiomProblem, IsProblemInUse}
 use Rattle.lg_answer.specs.declared.options.Nulls.{Nulls}
 use Rattle.lg_answer.specs.declared.options.Options.{Options}
 use Rattle.lg_answer.proofs.Places.{place_of, at_place}

@@ -18,7 +18,8 @@ use Rattle.lg_expr.proofs.AllOf.{all_append}
 use Rattle.lg_idiom.specs.Idioms.{Chain, joint_of, later_formula, formula_at, AreIdioms}
 use Rattle.lg_idiom.specs.Overlays.{IsOfAdded}
 use Rattle.lg_idiom.proofs.Chains.{taken_in}
-use Rattle.lg_answer.specs.Problems.{IsOfWords, IsProblemInUse}
+use Rattle.lg_token.specs.Problems.{IsOfWords}
+use Rattle.lg_answer.specs.Problems.{IsProblemInUse}
 use Rattle.lg_script.specs.SingleLines.{IsSingleLine}
 use Rattle.lg_text.specs.Shown.{IsOneLine, IsPlainDisjunct}
 use Rattle.lg_text.proofs.PlainTexts.{number_plain}

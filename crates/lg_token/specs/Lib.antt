@@ -5,3 +5,4 @@ pub mod Spans
 pub mod Bounds
 pub mod Places
 pub mod Steps
+pub mod Problems
