@@ -14,7 +14,7 @@ use Rattle.lg_gram.proofs.Exact.{first_equal, exact_lists}
 use Rattle.lg_gram.proofs.Orders.{disjuncts_total}
 use Rattle.lg_dict.specs.Dictionary.{Dictionary}
 use Rattle.lg_disj.specs.Exist.{HasNames, ExpressionsHaveDisjuncts}
-use Rattle.lg_answer.specs.Problems.{IsOfWords, IsPositionOf, IsProblemOf}
+use Rattle.lg_token.specs.Problems.{IsOfWords, IsPositionOf, IsProblemOf}
 use Rattle.lg_audit.specs.Pages.{HasNamedWords, HaveNamedWords}
 use Rattle.lg_audit.proofs.Rising.{one_in_rising, rising_of}
 

@@ -17,7 +17,7 @@ use Rattle.lg_token.specs.Bounds.{AreListed, IsBeyond, bound_of}
 use Rattle.lg_token.specs.Tokens.{AreTokens}
 use Rattle.lg_knowread.specs.declared.knowledge.Knowledge.{Knowledge}
 use Rattle.lg_pp.specs.Breaks.{Judges}
-use Rattle.lg_answer.specs.Problems.{IsProblemOf}
+use Rattle.lg_token.specs.Problems.{IsProblemOf}
 use Rattle.lg_audit.specs.Lines.{ShownLinkage, ShownPage}
 use Rattle.lg_audit.specs.Replies.{Begins, with_some, behind_all, IsPageOf, shown_linkage, linkages_on}
 use Rattle.lg_audit.specs.Pages.{HaveNamedWords, AreOnesOf, BeginsWith, IsFramed, IsPageFor}

@@ -8,7 +8,7 @@ use Rattle.lg_gram.specs.Trees.{Tree}
 use Rattle.lg_gram.specs.declared.disjunct.Disjunct.{Disjunct}
 use Rattle.lg_gram.specs.declared.listing.Token.{Token}
 use Rattle.lg_dict.specs.Dictionary.{Dictionary}
-use Rattle.lg_answer.specs.Problems.{IsOfWords}
+use Rattle.lg_token.specs.Problems.{IsOfWords}
 use Rattle.lg_audit.specs.Lines.{ShownChoice, ShownWord}
 use Rattle.lg_audit.specs.Replies.{shown_choice}
 use Rattle.lg_audit.specs.Pages.{IsShownAt, AreShown, HasNamedWords, HaveNamedWords}

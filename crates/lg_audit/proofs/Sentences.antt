@@ -10,7 +10,7 @@ use Rattle.lg_gram.specs.declared.listing.Token.{Token}
 use Rattle.lg_dict.specs.Dictionary.{Dictionary}
 use Rattle.lg_knowread.specs.declared.knowledge.Knowledge.{Knowledge}
 use Rattle.lg_pp.specs.Breaks.{Judges}
-use Rattle.lg_answer.specs.Problems.{IsOfWords, IsProblemOf}
+use Rattle.lg_token.specs.Problems.{IsOfWords, IsProblemOf}
 use Rattle.lg_audit.specs.Lines.{ShownWord, ShownLinkage}
 use Rattle.lg_audit.specs.Replies.{shown_word, shown_linkage}
 use Rattle.lg_audit.specs.Pages.{AreShown, IsOneOf, alone, problem_of}

@@ -14,4 +14,3 @@ pub mod Tests
 pub mod Walks
 pub mod Audits
 pub mod Printed
-pub mod Pages

@@ -17,11 +17,17 @@ use Rattle.lg_disj.specs.Exist.{HasNames}
 use Rattle.lg_knowread.specs.declared.knowledge.Knowledge.{Knowledge}
 use Rattle.lg_pp.specs.Breaks.{Judges}
 use Rattle.lg_text.specs.Texts.{label_text}
-use Rattle.lg_answer.specs.Problems.{IsOfWords}
+use Rattle.lg_token.specs.Problems.{IsOfWords}
 use Rattle.lg_audit.specs.Lines.{ShownChoice, ShownWord, ShownLink, ShownLinkage, ShownItem, ShownPage}
 use Rattle.lg_audit.specs.declared.shown.ShownEnd.{ShownEnd}
 use Rattle.lg_audit.specs.declared.shown.ShownSums.{ShownSums}
 use Rattle.lg_audit.specs.Replies.{shown_choice, shown_word, shown_linkage, number_of, linkages_on, IsNamed}
+
+-- the last element, if there is one
+abbrev pub last_of : {A : Type 0} → List A → Option A
+last_of [] = None
+last_of (x ∷ []) = Some x
+last_of (x ∷ y ∷ xs) = last_of (y ∷ xs)
 
 -- the last of these linkages, or none where there are none
 abbrev pub IsLastOf : List Linkage → Option (Bor Linkage) → Type 0

@@ -16,7 +16,7 @@ use Rattle.lg_token.specs.Bounds.{AreListed, IsBeyond}
 use Rattle.lg_edit.specs.Edits.{EditView}
 use Rattle.lg_knowread.specs.declared.knowledge.Knowledge.{Knowledge}
 use Rattle.lg_pp.specs.Breaks.{Judges}
-use Rattle.lg_answer.specs.Problems.{IsProblemOf}
+use Rattle.lg_token.specs.Problems.{IsProblemOf}
 use Rattle.lg_text.specs.Texts.{side_text, label_text}
 use Rattle.lg_text.specs.Replies.{cause_pieces}
 use Rattle.lg_script.specs.Commands.{CommandView, parses, lists, goes_on, makes, asks}
