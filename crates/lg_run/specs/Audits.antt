@@ -1,0 +1,34 @@
+-- What an audit prints, and which documents are right.
+use Rattle.std.specs.Prelude.{◌≡◌, ℕ, false, List, [], ◌∷◌, codes, decimal}
+use Rattle.lg_base.specs.Contents.{Contents}
+use Rattle.lg_dict.specs.Dictionary.{Dictionary}
+use Rattle.lg_knowread.specs.declared.knowledge.Knowledge.{Knowledge}
+use Rattle.lg_script.specs.Commands.{CommandView}
+use Rattle.lg_text.specs.Replies.{place_text}
+use Rattle.lg_text.specs.Texts.{line_of}
+use Rattle.lg_audit.specs.Audits.{Inputs, IsAudit}
+use Rattle.lg_audit.specs.declared.answer.AuditAnswer.{AuditAnswer}
+use Rattle.lg_audit.specs.declared.answer.AuditAnswer.TheVariants.{Yes, Shape, Journal, Reply}
+use Rattle.lg_run.specs.Documents.{IsOutcome}
+use Rattle.lg_run.specs.Shown.{IsRunOf}
+use Rattle.lg_run.specs.declared.setup.Setup.{Setup}
+
+-- the line of an answer
+abbrev pub audit_line : AuditAnswer → List ℕ
+audit_line (Yes shown) = line_of (codes "audit yes" ∷ decimal shown ∷ [])
+audit_line Shape = line_of (codes "audit no shape" ∷ [])
+audit_line Journal = line_of (codes "audit no journal" ∷ [])
+audit_line (Reply place) = line_of (codes "audit no at" ∷ place_text place ∷ [])
+
+-- the line of what the audit of these bytes answers
+pub record IsAuditLine (inputs : Inputs) (bytes line : List ℕ) : Type 0 where
+  pub answer : AuditAnswer
+  pub audited : IsAudit inputs bytes answer
+  pub is : line ≡ audit_line answer
+
+-- Whatever the inputs of a run without idioms were: its document is right, with the number of linkages that it shows.
+abbrev pub DocumentsAreRight : Type 0
+DocumentsAreRight =
+    (contents : Contents) (words : List (List ℕ)) (setup : Setup) (dict : Dictionary) (know : Knowledge) (scripts : List (List CommandView)) (document : List ℕ)
+    → IsRunOf contents words setup dict know scripts → setup.listing.idioms ≡ false → IsOutcome setup dict know scripts document
+    → (shown : ℕ) × IsAudit (record { base = dict; know = know; scripts = scripts }) document (Yes shown)
