@@ -1,6 +1,7 @@
 -- What is kept of a listing, as its pages are shown.
 use Rattle.std.proofs.Common.{◌≡◌, ℕ, ◌↔◌, Bool, List, [], ◌∷◌, ◌++◌, Option, Some, None, Result, MatchOption, IfOk, IsTrue, option_copied, refl, ap, sym, subst, ◌∙◌}
 use Rattle.std.specs.Borrow.{Bor}
+use Rattle.std.specs.List.{last_or}
 use Rattle.std.specs.List.Sorted.{IsStrictlySortedBy}
 use Rattle.std.proofs.lemmas.Option.{none-some, same_Some}
 use Rattle.lg_gram.specs.Linkages.{Linkage, linkage_cmp}
@@ -10,14 +11,11 @@ use Rattle.lg_gram.specs.declared.reply.Place.{Place}
 use Rattle.lg_dict.specs.Dictionary.{Dictionary}
 use Rattle.lg_knowread.specs.declared.knowledge.Knowledge.{Knowledge}
 use Rattle.lg_script.specs.Bounds.{IsSentence}
-use Rattle.lg_gram.specs.declared.reply.CommandKind.TheVariants as kinds
 use Rattle.lg_script.specs.Commands.{CommandView, goes_on, asks}
 use Rattle.lg_token.specs.Bounds.{AreListed, IsBeyond, bound_of}
 use Rattle.lg_token.specs.Tokens.{AreTokens}
 use Rattle.lg_audit.specs.Answers.{reply_of}
-use Rattle.lg_audit.specs.Documents.{IsReplyInForm}
 use Rattle.lg_audit.specs.Lines.{ShownPage, ShownReply, listed, beyond, published, refused, at, nothing_held}
-use Rattle.lg_audit.specs.Pages.{last_of}
 use Rattle.lg_audit.specs.Replies.{Basis, Held, GoesOn, IsPageOf, ReplyHolds, tells, no_more, dictionary_at}
 use Rattle.lg_audit.specs.Views.{text_of}
 use Rattle.lg_audit.specs.Walks.{IsKept, IsGoing, IsJustPage, Follows, ComesTo, IsNext}
@@ -34,19 +32,12 @@ none_rise = tt
 
 -- ---- the last linkage
 
-last_push : {A : Type 0} (xs : List A) (x : A) → last_of (xs ++ x ∷ []) ≡ Some x
-last_push [] x = refl
-last_push (y ∷ []) x = refl
-last_push (y ∷ z ∷ xs) x = last_push (z ∷ xs) x
+last_append : {A : Type 0} (o : Option A) (xs ys : List A) → last_or o (xs ++ ys) ≡ last_or (last_or o xs) ys
+last_append o [] ys = refl
+last_append o (x ∷ xs) ys = last_append (Some x) xs ys
 
-append_one : {A : Type 0} (before xs : List A) (x : A) → last_of (before ++ (xs ++ x ∷ [])) ≡ Some x
-append_one [] xs x = last_push xs x
-append_one (y ∷ []) [] x = refl
-append_one (y ∷ []) (z ∷ xs) x = last_push (z ∷ xs) x
-append_one (y ∷ z ∷ before) xs x = append_one (z ∷ before) xs x
-
-pub last_pushed : {A : Type 0} (before all xs : List A) (x : A) → all ≡ xs ++ x ∷ [] → Some x ≡ last_of (before ++ all)
-last_pushed {A} before all xs x is = sym (ap (λ (ys : List A). last_of (before ++ ys)) is ∙ append_one before xs x)
+pub last_pushed : {A : Type 0} (before all xs : List A) (x : A) → all ≡ xs ++ x ∷ [] → Some x ≡ last_or None (before ++ all)
+last_pushed {A} before all xs x is = sym (ap (λ (ys : List A). last_or None (before ++ ys)) is ∙ last_append None before (xs ++ x ∷ []) ∙ last_append (last_or None before) xs (x ∷ []))
 
 -- ---- bounds
 
@@ -158,12 +149,3 @@ not_told basis p h version (replies.Published v) other then holds = means basis 
 not_told basis p h version (replies.Refused v cause) other then holds = means basis p h asks (refused v cause.now) then holds
 not_told basis p h version (replies.At v) other then holds = absurd (other v refl)
 not_told basis p h version replies.NothingHeld other then holds = means basis p h asks nothing_held then holds
-
--- the answers that `list` may have are those of `parse`
-pub list_form : (r : ShownReply) → IsReplyInForm kinds.List r → IsReplyInForm kinds.Parse r
-list_form (listed version stats page) form = form
-list_form (beyond version bound) form = form
-list_form (published version) form = absurd form
-list_form (refused version cause) form = absurd form
-list_form (at version) form = absurd form
-list_form nothing_held form = absurd form

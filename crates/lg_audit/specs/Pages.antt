@@ -23,17 +23,6 @@ use Rattle.lg_audit.specs.declared.shown.ShownEnd.{ShownEnd}
 use Rattle.lg_audit.specs.declared.shown.ShownSums.{ShownSums}
 use Rattle.lg_audit.specs.Replies.{shown_choice, shown_word, shown_linkage, number_of, linkages_on, IsNamed}
 
--- the last element, if there is one
-abbrev pub last_of : {A : Type 0} → List A → Option A
-last_of [] = None
-last_of (x ∷ []) = Some x
-last_of (x ∷ y ∷ xs) = last_of (y ∷ xs)
-
--- the last of these linkages, or none where there are none
-abbrev pub IsLastOf : List Linkage → Option (Bor Linkage) → Type 0
-IsLastOf before None = before ≡ []
-IsLastOf before (Some g) = (front : List Linkage) × (before ≡ front ++ g.now ∷ [])
-
 -- ---- what the positions use
 
 -- a disjunct of one of these words that is shown so

@@ -1,6 +1,7 @@
 -- What is kept on the way through the answers of a session.
 use Rattle.std.specs.Prelude.{◌≡◌, ◌⊎◌, ℕ, ◌^◌, ◌≤◌, ◌<◌, true, false, List, ◌++◌, length, map, take, All, Any, Option, Some, None}
 use Rattle.std.specs.Option.{option_map_or}
+use Rattle.std.specs.List.{last_or}
 use Rattle.std.specs.List.Sorted.{IsStrictlySortedBy}
 use Rattle.lg_gram.specs.Linkages.{Linkage, linkage_cmp}
 use Rattle.lg_gram.specs.declared.reply.Place.{Place}
@@ -13,7 +14,6 @@ use Rattle.lg_script.specs.Codes.{AreScripts}
 use Rattle.lg_script.specs.Commands.{CommandView, goes_on, is_edit, script_views}
 use Rattle.lg_script.specs.Histories.{numbered, command_at, AreInTime, IsPublishedAt, IsRefusedAt, Precedes, reply_version, fresh}
 use Rattle.lg_audit.specs.Lines.{ShownPage, ShownReply, published, refused, line}
-use Rattle.lg_audit.specs.Pages.{last_of}
 use Rattle.lg_audit.specs.Replies.{Basis, Held, Hold, ReplyHolds, IsPageOf, dictionary_at, outline}
 use Rattle.lg_audit.specs.Grounds.{IsDated}
 use Rattle.lg_audit.specs.Rising.{Rises, named_after, IsNamed}
@@ -31,7 +31,7 @@ pub record IsGoing (version : ℕ) (h : Held) (g : Going) : Type 0 where
   pub text : h.text ≡ g.text.now
   pub sentence : IsSentence h.text
   pub next : h.next ≡ g.next
-  pub last : g.last ≡ last_of h.shown
+  pub last : g.last ≡ last_or None h.shown
   pub rise : IsStrictlySortedBy linkage_cmp h.shown
 
 abbrev pub IsKept : ℕ → Option Held → Option Going → Type 0
@@ -50,7 +50,7 @@ pub record Follows (know : Knowledge) (dict : Dictionary) (text : List ℕ) (fro
   pub just : IsJustPage know dict text from before shown page
   pub text_is : g.text.now ≡ text
   pub next : g.next ≡ page.last.next
-  pub last : g.last ≡ last_of (before ++ shown)
+  pub last : g.last ≡ last_or None (before ++ shown)
 
 -- ---- one answer
 

@@ -10,11 +10,12 @@ mod narrow;
 mod rising;
 mod sides;
 
-ghost use Rattle.std.specs.Prelude.{◌≡◌, ◌<◌, ◌≤◌, ◌^◌, List, length, IfOk, IfSome, MatchOption};
+ghost use Rattle.std.specs.Prelude.{◌≡◌, ◌<◌, ◌≤◌, ◌^◌, List, length, option_copied, None, IfOk, IfSome, MatchOption};
+ghost use Rattle.std.specs.List.{last_or};
 ghost use Rattle.std.specs.List.Sorted.{IsStrictlySortedBy};
 ghost use Rattle.lg_gram.specs.Limits.{LINKAGE_POSITIONS};
 ghost use Rattle.lg_gram.specs.Linkages.{Linkage as Seen, linkage_cmp};
-ghost use Rattle.lg_audit.specs.Pages.{IsLastOf, HaveNamedWords, IsPageFor};
+ghost use Rattle.lg_audit.specs.Pages.{HaveNamedWords, IsPageFor};
 ghost use Rattle.lg_audit.specs.Replies.{IsPageOf};
 
 use crate::linkages::found::found_linkages;
@@ -47,7 +48,7 @@ pub(crate) fn page_linkages(
 ) -> Result<Option<Vec<Linkage>>, NoMemory>
     requires few { length know.now.rules < 2 ^ 32 }
     requires short { length text.now < 2 ^ 32 }
-    ensures exact { (before : List Seen) → IsStrictlySortedBy linkage_cmp before → IsLastOf before last.entry
+    ensures exact { (before : List Seen) → IsStrictlySortedBy linkage_cmp before → option_copied last.entry ≡ last_or None before
         → IfOk result (λ r. MatchOption r
         ((shown : List Seen) → IsPageOf know.now view.now text.now from before shown page.now → ⊥)
         (λ gs. IsPageOf know.now view.now text.now from before gs.items page.now)) }
@@ -77,7 +78,7 @@ fn linkages_for(
     requires few_rules { length know.now.rules < 2 ^ 32 }
     requires few { length tokens.now ≤ LINKAGE_POSITIONS }
     requires named { HaveNamedWords view.now tokens.now }
-    ensures exact { (before : List Seen) → IsStrictlySortedBy linkage_cmp before → IsLastOf before last.entry
+    ensures exact { (before : List Seen) → IsStrictlySortedBy linkage_cmp before → option_copied last.entry ≡ last_or None before
         → IfOk result (λ r. MatchOption r
         ((shown : List Seen) → IsPageFor know.now view.now tokens.now from before shown page.now → ⊥)
         (λ gs. IsPageFor know.now view.now tokens.now from before gs.items page.now)) }

@@ -1,6 +1,7 @@
 //! Answers to sentences.
 
 ghost use Rattle.std.specs.Prelude.{◌≡◌, ◌↔◌, ◌≤◌, ◌<◌, ◌^◌, ◌++◌, ℕ, List, [], length, Option, Some, None, IfOk, OnOk, IsTrue, MatchOption};
+ghost use Rattle.std.specs.List.{last_or};
 ghost use Rattle.std.specs.List.Sorted.{IsStrictlySortedBy};
 ghost use Rattle.lg_gram.specs.Linkages.{Linkage as SeenLinkage, linkage_cmp};
 ghost use Rattle.lg_gram.specs.declared.reply.CommandKind.TheVariants as kinds;
@@ -10,8 +11,7 @@ ghost use Rattle.lg_script.specs.Commands.{CommandView, goes_on};
 ghost use Rattle.lg_script.specs.Histories.{reply_version};
 ghost use Rattle.lg_token.specs.Bounds.{IsBeyond};
 ghost use Rattle.lg_audit.specs.Answers.{reply_of};
-ghost use Rattle.lg_audit.specs.Documents.{IsPageInForm, IsReplyInForm};
-ghost use Rattle.lg_audit.specs.Pages.{last_of};
+ghost use Rattle.lg_audit.specs.Documents.{IsReplyInForm};
 ghost use Rattle.lg_audit.specs.Lines.{listed, beyond};
 ghost use Rattle.lg_audit.specs.Replies.{Basis as SeenBasis, AsksFor, GoesOn, Held, IsPageOf, dictionary_at, outline};
 ghost use Rattle.lg_audit.specs.Grounds.{basis_in, IsUsable, IsDated};
@@ -52,7 +52,6 @@ pub(crate) fn opened<'a>(
     requires usable { IsUsable (basis_in basis.now) }
     requires dated { IsDated (basis_in basis.now) dated.old }
     requires text { IsSentence text.now }
-    requires form { IsReplyInForm kinds.Parse (reply_of reply.now) }
     requires time { IsAhead dated.old.version (length (basis_in basis.now).journal) (reply_of reply.now) }
     ensures comes { (p : SeenPlace) (h : Option Held) (command : CommandView) → AsksFor command text.now first → IfOk result (ComesTo (basis_in basis.now) p h command (reply_of reply.now) dated.new.version) }
     ensures dated { OnOk result (IsDated (basis_in basis.now) dated.new) }
@@ -83,7 +82,6 @@ fn first_page<'a>(
     requires usable { IsUsable (basis_in basis.now) }
     requires dated { IsDated (basis_in basis.now) dated.now }
     requires text { IsSentence text.now }
-    requires form { IsPageInForm page.now }
     ensures { (p : SeenPlace) (h : Option Held) (command : CommandView) (stats : Option (List ℕ)) → AsksFor command text.now first
         → IfOk result (ComesTo (basis_in basis.now) p h command (listed dated.now.version stats page.now) dated.now.version) }
 {
@@ -206,8 +204,7 @@ fn going_on<'a>(
 ) -> Result<Option<Going<'a>>, NoMemory>
     requires few { length know.now.rules < 2 ^ 32 }
     requires text { IsSentence text.now }
-    requires form { IsPageInForm page.now }
-    ensures { (before : List SeenLinkage) → IsStrictlySortedBy linkage_cmp before → last ≡ last_of before → IfOk result (λ r. MatchOption r
+    ensures { (before : List SeenLinkage) → IsStrictlySortedBy linkage_cmp before → last ≡ last_or None before → IfOk result (λ r. MatchOption r
         ((shown : List SeenLinkage) → IsPageOf know.now view.now text.now from before shown page.now → ⊥)
         (Follows know.now view.now text.now from before page.now)) }
 {
@@ -224,7 +221,7 @@ fn going_on<'a>(
 
 // The linkage that was shown last, once these are shown too.
 fn last_shown(last: Option<Linkage>, shown: Vec<Linkage>) -> Option<Linkage>
-    ensures { (before : List SeenLinkage) → last ≡ last_of before → result ≡ last_of (before ++ shown.items) }
+    ensures { (before : List SeenLinkage) → last ≡ last_or None before → result ≡ last_or None (before ++ shown.items) }
 {
     let mut shown = shown;
     match shown.pop() {

@@ -1,9 +1,10 @@
 //! The order of the linkages of a page.
 
-ghost use Rattle.std.specs.Prelude.{◌≡◌, ◌↔◌, ◌++◌, List, Some, IsTrue};
+ghost use Rattle.std.specs.Prelude.{◌≡◌, ◌↔◌, ◌++◌, List, option_copied, None, Some, IsTrue};
+ghost use Rattle.std.specs.List.{last_or};
 ghost use Rattle.std.specs.List.Sorted.{IsStrictlySortedBy};
 ghost use Rattle.lg_gram.specs.Linkages.{Linkage as Seen, linkage_cmp};
-ghost use Rattle.lg_audit.specs.Pages.{IsLastOf, LiesBehind};
+ghost use Rattle.lg_audit.specs.Pages.{LiesBehind};
 
 use lg_gram::Linkage;
 use lg_gram::law::linkages_are_ordered;
@@ -11,7 +12,7 @@ use std::cmp::Ordering;
 
 /// Whether these linkages go on in their order behind those that end with the last one.
 pub(crate) fn go_on(last: Option<&Linkage>, shown: &[Linkage]) -> bool
-    ensures { (before : List Seen) → IsStrictlySortedBy linkage_cmp before → IsLastOf before last.entry
+    ensures { (before : List Seen) → IsStrictlySortedBy linkage_cmp before → option_copied last.entry ≡ last_or None before
         → (IsTrue result ↔ IsStrictlySortedBy linkage_cmp (before ++ shown.now)) }
 {
     linkages_are_ordered();
