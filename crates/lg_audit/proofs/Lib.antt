@@ -45,3 +45,5 @@ pub mod Goings
 pub mod Walking
 pub mod Tallies
 pub mod Audited
+pub mod ShownTexts
+pub mod ShownForms

@@ -14,3 +14,4 @@ pub mod Tests
 pub mod Walks
 pub mod Audits
 pub mod Printed
+pub mod ShownAnswers

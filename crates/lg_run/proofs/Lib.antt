@@ -20,7 +20,7 @@ pub mod Printed
 pub mod Turned
 pub mod JournalFront
 pub mod Shown
-pub mod ShownAnswers
+pub mod DocumentLines
 pub mod Numbers
 pub mod MadeAnswers
 pub mod MadeText
