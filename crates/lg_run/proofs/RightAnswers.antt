@@ -34,7 +34,7 @@ use Rattle.lg_run.proofs.EditSums.{next_left, next_there}
 use Rattle.lg_run.proofs.OnePage.{one_problem}
 use Rattle.lg_run.proofs.RightPages.{passing, HasGone, none_gone, length_is, next_count, gone_on, page_right, place_there}
 use Rattle.lg_run.proofs.RightVersions.{in_time_so_far, has_published_too, journal_edits, numbered_map, some_numbered}
-use Rattle.lg_run.proofs.ShownAnswers.{Unread, shown_item, shown_page, shown_reply, shown_document}
+use Rattle.lg_audit.specs.ShownAnswers.{Unread, shown_item, shown_page, shown_reply, shown_document}
 
 -- ---- the journal
 

@@ -38,7 +38,7 @@ use Rattle.lg_answer.proofs.Places.{place_of, at_place, all_places}
 use Rattle.lg_audit.specs.Lines.{ShownItem, passes, fails, ShownPage}
 use Rattle.lg_audit.specs.Replies.{shown_linkage, number_of, linkages_of, IsNamed, Begins, with_some, behind_all, IsPageOf}
 use Rattle.lg_run.proofs.OnePage.{some_at, no_longer, one_place, long, item_at}
-use Rattle.lg_run.proofs.ShownAnswers.{Unread, shown_item, shown_page}
+use Rattle.lg_audit.specs.ShownAnswers.{Unread, shown_item, shown_page}
 
 -- ---- the candidates that pass
 
@@ -117,7 +117,7 @@ module _ (unread : Unread) (tokens : List Token) where
   numbers_from n (item ∷ items) (g ∷ gs) e =
       let first : ◌≡◌ {A = ℕ × Linkage} (item.number, item.linkage) (n, g) = cc in
       let others : map (λ (x : PageItem). (x.number, x.linkage)) items ≡ enumerate_from (n + 1) gs = cc in
-      let here : number_of (item_of item) ≡ n = number_by item.number item.broken (passes item.number (shown_linkage tokens item.linkage) (unread.behind tokens item)) refl ∙ ap (λ (x : ℕ × Linkage). x.0) first in
+      let here : number_of (item_of item) ≡ n = number_by item.number item.broken (passes item.number (shown_linkage tokens item.linkage) (unread.behind tokens item.linkage)) refl ∙ ap (λ (x : ℕ × Linkage). x.0) first in
       let rest = numbers_from (n + 1) items gs others in
       λ i. here i ∷ rest i
 
@@ -128,7 +128,7 @@ module _ (unread : Unread) (tokens : List Token) where
 
   linkages_are : (items : List PageItem) → flat_map linkages_of (map item_of items) ≡ map (shown_linkage tokens) (passing items)
   linkages_are [] = refl
-  linkages_are (item ∷ items) = linkages_by item.broken item.number item.linkage (unread.behind tokens item) (passing items) (map item_of items) (linkages_are items)
+  linkages_are (item ∷ items) = linkages_by item.broken item.number item.linkage (unread.behind tokens item.linkage) (passing items) (map item_of items) (linkages_are items)
 
 -- ---- rules that are broken
 
@@ -304,7 +304,7 @@ module _ (positions : List (List Disjunct)) (know : Knowledge) (nulls : Nulls) (
         begins = begins;
         counted = passing_count page.items;
         named = All-map (IsNamed know tokens) (shown_item unread tokens) page.items (all_places _ page.items (λ i item at.
-            named_by know tokens item.number item.linkage item.broken (unread.behind tokens item) (All-contains (λ x. IsLinkageFor tokens x.linkage) page.items item printable (at_place page.items item (i, at))) (item_is i item at).2));
+            named_by know tokens item.number item.linkage item.broken (unread.behind tokens item.linkage) (All-contains (λ x. IsLinkageFor tokens x.linkage) page.items item printable (at_place page.items item (i, at))) (item_is i item at).2));
         are = linkages_are unread tokens page.items;
         good = all_passing (Good positions) page.items item_good;
         pass = all_passing (λ g. Judges know g None) page.items item_passes;

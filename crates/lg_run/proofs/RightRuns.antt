@@ -16,7 +16,7 @@ use Rattle.lg_run.specs.Shown.{IsRunOf}
 use Rattle.lg_run.specs.Words.{Run, TaskIs, run, OptionsAre, Known, GivesNumber, value_of}
 use Rattle.lg_run.specs.declared.setup.Setup.{Setup}
 use Rattle.lg_run.proofs.RightAnswers.{journal_holds, answers_hold}
-use Rattle.lg_run.proofs.ShownAnswers.{Unread, shown_document}
+use Rattle.lg_audit.specs.ShownAnswers.{Unread, shown_document}
 use Rattle.lg_run.proofs.ShownInputs.{KeepBounds, scripts_in_bounds}
 
 -- a number that an option gives is not 0

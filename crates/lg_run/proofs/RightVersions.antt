@@ -16,7 +16,7 @@ use Rattle.lg_script.specs.Histories.{numbered, command_in, command_at, AreInTim
 use Rattle.lg_session.specs.Legal.{Run, Holding, AnswerIs, published, refused, version, listed, beyond, more, no_more, Answered, so_far, next, IsLegal}
 use Rattle.lg_audit.specs.Replies.{outline}
 use Rattle.lg_run.proofs.OnePage.{enumerated_at, some_at}
-use Rattle.lg_run.proofs.ShownAnswers.{Unread, shown_reply}
+use Rattle.lg_audit.specs.ShownAnswers.{Unread, shown_reply}
 
 pub numbered_map : {A B : Type 0} (f : A → B) (xs : List A) (n : ℕ) → numbered (map f xs) n ≡ option_map f (numbered xs n)
 numbered_map f xs zero = refl
