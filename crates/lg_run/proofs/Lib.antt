@@ -37,3 +37,7 @@ pub mod PlainAnswers
 pub mod ShownInputs
 pub mod DocumentsTell
 pub mod Joints
+pub mod RightPages
+pub mod RightVersions
+pub mod RightAnswers
+pub mod RightRuns
