@@ -21,7 +21,7 @@ use Rattle.lg_gram.specs.declared.listing.Violation.{Violation}
 use Rattle.lg_gram.proofs.Orders.{linkages_total}
 use Rattle.lg_dict.specs.Dictionary.{Dictionary}
 use Rattle.lg_knowread.specs.declared.knowledge.Knowledge.{Knowledge}
-use Rattle.lg_knowread.specs.declared.knowledge.Rule.{Forbid, Demand, Bounded, Cycle}
+use Rattle.lg_knowread.specs.declared.knowledge.Rule.{Rule}
 use Rattle.lg_knowread.specs.declared.knowledge.Rule.TheVariants.{Forbid, Demand, Bounded, Cycle}
 use Rattle.lg_pp.specs.Breaks.{FailsAt, IsBroken, Judges}
 use Rattle.lg_pp.proofs.Good.{ends_within}
