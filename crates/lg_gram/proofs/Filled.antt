@@ -1,5 +1,5 @@
 -- Expressions with their macros put in, member by member.
-use Rattle.std.proofs.Common.{◌≡◌, ℕ, suc, zero, ◌+◌, ◌*◌, ◌<◌, ◌≤◌, min, max, Bool, not, cond, List, [], ◌∷◌, ◌++◌, map, length, get_or, drop, refl, sym, ap, ◌∙◌, subst, arith, drop-cons, add-one, Some, length-append}
+use Rattle.std.proofs.Common.{◌≡◌, ℕ, suc, zero, ◌+◌, ◌*◌, ◌<◌, ◌≤◌, min, max, Bool, true, false, not, cond, List, [], ◌∷◌, ◌++◌, map, length, get_or, drop, refl, sym, ap, ◌∙◌, subst, arith, drop-cons, add-one, Some, length-append}
 use Rattle.std.specs.List.{prefix_len, position, position_or_len, slice_get}
 use Rattle.std.specs.Option.{option_map}
 use Rattle.std.specs.ControlFlow.{break_value}
@@ -9,10 +9,13 @@ use Rattle.std.proofs.lemmas.Bool.Decides.{nat_tests}
 use Rattle.std.proofs.lemmas.List.{length-map}
 use Rattle.std.proofs.lemmas.List.Folds.{prefix_len-append}
 use Rattle.lg_gram.specs.declared.entry.RawExpr.{RawExpr}
-use Rattle.lg_gram.specs.Trees.{tree, trees_of}
-use Rattle.lg_gram.specs.Limits.{REFERENCES_COUNTED}
+use Rattle.lg_gram.specs.Trees.{Tree, tree, trees_of}
+use Rattle.lg_gram.specs.Limits.{REFERENCES_COUNTED, COUNTED, SIDE_COUNTED}
+use Rattle.lg_gram.specs.Formulas.{IsFormula}
 use Rattle.lg_gram.specs.RawTrees.{raw_tree_of, raw_trees_in, macros_of, macros_in}
-use Rattle.lg_gram.specs.Measures.{choice_count, product_in}
+use Rattle.lg_gram.specs.Measures.{choice_count, node_count, product_in, side_count}
+use Rattle.lg_gram.specs.Measured.{HasSizes}
+use Rattle.lg_gram.specs.declared.sizes.Sizes.{Sizes}
 use Rattle.lg_gram.specs.Filled.{Formulas, filled, filled_in, is_unknown, FirstUnknown, highest}
 
 pub filled_product-drop : (formulas : Formulas) (es : List RawExpr) (i : ℕ) (d : RawExpr) → i < length es →
