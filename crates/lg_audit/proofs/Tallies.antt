@@ -1,5 +1,5 @@
 -- A document has a line for each linkage that it shows.
-use Rattle.std.proofs.Common.{◌≡◌, ℕ, suc, ◌+◌, ◌≤◌, List, [], ◌∷◌, ◌++◌, length, map, drop, get_or, codes, decimal, ◌<◌, ap, sym, arith, length-append}
+use Rattle.std.proofs.Common.{◌≡◌, ℕ, suc, ◌+◌, ◌≤◌, List, [], ◌∷◌, ◌++◌, length, map, drop, get_or, codes, decimal, ◌<◌, ap, sym, ◌∙◌, arith, length-append}
 use Rattle.std.specs.List.{flat_map, sum_by, enumerate_from}
 use Rattle.std.proofs.lemmas.List.Sums.{sum_by-cons}
 use Rattle.lg_gram.specs.declared.reply.Place.{Place}
