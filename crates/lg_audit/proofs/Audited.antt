@@ -8,7 +8,7 @@ use Rattle.lg_gram.specs.declared.reply.Place.{Place}
 use Rattle.lg_script.specs.Codes.{AreScripts}
 use Rattle.lg_script.specs.Commands.{CommandView, command_view, script_views}
 use Rattle.lg_script.specs.declared.command.Command.{Command}
-use Rattle.lg_script.specs.Histories.{numbered, command_in, command_at}
+use Rattle.lg_script.specs.Histories.{numbered, command_in}
 use Rattle.lg_audit.specs.Lines.{ShownReply}
 use Rattle.lg_audit.specs.Documents.{ShownDocument, Shows, AreRepliesInForm}
 use Rattle.lg_audit.specs.Fronts.{AreFormed}

@@ -11,21 +11,19 @@ use Rattle.lg_gram.specs.declared.disjunct.Disjunct.{Disjunct}
 use Rattle.lg_gram.specs.declared.listing.Bound.{Bound}
 use Rattle.lg_gram.specs.declared.listing.Token.{Token}
 use Rattle.lg_gram.specs.declared.reply.Place.{Place}
-use Rattle.lg_gram.specs.declared.reply.Reply.{Reply}
 use Rattle.lg_edit.specs.Edits.{EditView}
 use Rattle.lg_pp.specs.Breaks.{Judges}
 use Rattle.lg_token.specs.Bounds.{AreListed}
 use Rattle.lg_token.specs.Problems.{IsProblemOf}
-use Rattle.lg_script.specs.Commands.{CommandView, parses, lists, goes_on, makes, asks}
+use Rattle.lg_script.specs.Commands.{CommandView, makes}
 use Rattle.lg_script.specs.Histories.{numbered, AreInTime}
-use Rattle.lg_audit.specs.Lines.{ShownLinkage, ShownPage, ShownReply, listed, beyond, published, refused, at, nothing_held}
-use Rattle.lg_audit.specs.Documents.{ShownDocument}
+use Rattle.lg_audit.specs.Lines.{ShownLinkage, ShownPage, ShownReply, listed, beyond}
 use Rattle.lg_audit.specs.Replies.{Basis, Held, Hold, none_yet, one_more, AsksFor, parse, list, IsPageOf, ReplyHolds, edited, not_edited, tells, lists_page, past_bound, more, no_more, dictionary_at, outline, shown_linkage, linkages_on}
 use Rattle.lg_audit.specs.Tests.{EditHolds}
 use Rattle.lg_audit.specs.Walks.{HoldSome}
-use Rattle.lg_audit.specs.Audits.{Inputs, basis_of, Holds, IsPlaceOf}
+use Rattle.lg_audit.specs.Audits.{basis_of}
 use Rattle.lg_audit.specs.Sound.{IsRightLinkage, ShownListing, IsRightListing, pages_on, listings_of, pages_in, pages_at, IsRightSession, AuditsAreSound}
-use Rattle.lg_audit.proofs.Audited.{holds_there, all_there}
+use Rattle.lg_audit.proofs.Audited.{all_there}
 use Rattle.lg_audit.proofs.Comings.{first_held, next_held, means}
 use Rattle.lg_audit.proofs.Goings.{IsOneList}
 

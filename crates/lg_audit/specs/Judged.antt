@@ -1,5 +1,5 @@
 -- What comes of a document that was read.
-use Rattle.std.specs.Prelude.{◌≡◌, ◌<◌, List, length, map}
+use Rattle.std.specs.Prelude.{◌≡◌, List, length, map}
 use Rattle.std.specs.List.{sum_by}
 use Rattle.lg_script.specs.Histories.{HasPublished}
 use Rattle.lg_audit.specs.Lines.{ShownReply}

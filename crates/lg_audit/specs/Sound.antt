@@ -12,9 +12,9 @@ use Rattle.lg_knowread.specs.declared.knowledge.Knowledge.{Knowledge}
 use Rattle.lg_pp.specs.Breaks.{Judges}
 use Rattle.lg_token.specs.Bounds.{AreListed}
 use Rattle.lg_token.specs.Problems.{IsProblemOf}
-use Rattle.lg_script.specs.Commands.{CommandView, parses, lists, goes_on, makes, asks}
+use Rattle.lg_script.specs.Commands.{CommandView, parses, lists, goes_on, makes}
 use Rattle.lg_script.specs.Histories.{numbered, AreInTime}
-use Rattle.lg_audit.specs.Lines.{ShownPage, ShownReply, listed, beyond, published, refused, at, nothing_held}
+use Rattle.lg_audit.specs.Lines.{ShownPage, ShownReply, listed}
 use Rattle.lg_audit.specs.Documents.{ShownDocument, Shows}
 use Rattle.lg_audit.specs.Replies.{Basis, dictionary_at, outline, shown_linkage, linkages_on}
 use Rattle.lg_audit.specs.Tests.{EditHolds}
