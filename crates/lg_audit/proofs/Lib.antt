@@ -45,3 +45,4 @@ pub mod Goings
 pub mod Walking
 pub mod Tallies
 pub mod Audited
+pub mod Sound
