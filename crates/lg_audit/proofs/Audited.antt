@@ -1,21 +1,28 @@
 -- What the answers of all sessions say of a document.
-use Rattle.std.proofs.Common.{◌≡◌, ◌⊎◌, inl, inr, ℕ, zero, suc, ◌+◌, ◌^◌, ◌≤◌, ◌<◌, true, List, [], ◌∷◌, length, get_or, slice_get, All, Option, Some, None, is_some, refl, ap, sym, subst, ◌∙◌, arith}
+use Rattle.std.proofs.Common.{◌≡◌, ◌⊎◌, inl, inr, ℕ, zero, suc, ◌+◌, ◌^◌, ◌≤◌, ◌<◌, true, List, [], ◌∷◌, length, map, get_or, slice_get, All, Option, Some, None, is_some, refl, ap, sym, subst, ◌∙◌, arith, add-one}
+use Rattle.std.specs.declared.vec.Vec.{Vec}
 use Rattle.std.proofs.lemmas.Bool.{false≢true}
+use Rattle.std.proofs.lemmas.List.{length-map}
 use Rattle.std.proofs.lemmas.Option.{none-some, same_Some, slice_get-get_or}
 use Rattle.lg_gram.specs.declared.reply.Place.{Place}
 use Rattle.lg_script.specs.Codes.{AreScripts}
-use Rattle.lg_script.specs.Commands.{CommandView}
-use Rattle.lg_script.specs.Histories.{numbered, command_in, command_at}
+use Rattle.lg_script.specs.Commands.{CommandView, command_view, script_views}
+use Rattle.lg_script.specs.declared.command.Command.{Command}
+use Rattle.lg_script.specs.Histories.{numbered, command_in}
 use Rattle.lg_audit.specs.Lines.{ShownReply}
-use Rattle.lg_audit.specs.Documents.{ShownDocument, AreRepliesInForm}
+use Rattle.lg_audit.specs.Documents.{ShownDocument, Shows, AreRepliesInForm}
 use Rattle.lg_audit.specs.Fronts.{AreFormed}
-use Rattle.lg_audit.specs.Answers.{AreRepliesTo, IsReplyTo}
-use Rattle.lg_audit.specs.Audits.{Inputs, basis_of, Holds, IsPlaceOf, IsBefore}
-use Rattle.lg_audit.specs.Replies.{Basis, Hold}
+use Rattle.lg_audit.specs.Answers.{AreRepliesTo, IsReplyTo, reply_of, replies_of}
+use Rattle.lg_audit.specs.Audits.{Inputs, basis_of, JournalHolds, Holds, IsPlaceOf, IsBefore, IsAudit}
+use Rattle.lg_audit.specs.Judged.{HasJournal, IsJudged}
+use Rattle.lg_audit.specs.declared.answer.AuditAnswer.{AuditAnswer}
+use Rattle.lg_audit.specs.declared.answer.AuditAnswer.TheVariants.{Yes, Shape, Journal, Reply as Wrong}
+use Rattle.lg_audit.specs.Replies.{Basis, Hold, none_yet}
 use Rattle.lg_audit.specs.Walks.{HoldSome, AllHold, IsFirstWrong, IsFirstPlace}
+use Rattle.lg_audit.specs.declared.shown.ShownReply.{ShownReply as Reply}
 use Rattle.lg_audit.proofs.Held.{earlier}
 use Rattle.lg_audit.proofs.Sharing.{within_number, some_at, some_beside}
-use Rattle.lg_audit.proofs.Walking.{few_commands}
+use Rattle.lg_audit.proofs.Walking.{few_commands, number_at, formed_lengths, formed_at}
 
 -- ---- the form of all answers
 
@@ -57,6 +64,25 @@ module _ (inputs : Inputs) (d : ShownDocument) where
       → HoldSome (basis_of inputs d) p.session commands rs p.command → Holds inputs d p
   holds_at p commands rs a b some = (some.0, record { commands = commands; replies = rs; script = a; answers = b; hold = some.1 })
 
+  pub holds_there : (p : Place) (commands : List CommandView) (rs : List ShownReply) → numbered inputs.scripts p.session ≡ Some commands → numbered d.replies p.session ≡ Some rs
+      → Holds inputs d p → HoldSome (basis_of inputs d) p.session commands rs p.command
+  holds_there p commands rs a b (held, h) =
+      let same_commands = same_Some h.commands commands (sym h.script ∙ a) in
+      let same_replies = same_Some h.replies rs (sym h.answers ∙ b) in (
+        held,
+        subst (λ (cs : List CommandView). Hold (basis_of inputs d) p.session cs rs p.command held) same_commands
+            (subst (λ (qs : List ShownReply). Hold (basis_of inputs d) p.session h.commands qs p.command held) same_replies h.hold),
+      )
+
+  -- where each place holds, all answers of a session do
+  pub all_there : ((p : Place) → IsPlaceOf inputs p → Holds inputs d p) → (session : ℕ) (commands : List CommandView) (rs : List ShownReply)
+      → numbered inputs.scripts session ≡ Some commands → numbered d.replies session ≡ Some rs → HoldSome (basis_of inputs d) session commands rs (length commands)
+  all_there all session [] rs a b = (None, none_yet)
+  all_there all session (c ∷ commands) rs a b =
+      let last : Place = record { session = session; command = length (c ∷ commands) } in
+      holds_there last (c ∷ commands) rs a b
+      (all last (ap is_some (ap (λ (o : Option (List CommandView)). command_in o (length (c ∷ commands))) a) ∙ some_at (c ∷ commands) (length commands) (omega arith)))
+
   module _ (same : length d.replies ≡ length inputs.scripts) where
     -- where all commands of the session hold
     placed : (p : Place) → IsPlaceOf inputs p
@@ -87,15 +113,7 @@ module _ (inputs : Inputs) (d : ShownDocument) where
           some_number xs (suc n) least most = some_at xs n (omega (arith, most))
 
       pub first_fails : Holds inputs d p → ⊥
-      first_fails holds =
-          let h = holds.1 in
-          let commands = same_Some h.commands first.commands (sym h.script ∙ first.script) in
-          let rs = same_Some h.replies first.rs (sym h.answers ∙ first.answers) in
-          first.first.wrong (
-            holds.0,
-            subst (λ (cs : List CommandView). Hold (basis_of inputs d) p.session cs first.rs p.command holds.0) commands
-                (subst (λ (qs : List ShownReply). Hold (basis_of inputs d) p.session h.commands qs p.command holds.0) rs h.hold),
-          )
+      first_fails holds = first.first.wrong (holds_there p first.commands first.rs first.script first.answers holds)
 
       pub before_hold : (q : Place) → IsPlaceOf inputs q → IsBefore q p → Holds inputs d q
       before_hold q stands (inl lower) = placed q stands (λ commands rs a b. first.before q.session commands rs lower a b)
@@ -137,3 +155,42 @@ module _ (basis : Basis) (replies : List (List ShownReply)) where
       before = λ session cs others lower a b. all session cs others (omega (arith, lower)) a b;
       first = first;
     }
+
+-- ---- the scripts and the answers, as the program holds them
+
+pub formed_number : {C X : Type 0} (Form : C → X → Type 0) (cs : List C) (xs : List X) (n : ℕ) (c : C) (x : X) → AreFormed Form cs xs → numbered cs (n + 1) ≡ Some c → numbered xs (n + 1) ≡ Some x → Form c x
+formed_number Form cs xs n c x form a b = formed_at Form cs xs n c x form ((λ i. numbered cs (sym (add-one n) i)) ∙ a) ((λ i. numbered xs (sym (add-one n) i)) ∙ b)
+
+pub script_there : (scripts given : List (List Command)) (i : ℕ) (x commands : List Command) → given ≡ scripts → i < length given → x ≡ get_or given i x → commands ≡ x → numbered (script_views scripts) (i + 1) ≡ Some (map command_view commands)
+script_there scripts given i x commands same lt is so =
+    ap (λ (s : List (List Command)). numbered (script_views s) (i + 1)) (sym same) ∙ number_at (map command_view) given i x lt is ∙ ap (λ (cs : List Command). Some (map command_view cs)) (sym so)
+
+module _ {A : Type 0} (replies : List (Vec Reply A)) where
+  pub answers_there : (i : ℕ) (rs : Vec Reply A) (answers : List Reply) → i < length replies → rs ≡ get_or replies i rs → answers ≡ rs.items → numbered (replies_of replies) (i + 1) ≡ Some (map reply_of answers)
+  answers_there i rs answers lt is so = number_at (λ (v : Vec Reply A). map reply_of v.items) replies i rs lt is ∙ ap (λ (qs : List Reply). Some (map reply_of qs)) (sym so)
+
+  -- there are as many lists of answers as scripts
+  pub as_many : (scripts : List (List Command)) → AreFormed AreRepliesTo (script_views scripts) (replies_of replies) → length replies ≡ length scripts
+  as_many scripts form =
+      sym (length-map replies (λ (v : Vec Reply A). map reply_of v.items)) ∙ formed_lengths AreRepliesTo (script_views scripts) (replies_of replies) form ∙ length-map scripts (map command_view)
+
+-- ---- what comes of a document
+
+module _ (inputs : Inputs) (bytes : List ℕ) (d : ShownDocument) (shows : Shows inputs.scripts bytes d) where
+  journal_is : HasJournal (basis_of inputs d) d.replies → JournalHolds inputs d
+  journal_is has = record { edits = has.0; published = has.1 }
+
+  audit_is : (answer : AuditAnswer) → IsJudged (basis_of inputs d) d.replies answer → IsAudit inputs bytes answer
+  audit_is (Yes shown) (has, all, count) = (d, shows, journal_is has, all_hold inputs d shows.replies.sessions (length d.replies) refl all, count)
+  audit_is Shape never = absurd never
+  audit_is Journal none = (d, shows, λ holds. none (holds.edits, holds.published))
+  audit_is (Wrong p) (has, first) =
+      let same = shows.replies.sessions in
+      (d, shows, journal_is has, first_stands inputs d same p first, first_fails inputs d same p first, before_hold inputs d same p first)
+
+  pub audit_by : (journal : List Place) (replies : List (List ShownReply)) → journal ≡ d.journal → replies ≡ d.replies → (answer : AuditAnswer)
+      → IsJudged (record { base = inputs.base; know = inputs.know; scripts = inputs.scripts; journal = journal }) replies answer → IsAudit inputs bytes answer
+  audit_by journal replies same_journal same_replies answer judged =
+      audit_is answer
+      (subst (λ (rs : List (List ShownReply)). IsJudged (basis_of inputs d) rs answer) same_replies
+      (subst (λ (ps : List Place). IsJudged (record { base = inputs.base; know = inputs.know; scripts = inputs.scripts; journal = ps }) replies answer) same_journal judged))

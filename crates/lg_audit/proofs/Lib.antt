@@ -45,5 +45,6 @@ pub mod Goings
 pub mod Walking
 pub mod Tallies
 pub mod Audited
+pub mod Sound
 pub mod ShownTexts
 pub mod ShownForms

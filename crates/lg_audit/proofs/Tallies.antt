@@ -1,16 +1,15 @@
 -- A document has a line for each linkage that it shows.
-use Rattle.std.proofs.Common.{◌≡◌, ℕ, suc, ◌+◌, ◌≤◌, List, [], ◌∷◌, ◌++◌, length, map, drop, get_or, codes, decimal, ◌<◌, ap, sym, arith, length-append}
-use Rattle.std.specs.List.{flat_map, sum_by, enumerate_from}
+use Rattle.std.proofs.Common.{◌≡◌, ℕ, ◌+◌, ◌≤◌, List, [], ◌∷◌, ◌++◌, length, map, drop, get_or, ◌<◌, ap, ◌∙◌, arith, length-append}
+use Rattle.std.specs.List.{flat_map, sum_by}
 use Rattle.std.proofs.lemmas.List.Sums.{sum_by-cons}
-use Rattle.lg_gram.specs.declared.reply.Place.{Place}
 use Rattle.lg_text.specs.Shown.{closed}
 use Rattle.lg_script.specs.Commands.{CommandView}
-use Rattle.lg_audit.specs.Lines.{ShownItem, passes, fails, ShownPage, ShownReply, listed, beyond, published, refused, at, nothing_held, page_line, word_line, link_line}
+use Rattle.lg_audit.specs.Lines.{ShownItem, passes, fails, ShownReply, listed, beyond, published, refused, at, nothing_held, page_line, word_line, link_line}
 use Rattle.lg_audit.specs.Documents.{ShownDocument, Shows, item_lines, page_lines, unread_of, more_lines, reply_lines, session_lines, sessions_lines, journal_lines, document_lines}
 use Rattle.lg_audit.specs.Fronts.{AreFormed}
 use Rattle.lg_audit.specs.Answers.{AreRepliesTo, IsReplyTo}
 use Rattle.lg_audit.specs.Audits.{shown_by, shown_count}
-use Rattle.lg_audit.specs.Replies.{linkages_of, linkages_on}
+use Rattle.lg_audit.specs.Replies.{linkages_of}
 use Rattle.lg_audit.proofs.Chains.{split_at_place, none_left}
 use Rattle.lg_audit.proofs.Walking.{formed_lengths}
 

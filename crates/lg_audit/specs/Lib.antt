@@ -13,5 +13,7 @@ pub mod Shares
 pub mod Tests
 pub mod Walks
 pub mod Audits
+pub mod Judged
+pub mod Sound
 pub mod Printed
 pub mod ShownAnswers

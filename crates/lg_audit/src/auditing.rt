@@ -1,12 +1,15 @@
 //! The audit of a document.
 
 ghost use Rattle.std.specs.Prelude.{◌≡◌, ◌<◌, ◌^◌, length, IfOk, MatchOption};
+ghost use Rattle.std.specs.List.{sum_by};
 ghost use Rattle.lg_script.specs.Codes.{AreScripts};
 ghost use Rattle.lg_script.specs.Commands.{script_views};
 ghost use Rattle.lg_audit.specs.Answers.{AreRepliesTo, replies_of};
-ghost use Rattle.lg_audit.specs.Audits.{IsAudit};
+ghost use Rattle.lg_audit.specs.Audits.{IsAudit, shown_by};
+ghost use Rattle.lg_audit.specs.Documents.{AreRepliesInForm};
 ghost use Rattle.lg_audit.specs.Fronts.{AreFormed};
 ghost use Rattle.lg_audit.specs.Grounds.{basis_in, IsUsable};
+ghost use Rattle.lg_audit.specs.Judged.{IsJudged};
 ghost use Rattle.lg_audit.specs.Walks.{AllHold, IsFirstPlace};
 
 use crate::answer::AuditAnswer;
@@ -47,19 +50,33 @@ pub fn audit(
         journal,
         ..
     } = document;
-    if !journal_holds(alloc, scripts, journal.as_slice(), replies.as_slice())? {
-        return Ok(AuditAnswer::Journal);
-    }
     let basis = Basis {
         base,
         know,
         scripts,
         journal: journal.as_slice(),
     };
-    match first_wrong(alloc, &basis, replies.as_slice())? {
+    judged(alloc, &basis, replies.as_slice())
+}
+
+// What comes of the journal and of the answers.
+fn judged(
+    alloc: Global,
+    basis: &Basis,
+    replies: &[Vec<ShownReply>],
+) -> Result<AuditAnswer, NoMemory>
+    requires usable { IsUsable (basis_in basis.now) }
+    requires form { AreRepliesInForm (basis_in basis.now).scripts (replies_of replies.now) }
+    requires few { sum_by (sum_by shown_by) (replies_of replies.now) < 2 ^ 64 }
+    ensures { IfOk result (IsJudged (basis_in basis.now) (replies_of replies.now)) }
+{
+    if !journal_holds(alloc, basis.scripts, basis.journal, replies)? {
+        return Ok(AuditAnswer::Journal);
+    }
+    match first_wrong(alloc, basis, replies)? {
         Some(place) => Ok(AuditAnswer::Reply(place)),
         None => Ok(AuditAnswer::Yes {
-            shown: shown_in_all(replies.as_slice()),
+            shown: shown_in_all(replies),
         }),
     }
 }

@@ -10,6 +10,7 @@ mod document;
 mod edited;
 mod head;
 mod journal;
+mod law;
 mod lines;
 mod linkages;
 mod listed;
@@ -30,6 +31,7 @@ mod walk;
 pub use answer::AuditAnswer;
 pub use auditing::audit;
 pub use document::{Document, read_document};
+pub use law::{answers_are_shown, audits_are_sound};
 pub use shown::{
     ShownChoice, ShownEnd, ShownItem, ShownLink, ShownLinkage, ShownPage, ShownReply, ShownSums,
     ShownWord,

@@ -1,12 +1,13 @@
 //! How many linkages are shown.
 
-ghost use Rattle.std.specs.Prelude.{◌≡◌, ◌<◌, ◌^◌, length, map};
-ghost use Rattle.std.specs.List.{sum_by};
+ghost use Rattle.std.specs.Prelude.{◌≡◌, ◌<◌, ◌≤◌, ◌^◌, length, map};
+ghost use Rattle.std.specs.List.{flat_map, sum_by};
 ghost use Rattle.lg_audit.specs.Answers.{reply_of, replies_of};
 ghost use Rattle.lg_audit.specs.Audits.{shown_by};
-ghost use Rattle.lg_audit.specs.Replies.{linkages_on};
+ghost use Rattle.lg_audit.specs.Replies.{linkages_of};
+ghost use Rattle.lg_audit.specs.Views.{item_of};
 
-use crate::shown::{ShownItem, ShownPage, ShownReply};
+use crate::shown::{ShownItem, ShownReply};
 
 /// How many linkages the answers of all sessions show, fewer than 2^64.
 pub(crate) fn shown_in_all(replies: &[Vec<ShownReply>]) -> u64
@@ -37,20 +38,29 @@ fn shown_in_reply(reply: &ShownReply) -> u64
     ensures { result ≡ shown_by (reply_of reply.now) }
 {
     match reply {
-        ShownReply::Listed { page, .. } => shown_on(page),
+        ShownReply::Listed { page, .. } => shown_among(page.items.as_slice()),
         _ => 0,
     }
 }
 
-// How many linkages a page shows.
-fn shown_on(page: &ShownPage) -> u64
-    ensures { result ≡ length (linkages_on page.now) }
+// How many linkages candidates are shown as.
+fn shown_among(items: &[ShownItem]) -> u64
+    ensures { result ≡ length (flat_map linkages_of (map item_of items.now)) }
 {
     let mut count = 0;
-    for item in page.items.iter() {
-        if let ShownItem::Passes { .. } = item {
-            count += 1;
-        }
+    for item in items {
+        count += shown_as(item);
     }
     count
+}
+
+// How many linkages a candidate is shown as: one if it passes.
+fn shown_as(item: &ShownItem) -> u64
+    ensures count { result ≡ length (linkages_of (item_of item.now)) }
+    ensures most { result ≤ 1 }
+{
+    match item {
+        ShownItem::Passes { .. } => 1,
+        ShownItem::Fails { .. } => 0,
+    }
 }

@@ -22,8 +22,8 @@ mod top;
 mod usage;
 
 pub use law::{
-    answers_are_determined, dictionaries_are_plain, dictionaries_have_no_joints, documents_show,
-    exports_are_dictionaries, inputs_have_one_verdict, words_have_one_task,
+    answers_are_determined, dictionaries_are_plain, dictionaries_have_no_joints, documents_hold,
+    documents_show, exports_are_dictionaries, inputs_have_one_verdict, words_have_one_task,
 };
 pub use status::Status;
 pub use top::run;
