@@ -231,8 +231,14 @@ page_form look tokens page solid =
 -- ---- answers
 
 stats_unread : (asked : Bool) (stats : Option Stats) → AreUnread (codes "stats ") (unread_of (counted_if asked stats))
-stats_unread true (Some stats) = (((lacks_both 10 (codes "stats disjuncts ") (decimal stats.disjuncts ++ (codes " kept " ++ decimal stats.kept)) refl
-    (lacks_both 10 (decimal stats.disjuncts) (codes " kept " ++ decimal stats.kept) (number_plain stats.disjuncts) (lacks_both 10 (codes " kept ") (decimal stats.kept) refl (number_plain stats.kept)))), refl), tt)
+stats_unread true (Some stats) = (
+  (
+    (lacks_both 10 (codes "stats disjuncts ") (decimal stats.disjuncts ++ (codes " kept " ++ decimal stats.kept)) refl
+        (lacks_both 10 (decimal stats.disjuncts) (codes " kept " ++ decimal stats.kept) (number_plain stats.disjuncts) (lacks_both 10 (codes " kept ") (decimal stats.kept) refl (number_plain stats.kept)))),
+    refl,
+  ),
+  tt,
+)
 stats_unread true None = tt
 stats_unread false stats = tt
 

@@ -48,7 +48,7 @@ heights_are links columns zero = refl
 heights_are links columns (suc h) =
     ap (λ (rest : List ℕ). codes ">" ++ (link_line_at links columns (suc h) ++ 10 ∷ rest)) (heights_are links columns h)
     ∙ sym (append_assoc (codes ">" ++ link_line_at links columns (suc h)) (10 ∷ []) (flat_map closed (height_lines links columns h))
-           ∙ append_assoc (codes ">") (link_line_at links columns (suc h)) (10 ∷ flat_map closed (height_lines links columns h)))
+    ∙ append_assoc (codes ">") (link_line_at links columns (suc h)) (10 ∷ flat_map closed (height_lines links columns h)))
 
 last_line_is : (front text : List ℕ) → front ++ (text ++ 10 ∷ []) ≡ flat_map closed ((front ++ text) ∷ [])
 last_line_is front text = sym (append_assoc front text (10 ∷ [])) ∙ sym (closed_one (front ++ text))
@@ -98,10 +98,10 @@ module _ (look : Look) (tokens : List Token) where
       let lines = drawn_if look.diagram tokens g in
       append_assoc heading (words ++ links) drawn
       ∙ ap (λ (rest : List ℕ). heading ++ rest)
-          (append_assoc words links drawn
-           ∙ (λ i. words_are ws i ++ (links_are g g.links i ++ drawn_is look.diagram tokens g i))
-           ∙ ap (λ (rest : List ℕ). flat_map closed shown_words ++ rest) (sym (both_lines shown_links lines))
-           ∙ sym (both_lines shown_words (shown_links ++ lines)))
+      (append_assoc words links drawn
+      ∙ (λ i. words_are ws i ++ (links_are g g.links i ++ drawn_is look.diagram tokens g i))
+      ∙ ap (λ (rest : List ℕ). flat_map closed shown_words ++ rest) (sym (both_lines shown_links lines))
+      ∙ sym (both_lines shown_words (shown_links ++ lines)))
 
   item_is : (number : ℕ) (g : Linkage) (broken : Option Violation)
       → pages.item_text look tokens (record { number = number; linkage = g; broken = broken }) ≡ flat_map closed (item_lines (shown_item (unread_by look) tokens (record { number = number; linkage = g; broken = broken })))
@@ -142,7 +142,7 @@ pub reply_is : (look : Look) (place : Place) (kind : CommandKind) (r : Reply)
 reply_is look place kind (Listed version tokens page stats) =
     ap (λ (rest : List ℕ). closed (line (replies.version_pieces place kind version)) ++ rest)
     ((λ i. stats_is look.stats stats i ++ page_is look tokens page i)
-     ∙ sym (both_lines (unread_of (counted_if look.stats stats)) (page_lines (shown_page (unread_by look) tokens page))))
+    ∙ sym (both_lines (unread_of (counted_if look.stats stats)) (page_lines (shown_page (unread_by look) tokens page))))
 reply_is look place kind (Beyond version bound) = sym (closed_one (head_line place kind (beyond version bound)))
 reply_is look place kind (Published version) = sym (closed_one (head_line place kind (published version)))
 reply_is look place kind (Refused version cause name) = refused_is place kind version name cause

@@ -50,8 +50,8 @@ module _ (lines_are : AnswersHaveLines) (look : Look) where
       let front = line (codes "journal" ∷ decimal (length journal) ∷ []) in
       ap (λ (rest : List ℕ). closed front ++ rest)
       ((λ i. edits_are (enumerate_from 1 journal) i ++ (is i ++ sym (append-nil (closed (codes "done"))) i))
-       ∙ ap (λ (rest : List ℕ). flat_map closed edits ++ rest) (sym (both_lines usage (codes "done" ∷ [])))
-       ∙ sym (both_lines edits (usage ++ codes "done" ∷ [])))
+      ∙ ap (λ (rest : List ℕ). flat_map closed edits ++ rest) (sym (both_lines usage (codes "done" ∷ [])))
+      ∙ sym (both_lines edits (usage ++ codes "done" ∷ [])))
 
   pub document_is : (scripts : List (List CommandView)) (rows : List (List Reply)) (journal : List Place) (lines : List ℕ) (usage : List (List ℕ)) → lines ≡ flat_map closed usage
       → outcome_text look scripts rows journal lines ≡ flat_map closed (document_lines scripts (shown_document (unread_by look) rows journal usage))
