@@ -61,7 +61,7 @@ module _ (singles : ScriptsHaveSingleLines) (keeps : KeepBounds) (in_order : (di
 
 -- ---- lines of totals
 
-bare_line : List ℕ → List ℕ × ℕ → List ℕ
+abbrev bare_line : List ℕ → List ℕ × ℕ → List ℕ
 bare_line kind entry = codes "usage " ++ (kind ++ (32 ∷ (entry.0 ++ (32 ∷ decimal entry.1))))
 
 line_is : (kind : List ℕ) (entry : List ℕ × ℕ) → usage_line kind entry ≡ closed (bare_line kind entry)
