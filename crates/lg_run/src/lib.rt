@@ -1,6 +1,7 @@
 //! The top call: the words of the command line, the order of the work, and how a run ends.
 #![tactic(auto)]
 
+mod audit;
 mod command;
 mod export;
 mod inputs;
