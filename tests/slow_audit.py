@@ -421,7 +421,9 @@ class Held(NamedTuple):
     shown: list[Shown]
 
 
-def right_reply(know: Knowledge, versions: list[Dictionary], journal: list[Place], place: Place, held: Held | None, command: Command, reply: Reply) -> Held | None:
+def right_reply(
+    know: Knowledge, versions: list[Dictionary], journal: list[Place], place: Place, held: Held | None, command: Command, reply: Reply
+) -> Held | None:
     """What is held after the answer, if it is right. Else it raises ValueError."""
     version = reply.version or 0
     if command.kind in EDITS:
@@ -449,7 +451,9 @@ def right_reply(know: Knowledge, versions: list[Dictionary], journal: list[Place
     return Held(version, tokens, reply.page.next, shown)
 
 
-def first_wrong(know: Knowledge, versions: list[Dictionary], journal: list[Place], session: int, script: list[Command], replies: list[Reply]) -> int | None:
+def first_wrong(
+    know: Knowledge, versions: list[Dictionary], journal: list[Place], session: int, script: list[Command], replies: list[Reply]
+) -> int | None:
     held, named = None, 0
     for c, (command, reply) in enumerate(zip(script, replies), 1):
         version = reply.version or 0
