@@ -4,7 +4,7 @@ use lg_base::Text;
 use lg_gram::Entry;
 use std::hash::{BuildHasher, DefaultHasher, Hasher};
 
-/// SipHash that has read all names of a dictionary before.
+/// SipHash that has read the hash of all names of a dictionary before.
 ///
 /// A table looks at some twenty bits of a hash, so that words of equal bits could be searched for one by one if each word had a
 /// hash of its own. Here a hash depends on all names, and one other name gives each of them another hash; names that changes give
@@ -27,20 +27,23 @@ impl BuildHasher for Salted {
 impl Salted {
     /// By the words and macros of these entries. No memory.
     pub(crate) fn by(entries: &[Entry]) -> Salted {
-        let mut start = DefaultHasher::new();
+        let mut read = DefaultHasher::new();
         for entry in entries {
-            read_names(&mut start, entry.words.items());
-            read_names(&mut start, entry.macros.items());
+            read_names(&mut read, entry.words.items());
+            read_names(&mut read, entry.macros.items());
         }
+        // a hasher that has read one whole word goes on word by word, and one that has read names byte by byte
+        let mut start = DefaultHasher::new();
+        start.write_u64(read.finish());
         Salted { start }
     }
 }
 
 // Reads names, each with its length.
-fn read_names(start: &mut DefaultHasher, names: &[Text]) {
+fn read_names(read: &mut DefaultHasher, names: &[Text]) {
     for name in names {
         let bytes = name.bytes();
-        start.write_usize(bytes.len());
-        start.write(bytes);
+        read.write_usize(bytes.len());
+        read.write(bytes);
     }
 }

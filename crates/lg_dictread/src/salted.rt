@@ -2,7 +2,7 @@
 
 use std::hash::{BuildHasher, DefaultHasher, Hasher};
 
-/// SipHash that has read the text of a dictionary before.
+/// SipHash that has read the hash of a dictionary's text before.
 ///
 /// A table looks at some twenty bits of a hash, so that names of equal bits could be searched for one by one if each name had a
 /// hash of its own. Here a hash depends on the whole text, though not on its word files. A text's hashes are the same each time.
@@ -24,8 +24,11 @@ impl BuildHasher for Salted {
 impl Salted {
     /// By this text. No memory.
     pub(crate) fn by(text: &[u8]) -> Salted {
+        let mut read = DefaultHasher::new();
+        read.write(text);
+        // a hasher that has read one whole word goes on word by word
         let mut start = DefaultHasher::new();
-        start.write(text);
+        start.write_u64(read.finish());
         Salted { start }
     }
 }
