@@ -41,3 +41,6 @@ pub mod RightPages
 pub mod RightVersions
 pub mod RightAnswers
 pub mod RightRuns
+pub mod SolidAnswers
+pub mod UsageLines
+pub mod AuditedRuns
