@@ -41,3 +41,7 @@ pub mod RightPages
 pub mod RightVersions
 pub mod RightAnswers
 pub mod RightRuns
+pub mod RulesFew
+pub mod SolidTokens
+pub mod SolidDisjuncts
+pub mod SolidPages
