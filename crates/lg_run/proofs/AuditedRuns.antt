@@ -79,7 +79,7 @@ few_given : (contents : Contents) (setup : Setup) (dictionary knowledge : List �
 few_given contents setup dictionary knowledge files =
     followed_gives (DictionaryInput contents dictionary) (λ dict. KnowledgeGiven contents setup dict knowledge files) (λ dict. Unit {0}) GivesFewRules (any_gives (DictionaryInput contents dictionary))
     (λ dict none. followed_gives (KnowledgeInput contents knowledge) (λ know. ScriptsGiven contents setup dict know files) HasFewRules GivesFewRules
-        (followed_gives (FileIs contents knowledge) (KnowledgeReads knowledge) (λ bytes. length bytes ≤ FILE) HasFewRules (short_file contents knowledge) (λ bytes short. few_in_text knowledge bytes short))
+    (followed_gives (FileIs contents knowledge) (KnowledgeReads knowledge) (λ bytes. length bytes ≤ FILE) HasFewRules (short_file contents knowledge) (λ bytes short. few_in_text knowledge bytes short))
     (λ know few. followed_gives (Followed (ScriptsInput contents files) (EditsRead files)) (λ scripts. given (RunGiven setup dict know scripts)) (λ scripts. Unit {0}) GivesFewRules (any_gives (Followed (ScriptsInput contents files) (EditsRead files)))
     (λ scripts none. given_gives (RunGiven setup dict know scripts) GivesFewRules few)))
 
