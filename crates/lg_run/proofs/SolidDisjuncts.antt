@@ -1,16 +1,15 @@
 -- A disjunct of a word that can be exported has names without blanks, short lists and a cost within bounds.
-use Rattle.std.proofs.Common.{◌≡◌, ℕ, ◌≤◌, ℤ, pos, negsuc, neg_ℤ, ◌≤ℤ◌, int_le, Bool, true, false, eqb, List, [], ◌∷◌, ◌++◌, Option, Some, None, IfSome, Contains, refl, sym, ap, subst, ◌∙◌, arith, true≢false, ne_eqb, max, ◌&&◌}
+use Rattle.std.proofs.Common.{◌≡◌, ℕ, ◌≤◌, ℤ, pos, negsuc, neg_ℤ, ◌≤ℤ◌, int_le, Bool, true, false, eqb, List, [], ◌∷◌, IfSome, refl, sym, subst, ◌∙◌, arith, true≢false, ne_eqb, ◌&&◌}
 use lib.Dec.{T}
 use Rattle.std.specs.Prelude.{unsigned_abs}
-use Rattle.std.specs.List.{list_any, list_all, AllByRecursion}
+use Rattle.std.specs.List.{list_any, list_all}
 use Rattle.std.proofs.lemmas.Bool.{and_parts, or_from}
 use Rattle.std.proofs.lemmas.Int.{ints}
 use Rattle.std.proofs.lemmas.List.Elements.{All-contains}
-use Rattle.lg_base.specs.Costs.{IsWithinCosts}
 use Rattle.lg_gram.specs.Connectors.{Connector, name_of}
-use Rattle.lg_gram.specs.Disjuncts.{choice_of, IsDisjunctOf}
+use Rattle.lg_gram.specs.Disjuncts.{choice_of}
 use Rattle.lg_gram.specs.Formulas.{prices_are_small, prices_in_are_small, is_small_price}
-use Rattle.lg_gram.specs.Limits.{PRICE, SIDE}
+use Rattle.lg_gram.specs.Limits.{PRICE}
 use Rattle.lg_gram.specs.Measures.{choices_of, node_count, side_count}
 use Rattle.lg_gram.specs.Names.{is_capital, is_subscript}
 use Rattle.lg_gram.specs.Problems.{FitsProblem}

@@ -1,12 +1,11 @@
 -- The numbers and the texts of a page of a run without idioms are in form, if no text of it has a line feed.
-use Rattle.std.proofs.Common.{◌≡◌, ℕ, zero, suc, ◌+◌, ◌*◌, ◌^◌, ◌<◌, ◌≤◌, Bool, false, List, [], ◌∷◌, length, All, Option, Some, None, IfSome, slice_get, refl, ap, subst, arith, ℤ, pos, neg_ℤ, ◌≤ℤ◌}
+use Rattle.std.proofs.Common.{◌≡◌, ℕ, suc, ◌+◌, ◌*◌, ◌^◌, ◌<◌, ◌≤◌, Bool, false, List, [], ◌∷◌, length, Option, Some, None, IfSome, slice_get, refl, ap, subst, arith, pos, neg_ℤ, ◌≤ℤ◌}
 use Rattle.std.specs.List.{AllByRecursion}
 use Rattle.std.proofs.lemmas.Int.{ints}
 use Rattle.std.proofs.lemmas.List.Elements.{All-contains}
 use Rattle.std.proofs.lemmas.Option.{get_or_from_slice_get, slice_get_within}
-use Rattle.lg_base.specs.Costs.{IsWithinCosts}
 use Rattle.lg_gram.specs.Limits.{DISJUNCT_COST, POSITIONS}
-use Rattle.lg_gram.specs.Linkages.{Linkage, cost_of, cost_sum, total_cost}
+use Rattle.lg_gram.specs.Linkages.{Linkage, cost_of, cost_sum}
 use Rattle.lg_gram.specs.Problems.{IsDisjunctCost}
 use Rattle.lg_gram.specs.Rules.{Good}
 use Rattle.lg_gram.specs.declared.disjunct.Disjunct.{Disjunct}
@@ -28,7 +27,6 @@ use Rattle.lg_session.specs.Engines.{Progress}
 use Rattle.lg_text.specs.Shown.{IsOneLine, IsPlainDisjunct, IsPlainPage}
 use Rattle.lg_audit.specs.Lines.{IsRun, IsViolationInForm}
 use Rattle.lg_audit.specs.Pages.{MayFit}
-use Rattle.lg_audit.specs.Pieces.{HasNoBlank}
 use Rattle.lg_audit.specs.ShownAnswers.{IsSolidDisjunct, IsSolidLinkage, IsSolidItem, IsSolidPage}
 use Rattle.lg_audit.proofs.Alone.{good_linkage}
 use Rattle.lg_run.specs.Documents.{wanted, IsShown}

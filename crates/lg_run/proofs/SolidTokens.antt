@@ -1,5 +1,5 @@
 -- No token of a sentence has a blank, and a sentence has no more tokens than bytes and two walls.
-use Rattle.std.proofs.Common.{◌≡◌, ◌≢◌, ℕ, zero, suc, ◌+◌, ◌≤◌, Bool, true, false, eqb, List, [], ◌∷◌, ◌++◌, map, length, codes, refl, sym, ap, subst, ◌∙◌, arith, length-append, true≢false, ne_eqb, eq-eqb}
+use Rattle.std.proofs.Common.{◌≡◌, ◌≢◌, ℕ, suc, ◌+◌, ◌≤◌, Bool, true, false, eqb, List, [], ◌∷◌, ◌++◌, length, codes, refl, sym, ap, subst, ◌∙◌, arith, length-append, true≢false, ne_eqb, eq-eqb}
 use Rattle.std.specs.List.{list_any, AllByRecursion}
 use Rattle.std.specs.Prelude.{◌==◌}
 use Rattle.std.proofs.lemmas.Bool.{or_parts, or_from}
@@ -11,7 +11,7 @@ use Rattle.lg_lex.specs.Runs.{AreInner, AreRuns}
 use Rattle.lg_lex.specs.declared.run.Separators.TheVariants.{Blanks}
 use Rattle.lg_expr.proofs.AllOf.{all_append}
 use Rattle.lg_token.specs.Cuts.{possessive, Pieces, IsCut, known, closing, opening, owner, unknown}
-use Rattle.lg_token.specs.Tokens.{cut_off, pieces_of, IsToken, AreOfPieces, AreOfChunk, AreOfChunks, IsWall, stands, absent, AreTokens}
+use Rattle.lg_token.specs.Tokens.{cut_off, pieces_of, AreOfPieces, AreOfChunk, AreOfChunks, IsWall, stands, absent, AreTokens}
 use Rattle.lg_audit.specs.Pieces.{HasNoBlank}
 
 -- ---- runs
