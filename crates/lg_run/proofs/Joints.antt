@@ -97,7 +97,7 @@ GivesCan (GenGiven seed words sentences) = Unit {0}
 GivesCan (ExportGiven text) = Unit {0}
 GivesCan (AuditGiven dict know scripts bytes) = Unit {0}
 
-any_gives : {A : Type 0} (reading : Reading A) → Gives reading (λ (a : A). Unit {0})
+pub any_gives : {A : Type 0} (reading : Reading A) → Gives reading (λ (a : A). Unit {0})
 any_gives reading names (accepted a) is = tt
 any_gives reading names (refused line) is = tt
 any_gives reading names (missing name) is = tt
@@ -108,7 +108,7 @@ export_gives dictionary script n dict commands _ _ (quoted version word is quote
 export_gives dictionary script n dict commands _ _ (spelled version is none) = tt
 
 module _ (read_can : ReadIsExportable) (contents : Contents) where
-  task_gives : (task : Task) → Gives (InputsAre contents task) GivesCan
+  pub task_gives : (task : Task) → Gives (InputsAre contents task) GivesCan
   task_gives (One setup dictionary sentence) =
       followed_gives (DictionaryInput contents dictionary) (λ dict. given (OneGiven setup dict sentence)) IsExportable GivesCan (input_can read_can contents dictionary)
       (λ dict can. given_gives (OneGiven setup dict sentence) GivesCan can)
@@ -129,7 +129,7 @@ module _ (read_can : ReadIsExportable) (contents : Contents) where
       (λ bytes none. followed_gives (Followed (ScriptsInput contents files) (EditsRead files)) (λ scripts. given (AuditGiven dict know scripts bytes)) AllRead GivesCan (all_read contents files)
       (λ scripts h. given_gives (AuditGiven dict know scripts bytes) GivesCan tt))))
 
-lists_can : EditedIsExportable → (what : Given) (dict : Dictionary) → GivesCan what → ListsBy what dict → IsExportable dict
+pub lists_can : EditedIsExportable → (what : Given) (dict : Dictionary) → GivesCan what → ListsBy what dict → IsExportable dict
 lists_can edited_can _ _ h (one setup dict sentence) = h
 lists_can edited_can _ _ h (run setup dict know scripts journal version) = versions_can edited_can scripts h.1 dict h.0 (take version journal)
 

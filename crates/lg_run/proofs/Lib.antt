@@ -41,3 +41,10 @@ pub mod RightPages
 pub mod RightVersions
 pub mod RightAnswers
 pub mod RightRuns
+pub mod RulesFew
+pub mod SolidTokens
+pub mod SolidDisjuncts
+pub mod SolidPages
+pub mod SolidAnswers
+pub mod UsageLines
+pub mod AuditedRuns

@@ -42,7 +42,7 @@ within [] (suc i) q c e = absurd (cc e)
 within (o ∷ os) zero q c e = omega arith
 within (o ∷ os) (suc i) q c e = let less = within os i q c e in omega (arith, less)
 
-ends_within : (positions : List (List Disjunct)) (g : Linkage) → Good positions g → EndsWithin g
+pub ends_within : (positions : List (List Disjunct)) (g : Linkage) → Good positions g → EndsWithin g
 ends_within positions g good = All-weaker (λ (l : Link). Contains g.links l) (λ (l : Link). l.right < length g.chosen)
     (λ l has. let joins = good.rules.matched.joins l has in within g.chosen l.right l.rplace joins.1 joins.3) g.links (All-contains_itself g.links)
 

@@ -34,11 +34,11 @@ use Rattle.lg_run.proofs.PlainDictionaries.{edits_keep_plain}
 use Rattle.lg_run.proofs.PlainIdioms.{in_use_long, in_use_plain}
 use Rattle.lg_run.proofs.PlainLines.{NoFeed, one_line}
 
-by_places : {X : Type 0} (Q : X → Type 0) (xs : List X) → ((i : ℕ) (x : X) → slice_get xs i ≡ Some x → Q x) → AllByRecursion Q xs
+pub by_places : {X : Type 0} (Q : X → Type 0) (xs : List X) → ((i : ℕ) (x : X) → slice_get xs i ≡ Some x → Q x) → AllByRecursion Q xs
 by_places Q [] h = tt
 by_places Q (x ∷ xs) h = (h 0 x refl, by_places Q xs (λ i. h (suc i)))
 
-at_number : {X : Type 0} (Q : X → Type 0) (xs : List X) (n : ℕ) (x : X) → AllByRecursion Q xs → slice_get xs n ≡ Some x → Q x
+pub at_number : {X : Type 0} (Q : X → Type 0) (xs : List X) (n : ℕ) (x : X) → AllByRecursion Q xs → slice_get xs n ≡ Some x → Q x
 at_number Q [] n x all e = absurd (cc e)
 at_number Q (y ∷ xs) zero x all e = let same : y ≡ x = cc in subst Q same all.0
 at_number Q (y ∷ xs) (suc n) x all e = at_number Q xs n x all.1 e

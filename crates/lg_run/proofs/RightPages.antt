@@ -139,7 +139,7 @@ at_link know g (Demand grouped trigger others) l h = h.0.0
 at_link know g (Bounded kind) l h = h.0.4.1.0
 at_link know g (Cycle pattern) l h = h.0.0
 
-broken_named : (know : Knowledge) (tokens : List Token) (n : ℕ) (g : Linkage) (v : Violation) → IsLinkageFor tokens g → IsBroken know g v → IsNamed know tokens (fails n v)
+pub broken_named : (know : Knowledge) (tokens : List Token) (n : ℕ) (g : Linkage) (v : Violation) → IsLinkageFor tokens g → IsBroken know g v → IsNamed know tokens (fails n v)
 broken_named know tokens n g v fits broken =
     let within = slice_get_within know.rules (v.rule - 1) broken.rule broken.number.1 in
     let has = at_link know g broken.rule broken.link broken.fails in

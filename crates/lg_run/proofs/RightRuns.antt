@@ -16,7 +16,7 @@ use Rattle.lg_script.specs.Commands.{CommandView}
 use Rattle.lg_script.specs.SingleLines.{ScriptsHaveSingleLines}
 use Rattle.lg_text.specs.Shown.{closed}
 use Rattle.lg_text.specs.declared.look.Look.{Look}
-use Rattle.lg_usage.specs.Totals.{usage_line}
+use Rattle.lg_usage.specs.Totals.{Totals, usage_line, usage_text}
 use Rattle.lg_audit.specs.Audits.{JournalHolds, Holds, IsPlaceOf}
 use Rattle.lg_audit.specs.ShownAnswers.{Unread, unread_by, counted_if, shown_document, AnswersHaveLines}
 use Rattle.lg_run.specs.Audits.{HasHeld, DocumentsHold}
@@ -33,17 +33,24 @@ some_given : (value : Option (List ℕ)) (usual n : ℕ) → 1 ≤ usual → Giv
 some_given None usual n some is = omega (arith, some, is)
 some_given (Some value) usual n some is = is.least
 
-record HasSomeCounts (options : Options) : Type 0 where
-  want : 1 ≤ options.want
-  examine : 1 ≤ options.examine
+-- nor a great one
+few_given : (value : Option (List ℕ)) (usual n : ℕ) → usual ≤ 1000000 → GivesNumber value usual n → n ≤ 1000000
+few_given None usual n few is = omega (arith, few, is)
+few_given (Some value) usual n few is = is.most
+
+pub record HasSomeCounts (options : Options) : Type 0 where
+  pub want : 1 ≤ options.want
+  pub examine : 1 ≤ options.examine
+  pub few : options.examine ≤ 1000000
 
 options_count : (known : Known) (front : List (List ℕ)) (setup : Setup) → OptionsAre known front setup → HasSomeCounts setup.listing
 options_count known front setup is = record {
   want = some_given (value_of (codes "want") is.settings) 10 setup.listing.want (omega arith) is.given.want;
   examine = some_given (value_of (codes "examine") is.settings) 1000 setup.listing.examine (omega arith) is.given.examine;
+  few = few_given (value_of (codes "examine") is.settings) 1000 setup.listing.examine (omega arith) is.given.examine;
 }
 
-task_counts : (words : List (List ℕ)) (setup : Setup) (dictionary knowledge : List ℕ) (files : List (List ℕ)) → TaskIs words (Run setup dictionary knowledge files) → HasSomeCounts setup.listing
+pub task_counts : (words : List (List ℕ)) (setup : Setup) (dictionary knowledge : List ℕ) (files : List (List ℕ)) → TaskIs words (Run setup dictionary knowledge files) → HasSomeCounts setup.listing
 task_counts _ _ _ _ _ (run front setup dictionary knowledge files options operands some most) = options_count _ front setup options
 
 module _ (singles : ScriptsHaveSingleLines) (keeps : KeepBounds) (in_order : (dict : Dictionary) (text : List ℕ) (tokens : List Token) → AreTokens dict text tokens → LieInOrder text tokens)
@@ -61,7 +68,7 @@ module _ (singles : ScriptsHaveSingleLines) (keeps : KeepBounds) (in_order : (di
 
 -- ---- lines of totals
 
-abbrev bare_line : List ℕ → List ℕ × ℕ → List ℕ
+abbrev pub bare_line : List ℕ → List ℕ × ℕ → List ℕ
 bare_line kind entry = codes "usage " ++ (kind ++ (32 ∷ (entry.0 ++ (32 ∷ decimal entry.1))))
 
 line_is : (kind : List ℕ) (entry : List ℕ × ℕ) → usage_line kind entry ≡ closed (bare_line kind entry)
@@ -74,16 +81,20 @@ kind_lines : (kind : List ℕ) (es : List (List ℕ × ℕ)) → flat_map (usage
 kind_lines kind [] = refl
 kind_lines kind (e ∷ es) = λ i. line_is kind e i ++ kind_lines kind es i
 
+abbrev pub bare_lines : Totals → List (List ℕ)
+bare_lines t = map (bare_line (codes "word")) (entries t.words) ++ map (bare_line (codes "label")) (entries t.labels)
+
 -- lines of totals are lines
+pub totals_are : (t : Totals) → usage_text t ≡ flat_map closed (bare_lines t)
+totals_are t =
+    (λ i. kind_lines (codes "word") (entries t.words) i ++ kind_lines (codes "label") (entries t.labels) i)
+    ∙ sym (flat_map-append closed (map (bare_line (codes "word")) (entries t.words)) (map (bare_line (codes "label")) (entries t.labels)))
+
 lines_of : (usage : Bool) (gs : List Linkage) (lines : List ℕ) → AreUsageLines usage gs lines → (ls : List (List ℕ)) × (lines ≡ flat_map closed ls)
 lines_of false gs lines is = ([], is)
-lines_of true gs lines is =
-    let t = is.0 in
-    let words = map (bare_line (codes "word")) (entries t.words) in
-    let labels = map (bare_line (codes "label")) (entries t.labels) in
-    (words ++ labels, is.2 ∙ (λ i. kind_lines (codes "word") (entries t.words) i ++ kind_lines (codes "label") (entries t.labels) i) ∙ sym (flat_map-append closed words labels))
+lines_of true gs lines is = (bare_lines is.0, is.2 ∙ totals_are is.0)
 
-no_counts : (look : Look) → (unread_by look).counts None ≡ None
+pub no_counts : (look : Look) → (unread_by look).counts None ≡ None
 no_counts look = by look.stats
   where
     by : (asked : Bool) → counted_if asked None ≡ None

@@ -57,9 +57,9 @@ input_plain contents name _ dict (both bytes ns more _ file text) = read_plain c
 
 -- ---- the scripts
 
-record IsPlainScript (commands : List CommandView) : Type 0 where
-  single : AllByRecursion HasSingleLines commands
-  bounds : AreInBounds commands
+pub record IsPlainScript (commands : List CommandView) : Type 0 where
+  pub single : AllByRecursion HasSingleLines commands
+  pub bounds : AreInBounds commands
 
 abbrev pub KeepBounds : Type 0
 KeepBounds = (bytes : List ℕ) (commands : List CommandView) → length bytes ≤ FILE → ScriptIs bytes (Ok commands) → AreInBounds commands
@@ -79,9 +79,9 @@ module _ (singles : ScriptsHaveSingleLines) (keeps : KeepBounds) (contents : Con
   script_plain : (name : List ℕ) (names : List (List ℕ)) (commands : List CommandView) → ScriptInput contents name names (accepted commands) → IsPlainScript commands
   script_plain name _ commands (both bytes ns more _ file text) = text_plain name bytes more (accepted commands) commands (bytes_small name bytes ns file) text refl
 
-  record ArePlainScripts (files : List (List ℕ)) (scripts : List (List CommandView)) : Type 0 where
-    count : length scripts ≡ length files
-    each : AllByRecursion IsPlainScript scripts
+  pub record ArePlainScripts (files : List (List ℕ)) (scripts : List (List CommandView)) : Type 0 where
+    pub count : length scripts ≡ length files
+    pub each : AllByRecursion IsPlainScript scripts
 
   none_plain : (scripts : List (List CommandView)) → scripts ≡ [] → ArePlainScripts [] scripts
   none_plain scripts e = subst (ArePlainScripts []) (sym e) (record { count = refl; each = tt })
@@ -99,9 +99,9 @@ module _ (singles : ScriptsHaveSingleLines) (keeps : KeepBounds) (contents : Con
 
   -- ---- all inputs
 
-  record ArePlainInputs (files : List (List ℕ)) (dict : Dictionary) (scripts : List (List CommandView)) : Type 0 where
-    plain : IsPlainDictionary dict
-    scripts_are : ArePlainScripts files scripts
+  pub record ArePlainInputs (files : List (List ℕ)) (dict : Dictionary) (scripts : List (List CommandView)) : Type 0 where
+    pub plain : IsPlainDictionary dict
+    pub scripts_are : ArePlainScripts files scripts
 
   same_given : (files : List (List ℕ)) (setup setup' : Setup) (dict dict' : Dictionary) (know know' : Knowledge) (scripts scripts' : List (List CommandView)) → ◌≡◌ {A = Found Given} (accepted (RunGiven setup dict know scripts)) (accepted (RunGiven setup' dict' know' scripts'))
       → ArePlainInputs files dict' scripts' → ArePlainInputs files dict scripts
@@ -120,7 +120,7 @@ module _ (singles : ScriptsHaveSingleLines) (keeps : KeepBounds) (contents : Con
 few_files : (words : List (List ℕ)) (setup : Setup) (dictionary knowledge : List ℕ) (files : List (List ℕ)) → TaskIs words (Run setup dictionary knowledge files) → length files ≤ 64
 few_files _ _ _ _ _ (run front setup dictionary knowledge files options operands some most) = most
 
-singles_of : (scripts : List (List CommandView)) → AllByRecursion IsPlainScript scripts → AllByRecursion (λ (cs : List CommandView). AllByRecursion HasSingleLines cs) scripts
+pub singles_of : (scripts : List (List CommandView)) → AllByRecursion IsPlainScript scripts → AllByRecursion (λ (cs : List CommandView). AllByRecursion HasSingleLines cs) scripts
 singles_of [] h = tt
 singles_of (cs ∷ scripts) h = (h.0.single, singles_of scripts h.1)
 
@@ -133,10 +133,10 @@ bounds_of [] h = tt
 bounds_of (cs ∷ scripts) h = (h.0.bounds, bounds_of scripts h.1)
 
 module _ (singles : ScriptsHaveSingleLines) (bounds : KeepBounds) (in_order : (dict : Dictionary) (text : List ℕ) (tokens : List Token) → AreTokens dict text tokens → LieInOrder text tokens) where
-  inputs_of : (contents : Contents) (words : List (List ℕ)) (setup : Setup) (dict : Dictionary) (know : Knowledge) (scripts : List (List CommandView)) (is : IsRunOf contents words setup dict know scripts) → ArePlainInputs singles bounds contents is.files dict scripts
+  pub inputs_of : (contents : Contents) (words : List (List ℕ)) (setup : Setup) (dict : Dictionary) (know : Knowledge) (scripts : List (List CommandView)) (is : IsRunOf contents words setup dict know scripts) → ArePlainInputs singles bounds contents is.files dict scripts
   inputs_of contents words setup dict know scripts is = run_plain singles bounds contents setup setup is.dictionary is.knowledge is.files is.names dict know scripts is.read
 
-  short_scripts : (contents : Contents) (words : List (List ℕ)) (setup : Setup) (dict : Dictionary) (know : Knowledge) (scripts : List (List CommandView)) → IsRunOf contents words setup dict know scripts → HasShortScripts scripts
+  pub short_scripts : (contents : Contents) (words : List (List ℕ)) (setup : Setup) (dict : Dictionary) (know : Knowledge) (scripts : List (List CommandView)) → IsRunOf contents words setup dict know scripts → HasShortScripts scripts
   short_scripts contents words setup dict know scripts is =
       let inputs = inputs_of contents words setup dict know scripts is in
       let most = few_files words setup is.dictionary is.knowledge is.files is.form in

@@ -42,3 +42,10 @@ DocumentsHold =
     (contents : Contents) (words : List (List ℕ)) (setup : Setup) (dict : Dictionary) (know : Knowledge) (scripts : List (List CommandView)) (document : List ℕ)
     → IsRunOf contents words setup dict know scripts → setup.listing.idioms ≡ false → IsOutcome setup dict know scripts document
     → (d : ShownDocument) × HasHeld (record { base = dict; know = know; scripts = scripts }) document d
+
+-- Whatever the inputs of a run without idioms were: the audit of its document is a yes.
+abbrev pub DocumentsAreAudited : Type 0
+DocumentsAreAudited =
+    (contents : Contents) (words : List (List ℕ)) (setup : Setup) (dict : Dictionary) (know : Knowledge) (scripts : List (List CommandView)) (document : List ℕ)
+    → IsRunOf contents words setup dict know scripts → setup.listing.idioms ≡ false → IsOutcome setup dict know scripts document
+    → (shown : ℕ) × IsAudit (record { base = dict; know = know; scripts = scripts }) document (Yes shown)

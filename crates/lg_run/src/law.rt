@@ -2,7 +2,7 @@
 ghost use Rattle.std.specs.Prelude.{◌≡◌, ℕ, List};
 ghost use Rattle.lg_base.specs.Contents.{Contents};
 ghost use Rattle.lg_run.specs.Words.{Task, TaskIs};
-ghost use Rattle.lg_run.specs.Audits.{DocumentsHold};
+ghost use Rattle.lg_run.specs.Audits.{DocumentsAreAudited, DocumentsHold};
 ghost use Rattle.lg_run.specs.Exported.{ExportsAreDictionaries};
 ghost use Rattle.lg_run.specs.Inputs.{InputsAre, HasSome, IsOne};
 ghost use Rattle.lg_run.specs.Joints.{DictionariesHaveNoJoints};
@@ -99,4 +99,17 @@ pub fn documents_hold()
     scripts_keep_bounds();
     tokens_lie_in_order();
     answers_are_shown();
+}
+
+/// The audit of what a run without idioms writes is a yes, whatever its inputs were: what it writes is a document whose journal holds and
+/// each of whose answers holds. The function does nothing: a caller whose proof needs the fact calls it.
+pub fn documents_are_audited()
+    ensures { DocumentsAreAudited }
+{
+    scripts_have_single_lines();
+    scripts_keep_bounds();
+    tokens_lie_in_order();
+    answers_are_shown();
+    edited_dictionaries_are_exportable();
+    read_dictionaries_are_exportable();
 }

@@ -23,8 +23,9 @@ mod top;
 mod usage;
 
 pub use law::{
-    answers_are_determined, dictionaries_are_plain, dictionaries_have_no_joints, documents_hold,
-    documents_show, exports_are_dictionaries, inputs_have_one_verdict, words_have_one_task,
+    answers_are_determined, dictionaries_are_plain, dictionaries_have_no_joints,
+    documents_are_audited, documents_hold, documents_show, exports_are_dictionaries,
+    inputs_have_one_verdict, words_have_one_task,
 };
 pub use status::Status;
 pub use top::run;
