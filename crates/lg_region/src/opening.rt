@@ -7,7 +7,7 @@ ghost use Rattle.lg_region.specs.declared.group.Gap.{Gap as SeenGap};
 ghost use Rattle.lg_region.specs.Ways.{AddsExactly, KeepsFront};
 
 use crate::alternative::Alt;
-use crate::expand::{lead_of, run_end};
+use crate::expand::{group_at, lead_of};
 use crate::group::{Gap, Group, push_with_left, rights};
 use crate::key::Key;
 use crate::lists::Lists;
@@ -128,15 +128,9 @@ fn push_groups(
     let count = lists.count(word);
     let mut from = lists.first(gap.lead.side, gap.lead.class, word);
     while from < count {
-        let left = lists.sides(word, from).left;
-        let to = run_end(lists, gap.lead, word, from, left);
-        groups.push(Group {
-            word,
-            left,
-            from,
-            to,
-        })?;
-        from = to;
+        let group = group_at(lists, gap, word, from);
+        groups.push(group)?;
+        from = group.to;
     }
     Ok(())
 }
