@@ -3,7 +3,7 @@ ghost use Rattle.std.specs.Prelude.{◌≡◌, ◌≢◌, ◌↔◌, ◌∷◌, 
 ghost use Rattle.lg_region.specs.Fronts.{AreOnce, list_of};
 ghost use Rattle.lg_region.specs.Keys.{IsValidKey, IsAltOf, IsAltOfRegion, IsAltOfWhole};
 ghost use Rattle.lg_region.specs.Ways.{AreExactly, AddsExactly};
-ghost use Rattle.lg_region.specs.Groups.{AddsIn, AddsFirst, HaveLeft, IsGroup, IsKnownGap, IsNextLed, Leads, left_lead, region_of_gap};
+ghost use Rattle.lg_region.specs.Groups.{AddsIn, AddsFirst, HaveLeft, IsGroup, IsKnownGap, IsNextLed, Leads, left_lead, region_of_gap, right_lead};
 ghost use Rattle.lg_region.specs.Parts.{Region};
 ghost use Rattle.lg_region.specs.declared.alternative.Alt.{Alt};
 
@@ -71,6 +71,7 @@ pub(crate) fn lead_of(lists: &Lists<'_>, llist: u32, rlist: u32) -> Lead
     ensures small { result.class < 256 }
     ensures led { (k : Region) → k.llist ≡ list_of lists.entry.now.lists llist → k.rlist ≡ list_of lists.entry.now.lists rlist → Leads result lists.entry.now.positions k }
     ensures left { llist ≢ 0 → result ≡ left_lead lists.entry.now llist }
+    ensures right { llist ≡ 0 → result ≡ right_lead lists.entry.now rlist }
 {
     lists.are_numbered();
     if llist == 0 {
