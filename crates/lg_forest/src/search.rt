@@ -160,11 +160,11 @@ fn explore_opening<L>(
     regions_begin_alike();
     lists.are_numbered();
     let origin = origin_of(lists, gap, nulls);
-    let opening = open(alloc, lists, table, memory, key, gap, origin, steps)?;
+    let opening = open(alloc, lists, table, memory, key, gap, &origin, steps)?;
     for index in 0..opening.starts.len() {
         let start = opening.starts[index];
         explore_start(
-            alloc, lists, table, memory, key, gap, origin, &start, live, steps,
+            alloc, lists, table, memory, key, gap, &origin, &start, live, steps,
         )?;
     }
     memory.openings.put(origin, opening)?;
@@ -180,7 +180,7 @@ fn explore_start<L>(
     memory: &mut Memory,
     key: Key,
     gap: &Gap,
-    origin: Origin,
+    origin: &Origin,
     start: &Start,
     live: &mut Vec<Alt>,
     steps: &mut Steps<L>,
@@ -188,9 +188,9 @@ fn explore_start<L>(
     requires decided { KeysAreDecided lists.now }
     requires key { IsValidKey lists.now.positions lists.now.lists key }
     requires gap { IsGapOf lists.now key gap.now }
-    requires alike { BeginsWith lists.now origin gap.now }
-    requires start { start.now.group.word < end_of gap.now origin.nulls → IsStart lists.now gap.now start.now }
-    requires level { start.now.begin.nulls ≡ origin.nulls }
+    requires alike { BeginsWith lists.now origin.now gap.now }
+    requires start { start.now.group.word < end_of gap.now origin.now.nulls → IsStart lists.now gap.now start.now }
+    requires level { start.now.begin.nulls ≡ origin.now.nulls }
     requires table { IsTable lists.now table.old }
     requires known { IsMemory lists.now table.old memory.old }
     requires room { HasRoom (key_width lists.now.positions key) steps.old table.old }
@@ -229,26 +229,26 @@ fn open<L>(
     memory: &mut Memory,
     key: Key,
     gap: &Gap,
-    origin: Origin,
+    origin: &Origin,
     steps: &mut Steps<L>,
 ) -> Result<Opening, NoMemory>
     requires decided { KeysAreDecided lists.now }
     requires key { IsValidKey lists.now.positions lists.now.lists key }
     requires gap { IsGapOf lists.now key gap.now }
-    requires alike { BeginsWith lists.now origin gap.now }
+    requires alike { BeginsWith lists.now origin.now gap.now }
     requires table { IsTable lists.now table.old }
     requires known { IsMemory lists.now table.old memory.old }
     requires room { HasRoom (key_width lists.now.positions key) steps.old table.old }
-    ensures opened { IfOk result (IsOpening lists.entry.now table.new origin) }
-    ensures done { IfOk result (λ opening. end_of gap.now origin.nulls ≤ opening.done) }
-    ensures asked { OnOk result (Asked lists.entry.now (AsksLeft lists.entry.now key origin.nulls IsAny) table.old table.new) }
+    ensures opened { IfOk result (IsOpening lists.entry.now table.new origin.now) }
+    ensures done { IfOk result (λ opening. end_of gap.now origin.now.nulls ≤ opening.done) }
+    ensures asked { OnOk result (Asked lists.entry.now (AsksLeft lists.entry.now key origin.now.nulls IsAny) table.old table.new) }
     ensures left { OnOk result (IsLeft lists.entry.now table.new memory.old memory.new) }
     ensures steps { OnOk result (IsCounted 0 (steps.old + length memory.new.known) table.old (steps.new + length memory.old.known) table.new) }
     ensures later { steps.old ≤ steps.new }
 {
     regions_begin_alike();
     lists.are_numbered();
-    let mut opening = match memory.openings.take(&origin) {
+    let mut opening = match memory.openings.take(origin) {
         Some(opening) => opening,
         None => Opening {
             done: gap.left + 1,

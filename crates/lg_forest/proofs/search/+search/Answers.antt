@@ -342,17 +342,17 @@ pub open-loop-word-init : goal.open-loop-word-init
 open-loop-word-init g t c =
     let n = c.args.lists.now in
     let begin = c.requires.alike.left_is in
-    let opened : IsOpening n c.args.table.now c.args.origin c.match-take.opening = elim c.match-take.branch [
-      | open-in-Some w ↦ subst (λ z. IsOpening n c.args.table.now c.args.origin z) (sym w.opening-is) (c.requires.known.opened c.args.origin w.in-Some.opening w.in-Some.ensures.taken)
-      | open-in-None w ↦ subst (λ z. IsOpening n c.args.table.now c.args.origin z) (sym w.opening-is)
-          (opening_new n c.are_numbered.ensures c.regions_begin_alike.ensures c.args.origin c.args.table.now _ (ap (λ z. z + 1) begin) w.new.ensures.items)
+    let opened : IsOpening n c.args.table.now c.args.origin.now c.match-take.opening = elim c.match-take.branch [
+      | open-in-Some w ↦ subst (λ z. IsOpening n c.args.table.now c.args.origin.now z) (sym w.opening-is) (c.requires.known.opened c.args.origin.now w.in-Some.opening w.in-Some.ensures.taken)
+      | open-in-None w ↦ subst (λ z. IsOpening n c.args.table.now c.args.origin.now z) (sym w.opening-is)
+          (opening_new n c.are_numbered.ensures c.regions_begin_alike.ensures c.args.origin.now c.args.table.now _ (ap (λ z. z + 1) begin) w.new.ensures.items)
     ] in
     let behind = opened.behind in
     record {
       done = refl;
       after = omega arith;
       opened = opened;
-      asked = words_first n c.are_numbered.ensures c.regions_begin_alike.ensures c.args.origin c.args.key c.args.gap.now c.requires.gap.key_is c.requires.alike c.match-take.opening c.args.table.now c.requires.table opened;
+      asked = words_first n c.are_numbered.ensures c.regions_begin_alike.ensures c.args.origin.now c.args.key c.args.gap.now c.requires.gap.key_is c.requires.alike c.match-take.opening c.args.table.now c.requires.table opened;
       left = record { known = record { known = c.requires.known.known; opened = λ o x has. c.requires.known.opened o x (c.take.ensures.left o x has) }; fewer = omega arith };
       steps = omega arith;
       later = omega arith;
@@ -371,7 +371,7 @@ pub open-loop-word-preserved : goal.open-loop-word-preserved
 open-loop-word-preserved g t c =
     let n = c.args.lists.now in
     let gap = c.args.gap.now in
-    let end : c.loop-word.word < end_of gap c.args.origin.nulls = (let test = c.loop-word-test.true in let e = c.end_with-end.ensures in omega arith) in
+    let end : c.loop-word.word < end_of gap c.args.origin.now.nulls = (let test = c.loop-word-test.true in let e = c.end_with-end.ensures in omega arith) in
     let before = c.loop-word.invariant.steps in
     let after = c.in_ok-open_word.ensures.steps in
     let earlier = c.loop-word.invariant.later in
@@ -382,9 +382,9 @@ open-loop-word-preserved g t c =
     record {
       done = c.in_ok-open_word.ensures.opens.done;
       after = omega arith;
-      opened = word_opened n c.are_numbered.ensures c.regions_begin_alike.ensures c.args.origin c.args.key gap c.loop-word.word c.requires.gap.key_is c.requires.alike end c.loop-word.table c.open_word.new.table c.loop-word.opening c.open_word.new.opening
+      opened = word_opened n c.are_numbered.ensures c.regions_begin_alike.ensures c.args.origin.now c.args.key gap c.loop-word.word c.requires.gap.key_is c.requires.alike end c.loop-word.table c.open_word.new.table c.loop-word.opening c.open_word.new.opening
           c.loop-word.invariant.done c.in_ok-open_word.ensures.opens c.in_ok-open_word.ensures.asked.kept c.in_ok-open_word.ensures.asked.there c.loop-word.invariant.opened;
-      asked = words_next n c.args.key c.args.origin.nulls c.loop-word.word (c.loop-word.word + 1) refl c.args.table.now c.loop-word.table c.open_word.new.table c.loop-word.invariant.asked c.in_ok-open_word.ensures.asked;
+      asked = words_next n c.args.key c.args.origin.now.nulls c.loop-word.word (c.loop-word.word + 1) refl c.args.table.now c.loop-word.table c.open_word.new.table c.loop-word.invariant.asked c.in_ok-open_word.ensures.asked;
       left = record { known = c.in_ok-open_word.ensures.left.known; fewer = omega arith };
       steps = omega arith;
       later = omega arith;
@@ -394,7 +394,7 @@ pub open-returns-clause-asked : goal.open-returns-clause-asked
 open-returns-clause-asked g t c =
     let test = c.loop-word-test.false in
     let end = c.end_with-end.ensures in
-    words_all c.args.lists.now c.are_numbered.ensures c.regions_begin_alike.ensures c.args.origin c.args.key c.args.gap.now c.requires.gap.key_is c.requires.alike c.loop-word.word (omega arith) c.args.table.now c.loop-word.table c.loop-word.invariant.asked
+    words_all c.args.lists.now c.are_numbered.ensures c.regions_begin_alike.ensures c.args.origin.now c.args.key c.args.gap.now c.requires.gap.key_is c.requires.alike c.loop-word.word (omega arith) c.args.table.now c.loop-word.table c.loop-word.invariant.asked
 
 pub open-returns-clause-done : goal.open-returns-clause-done
 open-returns-clause-done g t c =
@@ -408,14 +408,14 @@ explore_start-returns-then-start-end-clause-live g t c =
     let test = c.if-start-end.true in
     let end = c.end_with-end.ensures in
     part.adds_none c.args.live.now.items _
-    (λ a (alt, s, l). none_starts c.args.lists.now c.are_numbered.ensures c.regions_begin_alike.ensures c.args.origin c.args.key c.args.gap.now c.requires.gap.key_is c.requires.alike c.args.start.now c.requires.level (omega arith) a alt s)
+    (λ a (alt, s, l). none_starts c.args.lists.now c.are_numbered.ensures c.regions_begin_alike.ensures c.args.origin.now c.args.key c.args.gap.now c.requires.gap.key_is c.requires.alike c.args.start.now c.requires.level (omega arith) a alt s)
 
 pub explore_start-returns-then-start-end-clause-asked : goal.explore_start-returns-then-start-end-clause-asked
 explore_start-returns-then-start-end-clause-asked g t c =
     let test = c.if-start-end.true in
     let end = c.end_with-end.ensures in
     part.asked_start c.args.lists.now _ c.args.table.now c.requires.table
-    (λ k (a, alt, s, o). none_starts c.args.lists.now c.are_numbered.ensures c.regions_begin_alike.ensures c.args.origin c.args.key c.args.gap.now c.requires.gap.key_is c.requires.alike c.args.start.now c.requires.level (omega arith) a alt s)
+    (λ k (a, alt, s, o). none_starts c.args.lists.now c.are_numbered.ensures c.regions_begin_alike.ensures c.args.origin.now c.args.key c.args.gap.now c.requires.gap.key_is c.requires.alike c.args.start.now c.requires.level (omega arith) a alt s)
 
 pub explore_start-explore_beginning-requires : goal.explore_start-explore_beginning-requires
 explore_start-explore_beginning-requires g t c κs within =
