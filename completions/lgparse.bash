@@ -8,7 +8,7 @@ _lgparse() {
   [[ $word == = ]] && word='' before=${COMP_WORDS[COMP_CWORD - 1]}
   [[ $before == = ]] && before=${COMP_WORDS[COMP_CWORD - 2]}
   if ((COMP_CWORD == 1)); then
-    local commands='one run gen export'
+    local commands='one run gen export audit'
     # (what is installed is the program alone)
     [[ ${COMP_WORDS[0]} == */* && -d ${COMP_WORDS[0]%/*}/../crates ]] && commands+=' --build --install --help'
     mapfile -t COMPREPLY < <(compgen -W "$commands" -- "$word")
@@ -22,6 +22,11 @@ _lgparse() {
   esac
   if [[ $command == export ]]; then
     ((COMP_CWORD <= 3)) || return
+    compopt -o filenames 2>/dev/null
+    mapfile -t COMPREPLY < <(compgen -f -- "$word")
+    return
+  fi
+  if [[ $command == audit ]]; then
     compopt -o filenames 2>/dev/null
     mapfile -t COMPREPLY < <(compgen -f -- "$word")
     return

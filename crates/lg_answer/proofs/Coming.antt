@@ -1,6 +1,6 @@
 -- How far a listing has come: what it has come past are the first candidates, and how it goes on.
 use Rattle.std.proofs.Common.{◌≡◌, ◌⊎◌, ◌↔◌, ℕ, ◌+◌, ◌-◌, ◌<◌, ◌≤◌, Bool, true, false, List, [], ◌∷◌, ◌++◌, length, Some, inl, inr, refl, sym, ap, ◌∙◌, subst, arith, append_assoc, append-nil, length-append, Less}
-use Rattle.std.specs.Prelude.{slice_get, Option, None, ◌||◌}
+use Rattle.std.specs.Prelude.{slice_get, Option, None, is_some, ◌||◌}
 use Rattle.std.specs.Cmp.{nat_cmp_is}
 use Rattle.std.specs.Ordering.{nat_cmp, int_cmp, on, then_cmp, ordering_then}
 use Rattle.std.specs.Option.{option_cmp}
@@ -16,8 +16,8 @@ use Rattle.lg_gram.specs.declared.disjunct.Disjunct.{Disjunct}
 use Rattle.lg_region.specs.Parts.{UnderWhole}
 use Rattle.lg_knowread.specs.declared.knowledge.Knowledge.{Knowledge}
 use Rattle.lg_rank.specs.Fronts.{IsFront, IsAll, IsIn, IsNext, AllBefore}
-use Rattle.lg_rank.specs.Rankings.{given}
-use Rattle.lg_answer.specs.Candidates.{Decides, IsCandidate, AreFirst, AreAll, IsBehind, Course, IsLower, HasCome, HasComeBut, IsNextOf, IsSameCourse}
+use Rattle.lg_rank.specs.Rankings.{given, passed_over, IsThere}
+use Rattle.lg_answer.specs.Candidates.{Decides, IsCandidate, AreFirst, AreAll, IsBehind, Course, IsLower, HasCome, HasComeBut, IsNextOf, HasPassed, IsSameCourse}
 use Rattle.lg_answer.specs.declared.options.Nulls.{Nulls}
 use Rattle.lg_answer.proofs.Places.{in_left, in_right, in_either, place_of, at_place}
 use Rattle.lg_answer.proofs.Nothing.{nothing_of, nothing_good, nothing_count, nothing_decides}
@@ -258,6 +258,28 @@ noted know c new front g decides is tells but =
 pub noted_before : (know : Knowledge) (c : Course) (front : List Linkage) (g : Linkage) → c.decided ≡ true → HasComeBut know c front g → HasCome know c (front ++ g ∷ [])
 noted_before know c front g decided but =
     subst (λ b. HasCome know (record c { decided = b }) (front ++ g ∷ [])) (sym decided) (but true (λ t. inl decided, λ h. refl))
+
+-- what the level has next, where so many of it are behind, without what it is
+abbrev pub Passes : Course → Bool → Type 0
+Passes c there = (gs : List Linkage) → IsFront linkage_cmp (UnderWhole c.problem c.level) gs → c.before + length gs ≡ c.position → IsThere (IsNext linkage_cmp (UnderWhole c.problem c.level) gs) there
+
+-- a level that is decided is passed over: one more is behind, or all are
+module _ (know : Knowledge) (c new : Course) (front : List Linkage) (come : HasCome know c front) (decided : c.decided ≡ true) where
+  passed_by : (there : Bool) (found : Option Linkage) → IsNext linkage_cmp (UnderWhole c.problem c.level) come.given found → there ≡ is_some found
+      → new ≡ record c { position = c.position + passed_over there } → HasPassed know new front there
+  passed_by true (Some g) next e moved =
+      (g, subst (λ n. HasCome know n (front ++ g ∷ [])) (sym moved) (noted_before know (record c { position = c.position + 1 }) front g decided (one_more know c front come g next)))
+  passed_by false None all e moved =
+      let zero_more : c.position + 0 ≡ c.position = omega arith in
+      let same : new ≡ c = moved ∙ ap (λ n. record c { position = n }) zero_more in
+      subst (λ n. HasPassed know n front false) (sym same) (come, all_behind know c front come all decided)
+  passed_by true None all e moved = let no : ⊥ = cc in absurd no
+  passed_by false (Some g) next e moved = let no : ⊥ = cc in absurd no
+
+  pub passed_one : (there : Bool) → Passes c there → new ≡ record c { position = c.position + passed_over there } → HasPassed know new front there
+  passed_one there passes moved =
+      let is = passes come.given come.given_first (level_given know c front come) in
+      passed_by there is.0 is.1 is.2 moved
 
 pub same_after : (a b c : Course) → IsSameCourse a b → IsSameCourse b c → IsSameCourse a c
 same_after a b c first next = record { problem = next.problem ∙ first.problem; nulls = next.nulls ∙ first.nulls }

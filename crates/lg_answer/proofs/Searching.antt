@@ -1,5 +1,5 @@
 -- A search begins with a sharper problem, and goes on with the problem itself.
-use Rattle.std.proofs.Common.{◌≡◌, ◌↔◌, ◌==◌, ℕ, suc, ◌+◌, ◌<◌, ◌≤◌, inl, inr, cond, List, [], ◌∷◌, ◌++◌, length, get_or, Contains, Option, None, Some, refl, subst, ◌∙◌, arith}
+use Rattle.std.proofs.Common.{◌≡◌, ◌↔◌, ◌==◌, ℕ, suc, ◌+◌, ◌<◌, ◌≤◌, inl, inr, cond, List, [], ◌∷◌, ◌++◌, length, get_or, Contains, Bool, Option, None, Some, refl, subst, ◌∙◌, arith}
 use Rattle.std.specs.Prelude.{is_none}
 use Rattle.std.specs.List.{count_by}
 use Rattle.std.proofs.lemmas.Bool.{cases_lt, ne_eqb}
@@ -16,7 +16,7 @@ use Rattle.lg_forest.specs.Demands.{HasLinkageUnder, IsDemanded}
 use Rattle.lg_forest.specs.Demands.Reaches.{itself}
 use Rattle.lg_forest.specs.Forests.{Forest, IsForest}
 use Rattle.lg_rank.specs.Fronts.{IsFront, IsNext}
-use Rattle.lg_rank.specs.Rankings.{Ranking}
+use Rattle.lg_rank.specs.Rankings.{Ranking, IsThere}
 use Rattle.lg_sharpen.specs.Sharp.{IsSharpened}
 use Rattle.lg_answer.specs.Pages.{HasLinkagesOf}
 use Rattle.lg_answer.specs.Searches.{wide_of, StandsUpTo, Begins, BeginsSharper, blanks, HasFew, HasNoFewer}
@@ -132,6 +132,16 @@ module _ (nulls : ℕ) (ranked : List (List Disjunct)) where
       let of_wide = UnderWhole (wide_of wide ranked) nulls in
       let of_ranked = UnderWhole ranked nulls in
       next_over of_ranked of_wide (λ g. ((same g).1, (same g).0)) gs found (next (front_of linkage_cmp of_wide of_ranked gs (λ v. (same v).0) (λ v. (same v).1) front))
+
+  -- and passes over the next of the wide one
+  pub there_of_wide : (wide : Option (List (List Disjunct))) → StandsUpTo nulls wide ranked → (gs : List Linkage) (there : Bool)
+      → (IsFront linkage_cmp (UnderWhole ranked nulls) gs → IsThere (IsNext linkage_cmp (UnderWhole ranked nulls) gs) there)
+      → IsFront linkage_cmp (UnderWhole (wide_of wide ranked) nulls) gs → IsThere (IsNext linkage_cmp (UnderWhole (wide_of wide ranked) nulls) gs) there
+  there_of_wide wide stands gs there next front =
+      let same = under_ranked wide stands in
+      let of_wide = UnderWhole (wide_of wide ranked) nulls in
+      let is = next (front_of linkage_cmp of_wide (UnderWhole ranked nulls) gs (λ v. (same v).0) (λ v. (same v).1) front) in
+      (is.0, next_of_wide wide stands gs is.0 (λ here. is.1) front, is.2)
 
 -- the problem of a search has the linkages of that which was given
 pub searched_more : (dict : Dictionary) (tokens : List Token) (options : Options) (kept more : List (List Disjunct)) (stats : Stats)

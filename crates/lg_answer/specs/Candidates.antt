@@ -1,5 +1,5 @@
 -- Which linkages of a sentence are listed, in which order, and how far a listing of them has come.
-use Rattle.std.specs.Prelude.{◌≡◌, ◌↔◌, ℕ, ◌<◌, ◌≤◌, Bool, true, List, [], ◌∷◌, ◌++◌, length, Option, None, Some, ◌⊎◌, Contains}
+use Rattle.std.specs.Prelude.{◌≡◌, ◌↔◌, ℕ, ◌<◌, ◌≤◌, Bool, true, false, List, [], ◌∷◌, ◌++◌, length, Option, None, Some, ◌⊎◌, Contains}
 use Rattle.lg_gram.specs.Linkages.{Linkage, linkage_cmp, unlinked}
 use Rattle.lg_gram.specs.Rules.{Good}
 use Rattle.lg_gram.specs.declared.disjunct.Disjunct.{Disjunct}
@@ -76,6 +76,11 @@ HasComeBut know c front g = (decided : Bool) → ((decided ≡ true) ↔ ((c.dec
 abbrev pub IsNextOf : Knowledge → Course → List Linkage → Option Linkage → Type 0
 IsNextOf know c front None = HasCome know c front × AreAll c.problem know c.nulls front
 IsNextOf know c front (Some g) = HasComeBut know c front g
+
+-- it has come past one more, whichever that is, or none is left where all are behind
+abbrev pub HasPassed : Knowledge → Course → List Linkage → Bool → Type 0
+HasPassed know c front true = (g : Linkage) × HasCome know c (front ++ g ∷ [])
+HasPassed know c front false = HasCome know c front × AreAll c.problem know c.nulls front
 
 -- one listing of the same problem, with the same rule
 pub record IsSameCourse (old new : Course) : Type 0 where

@@ -1,13 +1,13 @@
 //! The candidates of a problem one by one, those with fewer unlinked words first.
-ghost use Rattle.std.specs.Prelude.{◌≡◌, ◌+◌, ◌<◌, ◌^◌, ◌||◌, List, length, IfOk, OnOk, IfSome};
+ghost use Rattle.std.specs.Prelude.{◌≡◌, ◌+◌, ◌<◌, ◌^◌, ◌||◌, true, List, length, IfOk, OnOk, IfSome};
 ghost use Rattle.lg_gram.specs.Linkages.{Linkage as Seen, linkage_cmp};
 ghost use Rattle.lg_gram.specs.Rules.{Good};
 ghost use Rattle.lg_region.specs.Parts.{UnderWhole};
 ghost use Rattle.lg_forest.specs.Forests.{AreWorkers};
 ghost use Rattle.lg_rank.specs.Fronts.{IsFront, IsNext};
-ghost use Rattle.lg_rank.specs.Rankings.{given};
+ghost use Rattle.lg_rank.specs.Rankings.{given, passed_over, IsThere};
 ghost use Rattle.lg_knowread.specs.declared.knowledge.Knowledge.{Knowledge as SeenKnowledge};
-ghost use Rattle.lg_answer.specs.Candidates.{HasCome, StandsFor, IsNextOf, IsSameCourse};
+ghost use Rattle.lg_answer.specs.Candidates.{HasCome, StandsFor, IsNextOf, HasPassed, IsSameCourse};
 ghost use Rattle.lg_answer.specs.Pages.{HasLinkagesOf};
 
 use crate::options::{Nulls, Options};
@@ -113,6 +113,27 @@ impl Course {
                 }
             }
         }
+    }
+
+    /// Passes over the next candidate of a level that is decided, without making its linkage: whether there is one. The only error is
+    /// running out of memory, and then nothing has changed.
+    pub fn pass(&mut self, alloc: Global) -> Result<bool, NoMemory>
+        requires room { self.old.position < 2 ^ 62 }
+        requires decided { self.old.decided ≡ true }
+        ensures passed { (know : SeenKnowledge) (front : List Seen) → HasCome know self.old front → IfOk result (HasPassed know self.new front) }
+        ensures same { OnOk result (IsSameCourse self.old self.new) }
+    {
+        let there = self.pass_of_level(alloc)?;
+        Ok(there)
+    }
+
+    // Whether the level has a next linkage, which is then behind.
+    fn pass_of_level(&mut self, alloc: Global) -> Result<bool, NoMemory>
+        requires room { self.old.position < 2 ^ 62 }
+        ensures next { (gs : List Seen) → IsFront linkage_cmp (UnderWhole self.old.problem self.old.level) gs → self.old.before + length gs ≡ self.old.position → IfOk result (IsThere (IsNext linkage_cmp (UnderWhole self.old.problem self.old.level) gs)) }
+        ensures moved { IfOk result (λ there. self.new ≡ record self.old { position = self.old.position + passed_over there }) }
+    {
+        self.search.pass(alloc)
     }
 
     // The next linkage of the level, or none where all of it are behind.

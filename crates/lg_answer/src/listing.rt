@@ -27,7 +27,7 @@ use std::marker::Model;
 use std::thread::Threads;
 
 /// A listing of a sentence: its tokens, and how far the listing of its candidates has come. A candidate is made when a page
-/// looks at it or when it is passed over.
+/// looks at it; one that is passed over is made only where no candidate of its level, of those behind, decides.
 ///
 /// Contracts see `{ tokens, course, stats }`. The problem of the course is what pruning, and often sharpening, has left of the sentence's; clauses on pages
 /// speak of any problem with the same good linkages, as the sentence's is.

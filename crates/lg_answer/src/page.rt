@@ -1,10 +1,10 @@
 //! Pages of candidates.
-ghost use Rattle.std.specs.Prelude.{◌≡◌, ◌≤◌, ◌<◌, ◌^◌, ◌+◌, ◌↔◌, ◌∷◌, ◌++◌, true, [], length, List, IfOk, OnOk};
+ghost use Rattle.std.specs.Prelude.{◌≡◌, ◌≤◌, ◌<◌, ◌^◌, ◌+◌, ◌↔◌, ◌∷◌, true, [], length, List, IfOk, OnOk};
 ghost use Rattle.lg_gram.specs.Linkages.{Linkage as Seen};
 ghost use Rattle.lg_knowread.specs.declared.knowledge.Knowledge.{Knowledge as SeenKnowledge};
 ghost use Rattle.lg_pp.specs.Breaks.{Judges};
 ghost use Rattle.lg_pp.specs.Labels.{IsGood};
-ghost use Rattle.lg_answer.specs.Candidates.{StandsFor, IsSameCourse, IsBehind, Decides, HasCome, HasComeBut};
+ghost use Rattle.lg_answer.specs.Candidates.{StandsFor, IsSameCourse, IsBehind, Decides, HasCome, HasPassed};
 ghost use Rattle.lg_answer.specs.Pages.{IsPage, passed};
 ghost use Rattle.lg_answer.specs.Steps.{IsLookedAt, HasLooked};
 
@@ -16,8 +16,8 @@ use lg_knowread::Knowledge;
 use lg_pp::judge;
 use std::alloc::Global;
 
-/// Passes over this many candidates, or over all that are left. A candidate is judged only where it is not clear yet whether one
-/// of its level decides. The only error is running out of memory, and then the listing is gone.
+/// Passes over this many candidates, or over all that are left. A candidate is made and judged only where it is not clear yet
+/// whether one of its level decides. The only error is running out of memory, and then the listing is gone.
 pub(crate) fn skip(
     alloc: Global,
     know: &Knowledge,
@@ -32,32 +32,30 @@ pub(crate) fn skip(
     ensures behind { OnOk result (IsBehind course.old.problem know.now course.old.nulls (course.old.position + n) course.new.position) }
 {
     for _ in 0..n {
-        let Some(linkage) = course.advance(alloc)? else {
+        if !pass_over(alloc, know, course)? {
             return Ok(());
-        };
-        pass_over(alloc, know, course, &linkage)?;
+        }
     }
     Ok(())
 }
 
-// Notes of the candidate that was given last whether it decides, and judges it only where that is not clear.
-fn pass_over(
-    alloc: Global,
-    know: &Knowledge,
-    course: &mut Course,
-    linkage: &Linkage,
-) -> Result<(), NoMemory>
+// Passes over the next candidate: whether there is one. Where the level is not decided, it is noted whether this one decides.
+fn pass_over(alloc: Global, know: &Knowledge, course: &mut Course) -> Result<bool, NoMemory>
     requires few { length know.now.rules < 2 ^ 32 }
-    requires good { IsGood linkage.now }
-    ensures passed { (front : List Seen) → HasComeBut know.now course.old front linkage.now → OnOk result (HasCome know.now course.new (front ++ linkage.now ∷ [])) }
+    requires stands { StandsFor know.now course.old }
+    requires room { course.old.position < 2 ^ 62 }
+    ensures passed { (front : List Seen) → HasCome know.now course.old front → IfOk result (HasPassed know.now course.new front) }
     ensures same { OnOk result (IsSameCourse course.old course.new) }
 {
     if course.is_decided() {
-        return Ok(());
+        return course.pass(alloc);
     }
-    let decides = decides(alloc, know, course.nulls(), linkage)?;
+    let Some(linkage) = course.advance(alloc)? else {
+        return Ok(false);
+    };
+    let decides = decides(alloc, know, course.nulls(), &linkage)?;
     course.note(decides);
-    Ok(())
+    Ok(true)
 }
 
 // Whether the linkage decides.

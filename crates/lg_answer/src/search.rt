@@ -4,7 +4,7 @@ ghost use Rattle.lg_gram.specs.Linkages.{Linkage as Seen, linkage_cmp};
 ghost use Rattle.lg_region.specs.Parts.{UnderWhole};
 ghost use Rattle.lg_forest.specs.Forests.{AreWorkers, IsForest};
 ghost use Rattle.lg_rank.specs.Fronts.{IsFront, IsNext};
-ghost use Rattle.lg_rank.specs.Rankings.{given};
+ghost use Rattle.lg_rank.specs.Rankings.{given, passed_over, IsThere};
 ghost use Rattle.lg_sharpen.specs.Sharp.{IsSharpened};
 ghost use Rattle.lg_answer.specs.Searches.{Begins, BeginsSharper, HasFew, HasNoFewer, blanks};
 
@@ -25,7 +25,8 @@ const FEW: u32 = 2;
 
 /// The good linkages of a problem with so many unlinked words, in order. The first are looked for among fewer disjuncts.
 ///
-/// Contracts see `{ positions, nulls, position }`: the problem, how many words are unlinked, and how many linkages were given.
+/// Contracts see `{ positions, nulls, position }`: the problem, how many words are unlinked, and how many linkages were given
+/// or passed over.
 #[derive(Drop)]
 pub(crate) struct Search {
     ranked: Ranked,
@@ -120,7 +121,7 @@ impl Search {
         Ok(Search { ranked, wide: None })
     }
 
-    /// How many linkages of the level were given. No memory.
+    /// How many linkages of the level were given or passed over. No memory.
     pub fn position(&self) -> u64
         ensures { result ≡ self.now.position }
     {
@@ -137,6 +138,18 @@ impl Search {
     {
         let found = self.ranked.next(alloc)?;
         Ok(found)
+    }
+
+    /// Passes over the next linkage of the level without making it: whether there is one. The only error is running out of memory, and
+    /// then nothing has changed.
+    pub fn pass(&mut self, alloc: Global) -> Result<bool, NoMemory>
+        requires { self.old.position < 2 ^ 63 }
+        ensures next { (gs : List Seen) → IsFront linkage_cmp (UnderWhole self.old.positions self.old.nulls) gs → length gs ≡ self.old.position → IfOk result (IsThere (IsNext linkage_cmp (UnderWhole self.old.positions self.old.nulls) gs)) }
+        ensures moved { IfOk result (λ there. self.new ≡ record self.old { position = self.old.position + passed_over there }) }
+        ensures unchanged { OnErr result (self.new ≡ self.old) }
+    {
+        let there = self.ranked.pass(alloc)?;
+        Ok(there)
     }
 
     /// Goes on to one more unlinked word, with all disjuncts of the problem. The only error is running out of memory, and then the

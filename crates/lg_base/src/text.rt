@@ -54,6 +54,13 @@ impl Text {
     {
         self.bytes.as_slice()
     }
+
+    /// The bytes, for an owner of their own. It takes no memory.
+    pub fn into_bytes(self) -> Vec<u8>
+        ensures { result.items ≡ self }
+    {
+        self.bytes
+    }
 }
 
 /// A copy of these bytes.

@@ -1,5 +1,6 @@
 //! What no clause says: that runs come to an end other than running out of memory, and pages and lines that are known from
 //! elsewhere.
+mod audits;
 mod cuts;
 mod exports;
 mod faults;
@@ -106,6 +107,15 @@ fn words_of(alloc: Global, text: &str) -> Result<Vec<String>, Fail> {
         words.push(String::from_str(alloc, word)?)?;
     }
     Ok(words)
+}
+
+// These texts one after another.
+fn all(alloc: Global, texts: &[&str]) -> Result<String, Fail> {
+    let mut whole = String::new(alloc);
+    for text in texts {
+        whole.push_str(text)?;
+    }
+    Ok(whole)
 }
 
 // So many equal parts between two other texts.

@@ -11,6 +11,7 @@ ghost use Rattle.lg_dict.specs.Tables.{at_text, same_text};
 
 use crate::dict::Dict;
 use crate::lengths::Lengths;
+use crate::salted::Salted;
 use crate::tables::{By, Table, list_text};
 use indexmap::IndexMap;
 use lg_base::{NoMemory, Text, copied};
@@ -48,17 +49,17 @@ pub(crate) struct Changes {
 }
 
 impl Changes {
-    /// No changes. It takes no memory.
-    pub(crate) fn new(alloc: Global) -> Changes
+    /// No changes, in tables of this hasher. It takes no memory.
+    pub(crate) fn new(alloc: Global, salted: Salted) -> Changes
         ensures laid { IsLaid result }
         ensures words { result.words.entries ≡ [] }
         ensures macros { result.macros.entries ≡ [] }
     {
         Changes {
-            words: IndexMap::new(alloc),
-            stems: IndexMap::new(alloc),
-            firsts: IndexMap::new(alloc),
-            macros: IndexMap::new(alloc),
+            words: IndexMap::with_hasher(alloc, salted),
+            stems: IndexMap::with_hasher(alloc, salted),
+            firsts: IndexMap::with_hasher(alloc, salted),
+            macros: IndexMap::with_hasher(alloc, salted),
             lengths: Lengths::new(alloc),
         }
     }

@@ -11,6 +11,7 @@ ghost use Rattle.lg_dict.specs.Tables.{text_at, text_keys, is_under};
 ghost use Rattle.lg_dict.specs.declared.tables.By.TheVariants.{Stem, First};
 
 use crate::lengths::Lengths;
+use crate::salted::Salted;
 use crate::tables::{
     By, Macro, Table, lengths_of, list_table, longest_word, macro_table, numbers_under, word_table,
 };
@@ -57,8 +58,9 @@ impl Dict {
         requires { AreEntries entries.items }
         ensures { IfOk result (λ dict. dict ≡ dictionary_of entries.items) }
     {
-        let words = word_table(alloc, &entries)?;
-        let macros = macro_table(alloc, &entries)?;
+        let salted = Salted::by(entries.as_slice());
+        let words = word_table(alloc, salted, &entries)?;
+        let macros = macro_table(alloc, salted, &entries)?;
         let formulas = formulas_of(alloc, entries)?;
         let stems = list_table(alloc, By::Stem, &words)?;
         let firsts = list_table(alloc, By::First, &words)?;
@@ -73,6 +75,11 @@ impl Dict {
             longest,
             lengths,
         })
+    }
+
+    /// The hasher of the tables. No memory.
+    pub(crate) fn salted(&self) -> Salted {
+        *self.words.hasher()
     }
 
     /// The length in bytes of the longest word; 0 where there is no word. No memory.

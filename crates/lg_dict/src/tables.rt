@@ -9,13 +9,15 @@ ghost use Rattle.lg_dict.specs.Tables.{text_entries, text_keys, text_at, at_text
 
 use crate::compound::compound_first;
 use crate::lengths::Lengths;
+use crate::salted::Salted;
 use crate::subscript::stem;
 use indexmap::IndexMap;
 use lg_base::{NoMemory, Text, copied};
 use lg_gram::Entry;
 use std::alloc::Global;
 
-pub(crate) type Table<V> = IndexMap<Vec<u8>, V>;
+/// A table whose keys are words from outside.
+pub(crate) type Table<V> = IndexMap<Vec<u8>, V, Salted>;
 
 /// By what words are listed in a table beside the words.
 #[derive(Clone, Copy, Debug, PartialEq, Eq)]
@@ -34,12 +36,16 @@ pub struct Macro {
 }
 
 /// The number of its entry for each word.
-pub(crate) fn word_table(alloc: Global, entries: &[Entry]) -> Result<Table<usize>, NoMemory>
+pub(crate) fn word_table(
+    alloc: Global,
+    salted: Salted,
+    entries: &[Entry],
+) -> Result<Table<usize>, NoMemory>
     requires { AreEntries entries.now }
     ensures kept { IfOk result (λ table. with_trees (map (λ e. e.formula) entries.now) (text_entries table) ≡ words_with_formulas entries.now) }
     ensures within { IfOk result (λ table. All (λ number. number < length entries.now) (values table)) }
 {
-    let mut table = IndexMap::with_capacity(alloc, entries.len())?;
+    let mut table = IndexMap::with_capacity_and_hasher(alloc, entries.len(), salted)?;
     for (number, entry) in entries.iter().enumerate() {
         add_names(alloc, &mut table, entry.words.items(), number)?;
     }
@@ -47,12 +53,16 @@ pub(crate) fn word_table(alloc: Global, entries: &[Entry]) -> Result<Table<usize
 }
 
 /// The number of its entry, and the entry's level, for each macro.
-pub(crate) fn macro_table(alloc: Global, entries: &[Entry]) -> Result<Table<Macro>, NoMemory>
+pub(crate) fn macro_table(
+    alloc: Global,
+    salted: Salted,
+    entries: &[Entry],
+) -> Result<Table<Macro>, NoMemory>
     requires { AreEntries entries.now }
     ensures kept { IfOk result (λ table. with_macros (map (λ e. e.formula) entries.now) (text_entries table) ≡ macros_with_formulas entries.now) }
     ensures fit { IfOk result (λ table. All (IsMacro (map (λ e. e.formula) entries.now)) (values table)) }
 {
-    let mut table = IndexMap::new(alloc);
+    let mut table = IndexMap::with_hasher(alloc, salted);
     for (number, entry) in entries.iter().enumerate() {
         // the call tells that the formula is within the limits
         let _expr = entry.formula.expr();
@@ -137,7 +147,7 @@ pub(crate) fn list_table(
 ) -> Result<Table<Vec<usize>>, NoMemory>
     ensures { IfOk result (Lists by (text_keys words.now)) }
 {
-    let mut lists = IndexMap::new(alloc);
+    let mut lists = IndexMap::with_hasher(alloc, *words.hasher());
     for number in 0..words.len() {
         list_word(alloc, by, &mut lists, word_at(words, number), number)?;
     }

@@ -73,7 +73,7 @@ impl<'a> View<'a> {
         View {
             alloc,
             base,
-            changes: Changes::new(alloc),
+            changes: Changes::new(alloc, base.salted()),
             longest: base.longest(),
         }
     }

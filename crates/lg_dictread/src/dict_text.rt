@@ -85,7 +85,7 @@ fn read_text<F: Files>(alloc: Global, text: &[u8], files: &mut F) -> Result<Vec<
     tokens_are_utf8();
     runs_are_one_list();
     bytes_are_utf8_or_at_fault();
-    let mut earlier = Earlier::new(alloc);
+    let mut earlier = Earlier::new(alloc, text);
     let mut spot = Spot::START;
     while next_spotted(Marks::Dictionary, text, spot).is_some() {
         spot = read_next(alloc, &mut earlier, text, spot, files)?;

@@ -15,6 +15,7 @@ ghost use Rattle.lg_dictread.specs.Reading.{entry_formula, formula_at, number_of
 
 use crate::define::{Names, Tables};
 use crate::formula::FormulaRead;
+use crate::salted::Salted;
 use crate::table::{Table, add};
 use indexmap::IndexMap;
 use lg_base::{NoMemory, Text, Texts};
@@ -64,19 +65,20 @@ impl lg_expr::Macros for Earlier {
 }
 
 impl Earlier {
-    /// Nothing is read.
-    pub(crate) fn new(alloc: Global) -> Earlier
+    /// Nothing is read of this text.
+    pub(crate) fn new(alloc: Global, text: &[u8]) -> Earlier
         ensures earlier { earlier_of result ≡ nothing }
         ensures kept { IsKept result }
         ensures entries { result.entries.items ≡ [] }
     {
+        let salted = Salted::by(text);
         Earlier {
             tables: Tables {
-                words: IndexMap::new(alloc),
-                macros: IndexMap::new(alloc),
+                words: IndexMap::with_hasher(alloc, salted),
+                macros: IndexMap::with_hasher(alloc, salted),
             },
-            formulas: IndexMap::new(alloc),
-            sections: IndexMap::new(alloc),
+            formulas: IndexMap::with_hasher(alloc, salted),
+            sections: IndexMap::with_hasher(alloc, salted),
             entries: Vec::new(alloc),
         }
     }
@@ -164,7 +166,8 @@ fn remember(
     ensures recalls { OnOk result (length macros.now ≡ 0 → (text : List ℕ) → RecallsAt (text_entries sections.old) (text_entries sections.new) section.entry number text) }
 {
     if !macros.is_empty() {
-        *sections = IndexMap::new(alloc);
+        let salted = *sections.hasher();
+        *sections = IndexMap::with_hasher(alloc, salted);
         return Ok(());
     }
     if let Some(section) = section {

@@ -15,6 +15,7 @@ mod items;
 mod law;
 mod limits;
 mod measure;
+mod salted;
 mod stop;
 mod table;
 mod word_file;

@@ -5,12 +5,13 @@ ghost use Rattle.std.specs.Map.{lookup};
 ghost use Rattle.lg_dictread.specs.Definitions.{same_text};
 ghost use Rattle.lg_dictread.specs.Tables.{text_entries};
 
+use crate::salted::Salted;
 use indexmap::IndexMap;
 use lg_base::{NoMemory, copied};
 use std::alloc::Global;
 
-/// A table of names, in the order in which they were added.
-pub(crate) type Table<V> = IndexMap<Vec<u8>, V>;
+/// A table of names from outside, in the order in which they were added.
+pub(crate) type Table<V> = IndexMap<Vec<u8>, V, Salted>;
 
 /// Gives a name this value, and answers the value that it had.
 pub(crate) fn add<V: Copy>(

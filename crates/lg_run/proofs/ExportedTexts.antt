@@ -16,7 +16,7 @@ use Rattle.lg_script.specs.Codes.{commands_of}
 use Rattle.lg_script.specs.Commands as script_commands
 use Rattle.lg_script.specs.Commands.{CommandView, parses, lists, goes_on, makes, asks, Fault, CommandIs}
 use Rattle.lg_script.specs.Scripts.{Outcome, with_command, LinesGive, ended, passed, command, fault, ScriptIs, not_utf8, lines}
-use Rattle.lg_run.specs.Inputs.{Found, accepted, refused, missing, Reading, Given, OneGiven, RunGiven, GenGiven, ExportGiven, given, Followed, both, ends_refused, ends_missing, FileIs, absent, long, whole, found_in, DictionaryReads, reads, DictionaryInput, found_script, ScriptReads, reads_script, ScriptInput, ScriptsInput, EditsRead, few, many, versions, ExportReads, too_few, quoted, spelled, VersionGiven}
+use Rattle.lg_run.specs.Inputs.{Found, accepted, refused, missing, Reading, Given, OneGiven, RunGiven, GenGiven, ExportGiven, AuditGiven, given, Followed, both, ends_refused, ends_missing, FileIs, absent, long, whole, found_in, DictionaryReads, reads, DictionaryInput, found_script, ScriptReads, reads_script, ScriptInput, ScriptsInput, EditsRead, few, many, versions, ExportReads, too_few, quoted, spelled, VersionGiven}
 use Rattle.lg_run.specs.Exported.{IsDictionaryText, ExportsAreDictionaries}
 
 -- ---- readings
@@ -169,6 +169,7 @@ module _ (read_can : ReadIsExportable) (edited_can : EditedIsExportable) (read_b
   ReadsAgain (RunGiven setup dict know scripts) = Unit {0}
   ReadsAgain (GenGiven seed words sentences) = Unit {0}
   ReadsAgain (ExportGiven text) = IsDictionaryText text
+  ReadsAgain (AuditGiven dict know scripts bytes) = Unit {0}
 
   export_gives : (dictionary script : List ℕ) (n : ℕ) (dict : Dictionary) (commands : List CommandView) → IsExportable dict → AreRead commands → Gives (ExportReads dictionary script n dict commands) ReadsAgain
   export_gives dictionary script n dict commands can h _ _ (too_few count all less) = tt

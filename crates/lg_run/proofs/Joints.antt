@@ -19,9 +19,9 @@ use Rattle.lg_idiom.specs.Overlays.{HasNoJoints}
 use Rattle.lg_script.specs.Codes.{commands_of}
 use Rattle.lg_script.specs.Commands.{CommandView, parses, lists, goes_on, makes, asks}
 use Rattle.lg_script.specs.Histories.{numbered, command_in, command_at, after_command, dictionary_after}
-use Rattle.lg_run.specs.Inputs.{accepted, refused, missing, Reading, Given, OneGiven, RunGiven, GenGiven, ExportGiven, given, Followed, DictionaryInput, KnowledgeInput, ScriptsInput, EditsRead, ScriptsGiven, KnowledgeGiven, VersionGiven, ExportReads, too_few, quoted, spelled, InputsAre}
+use Rattle.lg_run.specs.Inputs.{accepted, refused, missing, Reading, Given, OneGiven, RunGiven, GenGiven, ExportGiven, AuditGiven, given, Followed, FileIs, DictionaryInput, KnowledgeInput, ScriptsInput, EditsRead, ScriptsGiven, KnowledgeGiven, AuditScripts, AuditDocument, AuditKnowledge, VersionGiven, ExportReads, too_few, quoted, spelled, InputsAre}
 use Rattle.lg_run.specs.Joints.{ListsBy, one, run, DictionariesHaveNoJoints}
-use Rattle.lg_run.specs.Words.{Task, One, Run, Gen, Export}
+use Rattle.lg_run.specs.Words.{Task, One, Run, Gen, Export, Audit}
 use Rattle.lg_run.proofs.ExportedTexts.{Gives, followed_gives, given_gives, IsRead, AreRead, AllRead, all_read, there, input_can}
 use Rattle.lg_run.proofs.LeafChoices.{all_in, OfTree, OfTrees, of_choices}
 
@@ -95,6 +95,7 @@ GivesCan (OneGiven setup dict sentence) = IsExportable dict
 GivesCan (RunGiven setup dict know scripts) = IsExportable dict × AllRead scripts
 GivesCan (GenGiven seed words sentences) = Unit {0}
 GivesCan (ExportGiven text) = Unit {0}
+GivesCan (AuditGiven dict know scripts bytes) = Unit {0}
 
 any_gives : {A : Type 0} (reading : Reading A) → Gives reading (λ (a : A). Unit {0})
 any_gives reading names (accepted a) is = tt
@@ -121,6 +122,12 @@ module _ (read_can : ReadIsExportable) (contents : Contents) where
       followed_gives (DictionaryInput contents dictionary) (λ dict. VersionGiven contents dictionary script n dict) IsExportable GivesCan (input_can read_can contents dictionary)
       (λ dict can. followed_gives (Followed (ScriptsInput contents (script ∷ [])) (EditsRead (script ∷ []))) (λ scripts. ExportReads dictionary script n dict (commands_of scripts 0)) AllRead GivesCan
       (all_read contents (script ∷ [])) (λ scripts h. export_gives dictionary script n dict (commands_of scripts 0)))
+  task_gives (Audit dictionary knowledge document files) =
+      followed_gives (DictionaryInput contents dictionary) (λ dict. AuditKnowledge contents dict knowledge document files) IsExportable GivesCan (input_can read_can contents dictionary)
+      (λ dict can. followed_gives (KnowledgeInput contents knowledge) (λ know. AuditDocument contents dict know document files) (λ know. Unit {0}) GivesCan (any_gives (KnowledgeInput contents knowledge))
+      (λ know none. followed_gives (FileIs contents document) (λ bytes. AuditScripts contents dict know bytes files) (λ bytes. Unit {0}) GivesCan (any_gives (FileIs contents document))
+      (λ bytes none. followed_gives (Followed (ScriptsInput contents files) (EditsRead files)) (λ scripts. given (AuditGiven dict know scripts bytes)) AllRead GivesCan (all_read contents files)
+      (λ scripts h. given_gives (AuditGiven dict know scripts bytes) GivesCan tt))))
 
 lists_can : EditedIsExportable → (what : Given) (dict : Dictionary) → GivesCan what → ListsBy what dict → IsExportable dict
 lists_can edited_can _ _ h (one setup dict sentence) = h

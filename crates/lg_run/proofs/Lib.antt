@@ -20,6 +20,7 @@ pub mod Printed
 pub mod Turned
 pub mod JournalFront
 pub mod Shown
+pub mod DocumentLines
 pub mod Numbers
 pub mod MadeAnswers
 pub mod MadeText
@@ -36,3 +37,7 @@ pub mod PlainAnswers
 pub mod ShownInputs
 pub mod DocumentsTell
 pub mod Joints
+pub mod RightPages
+pub mod RightVersions
+pub mod RightAnswers
+pub mod RightRuns

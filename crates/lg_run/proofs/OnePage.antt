@@ -72,7 +72,7 @@ module _ {V : Type 0} where
   dropped_at (suc n) i [] a e = absurd (cc e)
   dropped_at (suc n) i (x ∷ xs) a e = let same : suc (n + i) ≡ suc n + i = omega arith in subst (λ k. slice_get (x ∷ xs) k ≡ Some a) same (dropped_at n i xs a e)
 
-  enumerated_at : (n i : ℕ) (xs : List V) (x : ℕ × V) → slice_get (enumerate_from n xs) i ≡ Some x → (x.0 ≡ n + i) × (slice_get xs i ≡ Some x.1)
+  pub enumerated_at : (n i : ℕ) (xs : List V) (x : ℕ × V) → slice_get (enumerate_from n xs) i ≡ Some x → (x.0 ≡ n + i) × (slice_get xs i ≡ Some x.1)
   enumerated_at n i [] x e = absurd (cc e)
   enumerated_at n zero (y ∷ xs) x e = let same : (n, y) ≡ x = cc in (sym (ap (λ (z : ℕ × V). z.0) same) ∙ omega arith, ap (λ (z : ℕ × V). Some z.1) same)
   enumerated_at n (suc i) (y ∷ xs) x e = let rest = enumerated_at (n + 1) i xs x e in let place = rest.0 in (omega (arith, place), rest.1)
@@ -86,7 +86,7 @@ mapped_at f (x ∷ xs) (suc i) a e = mapped_at f xs i a e
 
 module _ {V : Type 0} {cmp : V → V → Ordering} (total : IsTotalOrder cmp) (Has : V → Type 0) where
   -- no front is longer than one that has all
-  no_longer : (xs ys : List V) → IsFront cmp Has xs → IsFront cmp Has ys → IsAll Has ys → length xs ≤ length ys
+  pub no_longer : (xs ys : List V) → IsFront cmp Has xs → IsFront cmp Has ys → IsAll Has ys → length xs ≤ length ys
   no_longer xs ys f g all = elim (cases_lt (length ys) (length xs)) [
     | inl more ↦
         let x = some_at xs (length ys) more in
@@ -167,7 +167,7 @@ module _ (know : Knowledge) (g : Linkage) where
 one_position : (dict : Dictionary) (words : List (List ℕ)) (ds es : List Disjunct) → IsPositionOf dict words ds → IsPositionOf dict words es → ds ≡ es
 one_position dict words ds es a b = same_sorted disjuncts_total (IsOfWords dict words) ds es a.rise b.rise a.exactly b.exactly
 
-one_problem : (dict : Dictionary) (tokens : List Token) (ps qs : List (List Disjunct)) → IsProblemOf dict tokens ps → IsProblemOf dict tokens qs → ps ≡ qs
+pub one_problem : (dict : Dictionary) (tokens : List Token) (ps qs : List (List Disjunct)) → IsProblemOf dict tokens ps → IsProblemOf dict tokens qs → ps ≡ qs
 one_problem dict tokens ps qs a b = same_by_place ps qs (a.same_length ∙ sym b.same_length) (λ i ds es p q.
     let t = some_at tokens i (omega (arith, slice_get_within ps i ds p, a.same_length)) in
     sym (get_or_from_slice_get ps i ds [] p)
@@ -210,14 +210,14 @@ module _ (positions : List (List Disjunct)) (know : Knowledge) (nulls : Nulls) w
         omega (arith, le, a.count, b.count)
   ]
 
-  one_place : (n k l : ℕ) → IsBehind positions know nulls n k → IsBehind positions know nulls n l → k ≡ l
+  pub one_place : (n k l : ℕ) → IsBehind positions know nulls n k → IsBehind positions know nulls n l → k ≡ l
   one_place n k l a b = omega (arith, place_least n k l a b, place_least n l k b a)
 
   module _ (from want examine : ℕ) where
     abbrev Is : Page → Type 0
     Is page = IsPage positions know nulls from want examine page
 
-    long : (page : Page) (is : Is page) → length page.items ≡ is.looked
+    pub long : (page : Page) (is : Is page) → length page.items ≡ is.looked
     long page is =
         let items = ap (λ l. length l) is.numbered in
         let all : length (drop from is.front) ≡ is.looked = omega (arith, is.within, length-drop from is.front) in

@@ -12,7 +12,7 @@ use Rattle.lg_forest.specs.Forests.{AreWorkers}
 use Rattle.lg_run.specs.declared.setup.Setup.{Setup}
 use Rattle.lg_script.specs.Bounds.{IsCount}
 use Rattle.lg_script.specs.Commands.{IsNumber, written_number}
-use Rattle.lg_run.specs.Words.{Task, One, Run, Gen, Export, HasForm, one_options, run_options, IsKnown, WritesNulls, first, passing, WritesSwitch, on, off, WritesWorkers, value_of, AreOptions, none, apart, joined, GivesNumber, GivesNulls, GivesSwitch, GivesWorkers, Gives, default_look, OptionsAre, is_operand, SENTENCE, SCRIPTS, WritesNumber, IsSeed, IsMadeCount, IsEditCount, TaskIs, one, run, gen, export, AreInRange}
+use Rattle.lg_run.specs.Words.{Task, One, Run, Gen, Export, Audit, HasForm, one_options, run_options, IsKnown, WritesNulls, first, passing, WritesSwitch, on, off, WritesWorkers, value_of, AreOptions, none, apart, joined, GivesNumber, GivesNulls, GivesSwitch, GivesWorkers, Gives, default_look, OptionsAre, is_operand, SENTENCE, SCRIPTS, WritesNumber, IsSeed, IsMadeCount, IsEditCount, TaskIs, one, run, gen, export, audit, AreInRange}
 use Rattle.lg_run.specs.Settings.{name_of, value_kind, named, operand, IsCut}
 use Rattle.lg_run.specs.declared.options.Kind.{Kind}
 use Rattle.lg_run.specs.declared.options.Setting.{Setting}
@@ -179,6 +179,18 @@ pub record IsExportOf (words : List (List ℕ)) (task : Task) : Type 0 where
   pub script_is : IsTrue (is_operand script)
   pub is_count : IsEditCount digits number
 
+-- and of the word `audit`
+pub record IsAuditOf (words : List (List ℕ)) (task : Task) : Type 0 where
+  pub dictionary : List ℕ
+  pub knowledge : List ℕ
+  pub document : List ℕ
+  pub scripts : List (List ℕ)
+  pub same : task ≡ Audit dictionary knowledge document scripts
+  pub split : words ≡ dictionary ∷ knowledge ∷ document ∷ scripts
+  pub operands : AreOperands words
+  pub some : 1 ≤ length scripts
+  pub few : length scripts ≤ SCRIPTS
+
 one_is_not_run : codes "one" ≡ codes "run" → ⊥
 one_is_not_run e = let same : ◌≡◌ {A = ℕ} 111 114 = ap (λ (w : List ℕ). get_or w 0 0) e in absurd (omega arith)
 
@@ -197,6 +209,18 @@ run_is_not_export e = let same : ◌≡◌ {A = ℕ} 114 101 = ap (λ (w : List 
 gen_is_not_export : codes "gen" ≡ codes "export" → ⊥
 gen_is_not_export e = let same : ◌≡◌ {A = ℕ} 103 101 = ap (λ (w : List ℕ). get_or w 0 0) e in absurd (omega arith)
 
+one_is_not_audit : codes "one" ≡ codes "audit" → ⊥
+one_is_not_audit e = let same : ◌≡◌ {A = ℕ} 111 97 = ap (λ (w : List ℕ). get_or w 0 0) e in absurd (omega arith)
+
+run_is_not_audit : codes "run" ≡ codes "audit" → ⊥
+run_is_not_audit e = let same : ◌≡◌ {A = ℕ} 114 97 = ap (λ (w : List ℕ). get_or w 0 0) e in absurd (omega arith)
+
+gen_is_not_audit : codes "gen" ≡ codes "audit" → ⊥
+gen_is_not_audit e = let same : ◌≡◌ {A = ℕ} 103 97 = ap (λ (w : List ℕ). get_or w 0 0) e in absurd (omega arith)
+
+export_is_not_audit : codes "export" ≡ codes "audit" → ⊥
+export_is_not_audit e = let same : ◌≡◌ {A = ℕ} 101 97 = ap (λ (w : List ℕ). get_or w 0 0) e in absurd (omega arith)
+
 is_one : (words : List (List ℕ)) (task : Task) → TaskIs words task → (rest : List (List ℕ)) → words ≡ codes "one" ∷ rest → IsOneOf rest task
 is_one words task (one front setup dictionary sentence are d s short) rest e = record {
   front = front;
@@ -213,6 +237,7 @@ is_one words task (one front setup dictionary sentence are d s short) rest e = r
 is_one words task (run front setup dictionary knowledge scripts are operands some few) rest e = absurd (one_is_not_run cc)
 is_one words task (gen a b c seed n m is_seed is_n is_m) rest e = absurd (one_is_not_gen cc)
 is_one words task (export dictionary script digits n d s is_n) rest e = absurd (one_is_not_export cc)
+is_one words task (audit dictionary knowledge document scripts operands some few) rest e = absurd (one_is_not_audit cc)
 
 is_run : (words : List (List ℕ)) (task : Task) → TaskIs words task → (rest : List (List ℕ)) → words ≡ codes "run" ∷ rest → IsRunOf rest task
 is_run words task (run front setup dictionary knowledge scripts are operands some few) rest e = record {
@@ -231,6 +256,7 @@ is_run words task (run front setup dictionary knowledge scripts are operands som
 is_run words task (one front setup dictionary sentence are d s short) rest e = absurd (one_is_not_run cc)
 is_run words task (gen a b c seed n m is_seed is_n is_m) rest e = absurd (run_is_not_gen cc)
 is_run words task (export dictionary script digits n d s is_n) rest e = absurd (run_is_not_export cc)
+is_run words task (audit dictionary knowledge document scripts operands some few) rest e = absurd (run_is_not_audit cc)
 
 is_gen : (words : List (List ℕ)) (task : Task) → TaskIs words task → (rest : List (List ℕ)) → words ≡ codes "gen" ∷ rest → IsGenOf rest task
 is_gen words task (gen a b c seed n m is_seed is_n is_m) rest e = record {
@@ -249,6 +275,7 @@ is_gen words task (gen a b c seed n m is_seed is_n is_m) rest e = record {
 is_gen words task (one front setup dictionary sentence are d s short) rest e = absurd (one_is_not_gen cc)
 is_gen words task (run front setup dictionary knowledge scripts are operands some few) rest e = absurd (run_is_not_gen cc)
 is_gen words task (export dictionary script digits n d s is_n) rest e = absurd (gen_is_not_export cc)
+is_gen words task (audit dictionary knowledge document scripts operands some few) rest e = absurd (gen_is_not_audit cc)
 
 is_export : (words : List (List ℕ)) (task : Task) → TaskIs words task → (rest : List (List ℕ)) → words ≡ codes "export" ∷ rest → IsExportOf rest task
 is_export words task (export dictionary script digits n d s is_n) rest e = record {
@@ -265,6 +292,26 @@ is_export words task (export dictionary script digits n d s is_n) rest e = recor
 is_export words task (one front setup dictionary sentence are d s short) rest e = absurd (one_is_not_export cc)
 is_export words task (run front setup dictionary knowledge scripts are operands some few) rest e = absurd (run_is_not_export cc)
 is_export words task (gen a b c seed n m is_seed is_n is_m) rest e = absurd (gen_is_not_export cc)
+is_export words task (audit dictionary knowledge document scripts operands some few) rest e = absurd (export_is_not_audit cc)
+
+is_audit : (words : List (List ℕ)) (task : Task) → TaskIs words task → (rest : List (List ℕ)) → words ≡ codes "audit" ∷ rest → IsAuditOf rest task
+is_audit words task (audit dictionary knowledge document scripts operands some few) rest e =
+    let split : dictionary ∷ knowledge ∷ document ∷ scripts ≡ rest = cc in
+    record {
+      dictionary = dictionary;
+      knowledge = knowledge;
+      document = document;
+      scripts = scripts;
+      same = refl;
+      split = sym split;
+      operands = subst AreOperands split operands;
+      some = some;
+      few = few;
+    }
+is_audit words task (one front setup dictionary sentence are d s short) rest e = absurd (one_is_not_audit cc)
+is_audit words task (run front setup dictionary knowledge scripts are operands some few) rest e = absurd (run_is_not_audit cc)
+is_audit words task (gen a b c seed n m is_seed is_n is_m) rest e = absurd (gen_is_not_audit cc)
+is_audit words task (export dictionary script digits n d s is_n) rest e = absurd (export_is_not_audit cc)
 
 first_operand : (word : List ℕ) (words : List (List ℕ)) → AreOperands (word ∷ words) → IsTrue (is_operand word)
 first_operand word words operands = operands 0 [] (omega arith)
@@ -317,6 +364,13 @@ no_export words nowhere task h =
     let is = is_export (codes "export" ∷ words) task h words refl in
     nowhere is.dictionary is.script is.digits is.number is.split is.dictionary_is is.script_is is.is_count
 
+-- words that are no operands, or are too few or too many
+pub no_audit : (words : List (List ℕ)) → ((d k o : List ℕ) (ss : List (List ℕ)) → words ≡ d ∷ k ∷ o ∷ ss → AreOperands words → 1 ≤ length ss → length ss ≤ SCRIPTS → ⊥)
+    → (task : Task) → TaskIs (codes "audit" ∷ words) task → ⊥
+no_audit words nowhere task h =
+    let is = is_audit (codes "audit" ∷ words) task h words refl in
+    nowhere is.dictionary is.knowledge is.document is.scripts is.split is.operands is.some is.few
+
 pub first_three : (a b c d e f : List ℕ) → a ∷ b ∷ c ∷ [] ≡ d ∷ e ∷ f ∷ [] → (a ≡ d) × (b ≡ e) × (c ≡ f)
 first_three a b c d e f h = (cc, cc, cc)
 
@@ -325,6 +379,9 @@ first_two a b c d e = (cc, cc)
 
 pub first_and_rest : (a b d e : List ℕ) (c f : List (List ℕ)) → a ∷ b ∷ c ≡ d ∷ e ∷ f → (a ≡ d) × (b ≡ e) × (c ≡ f)
 first_and_rest a b d e c f h = (cc, cc, cc)
+
+pub three_and_rest : (a b c e f g : List ℕ) (d h : List (List ℕ)) → a ∷ b ∷ c ∷ d ≡ e ∷ f ∷ g ∷ h → (a ≡ e) × (b ≡ f) × (c ≡ g) × (d ≡ h)
+three_and_rest a b c e f g d h s = (cc, cc, cc, cc)
 
 -- by the test that there is none
 pub is_none : (n : ℕ) → true ≡ (n == 0) → n ≡ 0
@@ -399,6 +456,18 @@ is_export_command words command d s c n task_is no_options split is_d is_s is_n 
       short = rw (task_is g.0) is_n.few;
     }
 
+pub is_audit_command : (words : List (List ℕ)) (command : Command) (d k o : List ℕ) (ss : List (List ℕ)) → ((setup : Setup) → task setup command ≡ Audit d k o ss) → option_words command ≡ []
+    → words ≡ d ∷ k ∷ o ∷ ss → AreOperands words → 1 ≤ length ss → length ss ≤ SCRIPTS → IsCommand (codes "audit" ∷ words) command
+is_audit_command words command d k o ss task_is no_options split operands some few =
+    let g = gives_some all_settings [] [] none in
+    record {
+      setup = g.0;
+      are_options = rw no_options (record { settings = []; read = none; given = g.1 });
+      is_task = rw (task_is g.0, split) (audit d k o ss (subst AreOperands split operands) some few);
+      range = g.2;
+      short = rw (task_is g.0) (some, few);
+    }
+
 -- ---- a task is the only one
 
 -- digits write one number
@@ -410,6 +479,9 @@ same_gen a b c d e f g h i = rw (g, h, i) refl
 
 same_export : (d e s t : List ℕ) (n m : ℕ) → d ≡ e → s ≡ t → n ≡ m → Export d s n ≡ Export e t m
 same_export d e s t n m f g h = rw (f, g, h) refl
+
+same_audit : (d e k l o p : List ℕ) (s t : List (List ℕ)) → d ≡ e → k ≡ l → o ≡ p → s ≡ t → Audit d k o s ≡ Audit e l p t
+same_audit d e k l o p s t f g h i = rw (f, g, h, i) refl
 
 -- options are given in one way
 same_setup : (known : List (List ℕ × Kind)) (front other : List (List ℕ)) (x y : Setup) → (h : OptionsAre known front x) → (k : OptionsAre known other y) → h.settings ≡ k.settings → x ≡ y
@@ -447,3 +519,7 @@ one_task words x y (export dictionary script digits n d s is_n) k =
     let is = is_export words y k (dictionary ∷ script ∷ digits ∷ []) refl in
     let same = first_three _ _ _ _ _ _ is.split in
     same_export dictionary is.dictionary script is.script n is.number same.0 same.1 (one_writes 6 _ _ _ _ same.2 is_n.writes is.is_count.writes) ∙ sym is.same
+one_task words x y (audit dictionary knowledge document scripts operands some few) k =
+    let is = is_audit words y k (dictionary ∷ knowledge ∷ document ∷ scripts) refl in
+    let same = three_and_rest _ _ _ _ _ _ _ _ is.split in
+    same_audit dictionary is.dictionary knowledge is.knowledge document is.document scripts is.scripts same.0 same.1 same.2 same.3 ∙ sym is.same

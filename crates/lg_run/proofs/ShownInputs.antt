@@ -1,6 +1,7 @@
 -- What inputs that were accepted are, and so what the document of their run shows.
-use Rattle.std.proofs.Common.{◌≡◌, ℕ, suc, ◌≤◌, ◌<◌, ◌^◌, List, [], ◌∷◌, length, Ok, Err, refl, sym, ap, subst, arith}
+use Rattle.std.proofs.Common.{◌≡◌, ℕ, suc, ◌≤◌, ◌<◌, ◌^◌, List, [], ◌∷◌, length, All, Ok, Err, refl, sym, ap, subst, arith}
 use Rattle.std.specs.List.{AllByRecursion}
+use Rattle.std.proofs.lemmas.List.Elements.{All-from_recursion}
 use Rattle.lg_base.specs.Contents.{Contents}
 use Rattle.lg_dict.specs.Dictionary.{Dictionary}
 use Rattle.lg_dictread.specs.declared.dict_error.DictError.{DictError}
@@ -58,15 +59,15 @@ input_plain contents name _ dict (both bytes ns more _ file text) = read_plain c
 
 record IsPlainScript (commands : List CommandView) : Type 0 where
   single : AllByRecursion HasSingleLines commands
-  short : length commands < 2 ^ 32
+  bounds : AreInBounds commands
 
-abbrev KeepBounds : Type 0
+abbrev pub KeepBounds : Type 0
 KeepBounds = (bytes : List ℕ) (commands : List CommandView) → length bytes ≤ FILE → ScriptIs bytes (Ok commands) → AreInBounds commands
 
-module _ (singles : ScriptsHaveSingleLines) (bounds : KeepBounds) (contents : Contents) where
+module _ (singles : ScriptsHaveSingleLines) (keeps : KeepBounds) (contents : Contents) where
   outcome_plain : (name bytes : List ℕ) (x : Outcome) (commands : List CommandView) → length bytes ≤ FILE → ScriptIs bytes x → found_script name x ≡ accepted commands → IsPlainScript commands
   outcome_plain name bytes (Ok cs) commands small is e =
-      subst IsPlainScript (same_accepted cs commands e) (record { single = singles bytes cs is; short = (bounds bytes cs small is).few })
+      subst IsPlainScript (same_accepted cs commands e) (record { single = singles bytes cs is; bounds = keeps bytes cs small is })
   outcome_plain name bytes (Err error) commands small is e = absurd (cc e)
 
   text_plain : (name bytes : List ℕ) (names : List (List ℕ)) (found : Found (List CommandView)) (commands : List CommandView) → length bytes ≤ FILE → ScriptReads name bytes names found → found ≡ accepted commands → IsPlainScript commands
@@ -125,7 +126,11 @@ singles_of (cs ∷ scripts) h = (h.0.single, singles_of scripts h.1)
 
 shorts_of : (scripts : List (List CommandView)) → AllByRecursion IsPlainScript scripts → AllByRecursion (λ (cs : List CommandView). length cs < 2 ^ 32) scripts
 shorts_of [] h = tt
-shorts_of (cs ∷ scripts) h = (h.0.short, shorts_of scripts h.1)
+shorts_of (cs ∷ scripts) h = (h.0.bounds.few, shorts_of scripts h.1)
+
+bounds_of : (scripts : List (List CommandView)) → AllByRecursion IsPlainScript scripts → AllByRecursion AreInBounds scripts
+bounds_of [] h = tt
+bounds_of (cs ∷ scripts) h = (h.0.bounds, bounds_of scripts h.1)
 
 module _ (singles : ScriptsHaveSingleLines) (bounds : KeepBounds) (in_order : (dict : Dictionary) (text : List ℕ) (tokens : List Token) → AreTokens dict text tokens → LieInOrder text tokens) where
   inputs_of : (contents : Contents) (words : List (List ℕ)) (setup : Setup) (dict : Dictionary) (know : Knowledge) (scripts : List (List CommandView)) (is : IsRunOf contents words setup dict know scripts) → ArePlainInputs singles bounds contents is.files dict scripts
@@ -136,6 +141,9 @@ module _ (singles : ScriptsHaveSingleLines) (bounds : KeepBounds) (in_order : (d
       let inputs = inputs_of contents words setup dict know scripts is in
       let most = few_files words setup is.dictionary is.knowledge is.files is.form in
       record { few = omega (arith, inputs.scripts_are.count, most); each = shorts_of scripts inputs.scripts_are.each }
+
+  pub scripts_in_bounds : (contents : Contents) (words : List (List ℕ)) (setup : Setup) (dict : Dictionary) (know : Knowledge) (scripts : List (List CommandView)) → IsRunOf contents words setup dict know scripts → All AreInBounds scripts
+  scripts_in_bounds contents words setup dict know scripts is = All-from_recursion AreInBounds scripts (bounds_of scripts (inputs_of contents words setup dict know scripts is).scripts_are.each)
 
   pub inputs_are_shown : RunsAreShown → RunsOfInputsAreShown
   inputs_are_shown shown contents contents' words words' setup setup' dict dict' know know' scripts scripts' document is is' one other =

@@ -5,8 +5,8 @@ use Rattle.lg_dict.specs.Dictionary.{Dictionary}
 use Rattle.lg_knowread.specs.declared.fault.KnowError.{KnowError}
 use Rattle.lg_knowread.specs.declared.knowledge.Knowledge.{Knowledge}
 use Rattle.lg_knowread.specs.Reading.{KnowledgeIs}
-use Rattle.lg_run.specs.Words.{Task, One, Run, Gen, Export}
-use Rattle.lg_run.specs.Inputs.{HasSome, IsOne, FileIs, DictionaryInput, found_knowledge, KnowledgeReads, reads_knowledge, KnowledgeInput, ScriptsInput, EditsRead, OneGiven, RunGiven, GenGiven, given, ScriptsGiven, KnowledgeGiven, ExportReads, VersionGiven, InputsAre, Followed}
+use Rattle.lg_run.specs.Words.{Task, One, Run, Gen, Export, Audit}
+use Rattle.lg_run.specs.Inputs.{HasSome, IsOne, FileIs, DictionaryInput, found_knowledge, KnowledgeReads, reads_knowledge, KnowledgeInput, ScriptsInput, EditsRead, OneGiven, RunGiven, GenGiven, AuditGiven, given, ScriptsGiven, KnowledgeGiven, AuditScripts, AuditDocument, AuditKnowledge, ExportReads, VersionGiven, InputsAre, Followed}
 use Rattle.lg_run.specs.declared.setup.Setup.{Setup}
 use Rattle.lg_run.proofs.Readings.{one_given, some_given, some_followed, one_followed}
 use Rattle.lg_run.proofs.ScriptLists.{SomeScript, OneScript, some_within, one_within}
@@ -47,6 +47,12 @@ module _ (dictionaries : OneDictionary) (knowledges : OneKnowledge) (scripts : O
   one_of_versions dictionary script n dict =
       one_followed (Followed (ScriptsInput contents (script ∷ [])) (EditsRead (script ∷ []))) (λ all. ExportReads dictionary script n dict (commands_of all 0)) (one_within contents scripts (script ∷ [])) (λ all. one_version dictionary script n dict (commands_of all 0))
 
+  one_of_audit : (dict : Dictionary) (knowledge document : List ℕ) (names : List (List ℕ)) → IsOne (AuditKnowledge contents dict knowledge document names)
+  one_of_audit dict knowledge document names =
+      one_followed (KnowledgeInput contents knowledge) (λ know. AuditDocument contents dict know document names) (one_knowledge knowledges contents knowledge)
+      (λ know. one_followed (FileIs contents document) (λ bytes. AuditScripts contents dict know bytes names) (one_file contents document)
+      (λ bytes. one_followed (Followed (ScriptsInput contents names) (EditsRead names)) (λ all. given (AuditGiven dict know all bytes)) (one_within contents scripts names) (λ all. one_given (AuditGiven dict know all bytes))))
+
   pub one_verdict : (task : Task) → IsOne (InputsAre contents task)
   one_verdict (One setup dictionary sentence) =
       one_followed (DictionaryInput contents dictionary) (λ dict. given (OneGiven setup dict sentence)) (one_dictionary dictionaries contents dictionary) (λ dict. one_given (OneGiven setup dict sentence))
@@ -55,6 +61,8 @@ module _ (dictionaries : OneDictionary) (knowledges : OneKnowledge) (scripts : O
   one_verdict (Gen seed words sentences) = one_given (GenGiven seed words sentences)
   one_verdict (Export dictionary script n) =
       one_followed (DictionaryInput contents dictionary) (λ dict. VersionGiven contents dictionary script n dict) (one_dictionary dictionaries contents dictionary) (λ dict. one_of_versions dictionary script n dict)
+  one_verdict (Audit dictionary knowledge document names) =
+      one_followed (DictionaryInput contents dictionary) (λ dict. AuditKnowledge contents dict knowledge document names) (one_dictionary dictionaries contents dictionary) (λ dict. one_of_audit dict knowledge document names)
 
 module _ (dictionaries : SomeDictionary) (knowledges : SomeKnowledge) (scripts : SomeScript) (contents : Contents) where
   some_of_scripts : (setup : Setup) (dict : Dictionary) (know : Knowledge) (names : List (List ℕ)) → HasSome (ScriptsGiven contents setup dict know names)
@@ -71,6 +79,13 @@ module _ (dictionaries : SomeDictionary) (knowledges : SomeKnowledge) (scripts :
   some_of_versions dictionary script n dict =
       some_followed (Followed (ScriptsInput contents (script ∷ [])) (EditsRead (script ∷ []))) (λ all. ExportReads dictionary script n dict (commands_of all 0)) (some_within contents scripts (script ∷ [])) (λ all. some_version dictionary script n dict (commands_of all 0))
 
+  some_of_audit : (dict : Dictionary) (knowledge document : List ℕ) (names : List (List ℕ)) → HasSome (AuditKnowledge contents dict knowledge document names)
+  some_of_audit dict knowledge document names =
+      some_followed (KnowledgeInput contents knowledge) (λ know. AuditDocument contents dict know document names)
+      (some_followed (FileIs contents knowledge) (KnowledgeReads knowledge) (some_file contents knowledge) (some_know_text knowledges knowledge))
+      (λ know. some_followed (FileIs contents document) (λ bytes. AuditScripts contents dict know bytes names) (some_file contents document)
+      (λ bytes. some_followed (Followed (ScriptsInput contents names) (EditsRead names)) (λ all. given (AuditGiven dict know all bytes)) (some_within contents scripts names) (λ all. some_given (AuditGiven dict know all bytes))))
+
   pub some_verdict : (task : Task) → HasSome (InputsAre contents task)
   some_verdict (One setup dictionary sentence) =
       some_followed (DictionaryInput contents dictionary) (λ dict. given (OneGiven setup dict sentence)) (some_dictionary dictionaries contents dictionary) (λ dict. some_given (OneGiven setup dict sentence))
@@ -79,3 +94,5 @@ module _ (dictionaries : SomeDictionary) (knowledges : SomeKnowledge) (scripts :
   some_verdict (Gen seed words sentences) = some_given (GenGiven seed words sentences)
   some_verdict (Export dictionary script n) =
       some_followed (DictionaryInput contents dictionary) (λ dict. VersionGiven contents dictionary script n dict) (some_dictionary dictionaries contents dictionary) (λ dict. some_of_versions dictionary script n dict)
+  some_verdict (Audit dictionary knowledge document names) =
+      some_followed (DictionaryInput contents dictionary) (λ dict. AuditKnowledge contents dict knowledge document names) (some_dictionary dictionaries contents dictionary) (λ dict. some_of_audit dict knowledge document names)

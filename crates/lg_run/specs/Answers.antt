@@ -13,11 +13,12 @@ use Rattle.lg_knowread.specs.declared.fault.KnowError.TheVariants as know_errors
 use Rattle.lg_script.specs.declared.script_error.ScriptError.{ScriptError}
 use Rattle.lg_script.specs.declared.script_error.ScriptError.TheVariants as script_errors
 use Rattle.lg_script.specs.Codes.{AreScripts}
-use Rattle.lg_run.specs.Words.{Task, One, Run, Gen, Export, TaskIs, SENTENCE, AreInRange}
-use Rattle.lg_run.specs.Inputs.{Reading, accepted, refused, Given, OneGiven, RunGiven, GenGiven, ExportGiven, InputsAre}
+use Rattle.lg_run.specs.Words.{Task, One, Run, Gen, Export, Audit, TaskIs, SENTENCE, AreInRange}
+use Rattle.lg_run.specs.Inputs.{Reading, accepted, refused, Given, OneGiven, RunGiven, GenGiven, ExportGiven, AuditGiven, InputsAre}
 use Rattle.lg_run.specs.Reads.{Comes, IsOfLast}
 use Rattle.lg_gen.specs.Accepted.{IsMade}
 use Rattle.lg_run.specs.Documents.{DocumentIs, IsOutcome}
+use Rattle.lg_run.specs.Audits.{IsAuditLine}
 use Rattle.lg_run.specs.MadeRuns.{IsMadeDocument}
 use Rattle.lg_run.specs.Lines.{usage_line, memory_line, output_line, unreadable_line, too_long_line, dict_line, know_line, script_line, edits_line, versions_line, quote_line}
 use Rattle.lg_run.specs.Stops.{dict_status}
@@ -58,6 +59,7 @@ IsDocument (OneGiven setup dict sentence) document = DocumentIs setup dict sente
 IsDocument (RunGiven setup dict know scripts) document = IsOutcome setup dict know scripts document
 IsDocument (GenGiven seed words sentences) document = IsMadeDocument seed words sentences document
 IsDocument (ExportGiven text) document = document ≡ text
+IsDocument (AuditGiven dict know scripts bytes) document = IsAuditLine (record { base = dict; know = know; scripts = scripts }) bytes document
 
 -- all inputs were accepted, and their document was written
 pub record WritesDocument (inputs : Reading Given) (asked_old asked_new : List (List ℕ)) (old new : Option (List ℕ)) : Type 0 where
@@ -99,6 +101,7 @@ names_of (One setup dictionary sentence) = dictionary ∷ []
 names_of (Run setup dictionary knowledge scripts) = dictionary ∷ knowledge ∷ scripts
 names_of (Gen seed words sentences) = []
 names_of (Export dictionary script n) = dictionary ∷ script ∷ []
+names_of (Audit dictionary knowledge document scripts) = dictionary ∷ knowledge ∷ document ∷ scripts
 
 -- what is said of a text that is refused: of a file with one of these names, or of the word file that was asked last
 pub data IsRefusal (names asked : List (List ℕ)) : List ℕ → Type 0 where
@@ -169,3 +172,4 @@ IsGivenInBounds (OneGiven setup dict sentence) = AreInRange setup × (length sen
 IsGivenInBounds (RunGiven setup dict know scripts) = AreInRange setup × (length know.rules < 2 ^ 32) × AreScripts scripts
 IsGivenInBounds (GenGiven seed words sentences) = (seed < 2 ^ 32) × IsMade words × IsMade sentences
 IsGivenInBounds (ExportGiven text) = ⊤
+IsGivenInBounds (AuditGiven dict know scripts bytes) = (length know.rules < 2 ^ 32) × AreScripts scripts

@@ -19,7 +19,7 @@ use Rattle.lg_script.specs.Codes.{commands_of}
 use Rattle.lg_script.specs.Commands.{CommandView, makes}
 use Rattle.lg_script.specs.EditNumbers.{edit_counts}
 use Rattle.lg_script.specs.Scripts.{Outcome, ScriptIs}
-use Rattle.lg_run.specs.Words.{Task, One, Run, Gen, Export}
+use Rattle.lg_run.specs.Words.{Task, One, Run, Gen, Export, Audit}
 use Rattle.lg_run.specs.Lines.{too_long_line, dict_line, know_line, script_line, edits_line, versions_line, quote_line}
 use Rattle.lg_run.specs.declared.setup.Setup.{Setup}
 
@@ -128,6 +128,8 @@ pub data Given : Type 0 where
   GenGiven : ℕ → ℕ → ℕ → Given
   -- the text of a version
   ExportGiven : List ℕ → Given
+  -- a dictionary, knowledge, the scripts of sessions, and the bytes of their document
+  AuditGiven : Dictionary → Knowledge → List (List CommandView) → List ℕ → Given
 
 -- the inputs of sessions: the dictionary, the knowledge and the scripts
 abbrev pub ScriptsGiven : Contents → Setup → Dictionary → Knowledge → List (List ℕ) → Reading Given
@@ -135,6 +137,16 @@ ScriptsGiven contents setup dict know names = Followed (Followed (ScriptsInput c
 
 abbrev pub KnowledgeGiven : Contents → Setup → Dictionary → List ℕ → List (List ℕ) → Reading Given
 KnowledgeGiven contents setup dict knowledge names = Followed (KnowledgeInput contents knowledge) (λ know. ScriptsGiven contents setup dict know names)
+
+-- the inputs of an audit: the dictionary, the knowledge, the document, which is refused only if it is too long, and the scripts
+abbrev pub AuditScripts : Contents → Dictionary → Knowledge → List ℕ → List (List ℕ) → Reading Given
+AuditScripts contents dict know document names = Followed (Followed (ScriptsInput contents names) (EditsRead names)) (λ scripts. given (AuditGiven dict know scripts document))
+
+abbrev pub AuditDocument : Contents → Dictionary → Knowledge → List ℕ → List (List ℕ) → Reading Given
+AuditDocument contents dict know document names = Followed (FileIs contents document) (λ bytes. AuditScripts contents dict know bytes names)
+
+abbrev pub AuditKnowledge : Contents → Dictionary → List ℕ → List ℕ → List (List ℕ) → Reading Given
+AuditKnowledge contents dict knowledge document names = Followed (KnowledgeInput contents knowledge) (λ know. AuditDocument contents dict know document names)
 
 -- A dictionary before all edits of a script, and after each that is accepted when it comes. An edit that is refused makes no version,
 -- and other commands are passed over.
@@ -162,3 +174,4 @@ InputsAre contents (One setup dictionary sentence) = Followed (DictionaryInput c
 InputsAre contents (Run setup dictionary knowledge scripts) = Followed (DictionaryInput contents dictionary) (λ dict. KnowledgeGiven contents setup dict knowledge scripts)
 InputsAre contents (Gen seed words sentences) = given (GenGiven seed words sentences)
 InputsAre contents (Export dictionary script n) = Followed (DictionaryInput contents dictionary) (λ dict. VersionGiven contents dictionary script n dict)
+InputsAre contents (Audit dictionary knowledge document scripts) = Followed (DictionaryInput contents dictionary) (λ dict. AuditKnowledge contents dict knowledge document scripts)

@@ -14,6 +14,7 @@ pub mod Documents
 pub mod MadeRuns
 pub mod Sums
 pub mod Shown
+pub mod Audits
 pub mod Answers
 pub mod Listers
 pub mod Written

@@ -9,7 +9,7 @@ use Rattle.lg_dictread.specs.declared.dict_error.DictError.TheVariants as errors
 use Rattle.lg_knowread.specs.declared.fault.KnowError.TheVariants as know_errors
 use Rattle.lg_script.specs.declared.script_error.ScriptError.TheVariants as script_errors
 use Rattle.lg_script.specs.Commands.{script_views}
-use Rattle.lg_run.specs.Inputs.{Found, Reading, accepted, refused, Given, OneGiven, RunGiven, GenGiven, ExportGiven}
+use Rattle.lg_run.specs.Inputs.{Found, Reading, accepted, refused, Given, OneGiven, RunGiven, GenGiven, ExportGiven, AuditGiven}
 use Rattle.lg_run.specs.Lines.{unreadable_line}
 use Rattle.lg_run.specs.Stops.{stop_status, stop_line}
 use Rattle.lg_run.specs.declared.inputs.Inputs.{Inputs}
@@ -90,3 +90,4 @@ given_in (inputs.One setup dict sentence) = OneGiven setup dict sentence.now
 given_in (inputs.Run setup dict know scripts) = RunGiven setup dict know (script_views scripts)
 given_in (inputs.Gen seed words sentences) = GenGiven seed words sentences
 given_in (inputs.Export text) = ExportGiven text.items
+given_in (inputs.Audit dict know scripts document) = AuditGiven dict know (script_views scripts) document.items

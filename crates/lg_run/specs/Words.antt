@@ -1,5 +1,5 @@
--- The form of the words of the command line: `one` or `run`, then options, then operands; `gen` and three numbers; or `export`, two
--- operands and a number.
+-- The form of the words of the command line: `one` or `run`, then options, then operands; `gen` and three numbers; `export`, two
+-- operands and a number; or `audit` and operands.
 use Rattle.std.specs.Prelude.{◌≡◌, ◌≢◌, ℕ, ◌<◌, ◌≤◌, ◌^◌, Bool, true, false, not, IsTrue, List, [], ◌∷◌, ◌++◌, codes, nat_eq, bytes_eq, length, All, Contains, Option, None, Some, if◌then◌else◌}
 use Rattle.lg_answer.specs.Pages.{default_options}
 use Rattle.lg_answer.specs.declared.options.Nulls.{Nulls}
@@ -25,6 +25,8 @@ pub data Task : Type 0 where
   Gen : ℕ → ℕ → ℕ → Task
   -- the text of a version: the names of the dictionary and of a script, and how many of its edits are made
   Export : List ℕ → List ℕ → ℕ → Task
+  -- whether a document of scripts is right: the names of the dictionary, of the knowledge, of the document and of the scripts
+  Audit : List ℕ → List ℕ → List ℕ → List (List ℕ) → Task
 
 -- ---- options
 
@@ -172,7 +174,8 @@ pub record IsEditCount (digits : List ℕ) (n : ℕ) : Type 0 where
 
 -- ---- commands
 
--- `one OPTIONS DICT SENTENCE`, `run OPTIONS DICT KNOWLEDGE SCRIPT..` with 1 to 64 scripts, `gen SEED WORDS SENTENCES`, and `export DICT SCRIPT N`
+-- `one OPTIONS DICT SENTENCE`, `run OPTIONS DICT KNOWLEDGE SCRIPT..` with 1 to 64 scripts, `gen SEED WORDS SENTENCES`, `export DICT SCRIPT N`,
+-- and `audit DICT KNOWLEDGE DOCUMENT SCRIPT..` with 1 to 64 scripts
 pub data TaskIs : List (List ℕ) → Task → Type 0 where
   one : (front : List (List ℕ)) (setup : Setup) (dictionary sentence : List ℕ) → OptionsAre one_options front setup
       → IsTrue (is_operand dictionary) → IsTrue (is_operand sentence) → length sentence ≤ SENTENCE
@@ -184,6 +187,9 @@ pub data TaskIs : List (List ℕ) → Task → Type 0 where
       → TaskIs (codes "gen" ∷ a ∷ b ∷ c ∷ []) (Gen seed words sentences)
   export : (dictionary script digits : List ℕ) (n : ℕ) → IsTrue (is_operand dictionary) → IsTrue (is_operand script) → IsEditCount digits n
       → TaskIs (codes "export" ∷ dictionary ∷ script ∷ digits ∷ []) (Export dictionary script n)
+  audit : (dictionary knowledge document : List ℕ) (scripts : List (List ℕ)) → All (λ word. IsTrue (is_operand word)) (dictionary ∷ knowledge ∷ document ∷ scripts)
+      → 1 ≤ length scripts → length scripts ≤ SCRIPTS
+      → TaskIs (codes "audit" ∷ dictionary ∷ knowledge ∷ document ∷ scripts) (Audit dictionary knowledge document scripts)
 
 -- ---- what holds of each task
 
@@ -194,6 +200,7 @@ IsShort (One setup dictionary sentence) = length sentence ≤ SENTENCE
 IsShort (Run setup dictionary knowledge scripts) = (1 ≤ length scripts) × (length scripts ≤ SCRIPTS)
 IsShort (Gen seed words sentences) = (seed < 2 ^ 32) × IsMade words × IsMade sentences
 IsShort (Export dictionary script n) = n ≤ 100000
+IsShort (Audit dictionary knowledge document scripts) = (1 ≤ length scripts) × (length scripts ≤ SCRIPTS)
 
 -- its numbers are those that an option may set
 pub record HasCounts (options : Options) : Type 0 where

@@ -37,6 +37,13 @@ pub enum Command<'a> {
         /// How many edits are made.
         number: u32,
     },
+    /// Whether a document of scripts is right.
+    Audit {
+        dictionary: &'a str,
+        knowledge: &'a str,
+        document: &'a str,
+        scripts: &'a [String],
+    },
 }
 
 impl<'a> Command<'a> {
@@ -46,7 +53,7 @@ impl<'a> Command<'a> {
     {
         match self {
             Command::One { options, .. } | Command::Run { options, .. } => options,
-            Command::Gen { .. } | Command::Export { .. } => &[],
+            Command::Gen { .. } | Command::Export { .. } | Command::Audit { .. } => &[],
         }
     }
 }
@@ -59,8 +66,8 @@ const SCRIPTS: usize = 64;
 
 /// The command that the words ask for. None where they are in no form.
 ///
-/// The first word is `one`, `run`, `gen` or `export`. After the first two stand options, each at most once and in any order, in
-/// two words or joined by `=`: `--want N` and `--examine N`, where N is one to seven digits that write a number from 1 to
+/// The first word is `one`, `run`, `gen`, `export` or `audit`. After the first two stand options, each at most once and in any
+/// order, in two words or joined by `=`: `--want N` and `--examine N`, where N is one to seven digits that write a number from 1 to
 /// 1,000,000, `--nulls first` or `--nulls passing`, `--prune`, `--stats`, `--diagram` and `--idioms`, each with `on` or `off`,
 /// and `--workers N`, where N is such a number from 1 to 16; and after `run` alone `--usage` with `on` or `off`. If an option is
 /// left out, want is 10, examine is 1000, nulls is first, prune is on, stats, diagram, idioms and usage are off, and workers is
@@ -68,7 +75,8 @@ const SCRIPTS: usize = 64;
 /// 67,108,864 bytes, and `run` has DICT, KNOWLEDGE and 1 to 64 scripts. After `gen` stand three words of digits alone: a seed of
 /// up to ten digits that write a number below 2^32, and the numbers of words and of sentences, each of up to six digits that
 /// write a number from 1 to 100,000. After `export` stand DICT and SCRIPT, which do not begin with `-`, and the number of edits:
-/// up to six digits that write a number up to 100,000.
+/// up to six digits that write a number up to 100,000. After `audit` stand DICT, KNOWLEDGE, DOCUMENT and 1 to 64 scripts, none of
+/// which begins with `-`.
 pub fn command_of(words: &[String]) -> Option<Command<'_>>
     ensures { MatchOption result
         ((t : Task) → TaskIs (map string_bytes words.now) t → ⊥)
@@ -80,6 +88,7 @@ pub fn command_of(words: &[String]) -> Option<Command<'_>>
         "run" => run_of(rest),
         "gen" => gen_of(rest),
         "export" => export_of(rest),
+        "audit" => audit_of(rest),
         _ => None,
     }
 }
@@ -152,6 +161,23 @@ fn export_of(words: &[String]) -> Option<Command<'_>>
     })
 }
 
+fn audit_of(words: &[String]) -> Option<Command<'_>>
+    ensures { MatchOption result
+        ((t : Task) → TaskIs (codes "audit" ∷ map string_bytes words.now) t → ⊥)
+        (IsCommand (codes "audit" ∷ map string_bytes words.now)) }
+{
+    let (dictionary, knowledge, document, scripts) = three_and_more(words)?;
+    if scripts.is_empty() || scripts.len() > SCRIPTS || !are_operands(words) {
+        return None;
+    }
+    Some(Command::Audit {
+        dictionary,
+        knowledge,
+        document,
+        scripts,
+    })
+}
+
 // The words, where there are three.
 fn files_and_number(words: &[String]) -> Option<(&str, &String, &str)>
     ensures { MatchOption result
@@ -189,6 +215,17 @@ fn two_of(words: &[String]) -> Option<(&str, &str)>
         return None;
     }
     Some((first, second))
+}
+
+// The first three words and those behind them, where there are three.
+fn three_and_more(words: &[String]) -> Option<(&str, &str, &str, &[String])>
+    ensures { MatchOption result
+        ((a b c : List ℕ) (behind : List (List ℕ)) → map string_bytes words.now ≡ a ∷ b ∷ c ∷ behind → ⊥)
+        (λ cut. map string_bytes words.now ≡ cut.0.now ∷ cut.1.now ∷ cut.2.now ∷ map string_bytes cut.3.now) }
+{
+    let (first, rest) = words.split_first()?;
+    let (second, third, behind) = two_and_more(rest)?;
+    Some((first.as_str(), second, third, behind))
 }
 
 // The first two words and those behind them, where there are two.

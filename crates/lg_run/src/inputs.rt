@@ -9,8 +9,11 @@ ghost use Rattle.lg_run.specs.Inputs.{FileIs, DictionaryReads, DictionaryInput, 
 ghost use Rattle.lg_run.specs.Reads.{AsksInOrder, AsksMore, Tells, HasCause, IsAbout, IsNoFault, given_in};
 ghost use Rattle.lg_run.specs.Answers.{names_of, IsGivenInBounds};
 
+mod audit;
+
 use crate::command::Command;
 use crate::export::{first_commands, version_text};
+use crate::inputs::audit::inputs_of_audit;
 use crate::knowledge::read_know;
 use crate::script::read_scripts;
 use crate::setup::Setup;
@@ -46,6 +49,13 @@ pub enum Inputs<'a> {
     /// The text of a version of the dictionary.
     Export {
         text: Vec<u8>,
+    },
+    /// A document of scripts, and all that it is audited by.
+    Audit {
+        dict: Dict,
+        know: Knowledge,
+        scripts: Scripts,
+        document: Vec<u8>,
     },
 }
 
@@ -94,6 +104,12 @@ pub fn read_inputs<'a, F: Files>(
             script,
             number,
         } => inputs_of_export(alloc, files, dictionary, script, number),
+        Command::Audit {
+            dictionary,
+            knowledge,
+            document,
+            scripts,
+        } => inputs_of_audit(alloc, files, dictionary, knowledge, document, scripts),
     }
 }
 
@@ -280,7 +296,7 @@ fn exported<'a>(
 }
 
 /// The dictionary with this name.
-fn read_dictionary<'a, F: Files>(
+pub(crate) fn read_dictionary<'a, F: Files>(
     alloc: Global,
     files: &mut F,
     name: &'a str,

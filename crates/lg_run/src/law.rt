@@ -2,6 +2,7 @@
 ghost use Rattle.std.specs.Prelude.{◌≡◌, ℕ, List};
 ghost use Rattle.lg_base.specs.Contents.{Contents};
 ghost use Rattle.lg_run.specs.Words.{Task, TaskIs};
+ghost use Rattle.lg_run.specs.Audits.{DocumentsHold};
 ghost use Rattle.lg_run.specs.Exported.{ExportsAreDictionaries};
 ghost use Rattle.lg_run.specs.Inputs.{InputsAre, HasSome, IsOne};
 ghost use Rattle.lg_run.specs.Joints.{DictionariesHaveNoJoints};
@@ -9,6 +10,7 @@ ghost use Rattle.lg_run.specs.Shown.{OutcomesAreShown, RunsAreShown, RunsOfInput
 ghost use Rattle.lg_run.specs.PlainInputs.{DictionariesArePlain, EditsKeepPlain};
 ghost use Rattle.lg_run.specs.Determined.{AnswersAreDetermined, DocumentsTellAnswers};
 
+use lg_audit::answers_are_shown;
 use lg_dictread::exactly_one_dictionary;
 use lg_export::{
     edited_dictionaries_are_exportable, exports_read_back, read_dictionaries_are_exportable,
@@ -86,4 +88,15 @@ pub fn dictionaries_have_no_joints()
 {
     edited_dictionaries_are_exportable();
     read_dictionaries_are_exportable();
+}
+
+/// What a run without idioms writes holds as an audit asks: its document is the lines of one whose journal has just the edits that were
+/// published and each of whose answers holds. The function does nothing: a caller whose proof needs the fact calls it.
+pub fn documents_hold()
+    ensures { DocumentsHold }
+{
+    scripts_have_single_lines();
+    scripts_keep_bounds();
+    tokens_lie_in_order();
+    answers_are_shown();
 }

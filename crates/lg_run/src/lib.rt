@@ -1,6 +1,7 @@
 //! The top call: the words of the command line, the order of the work, and how a run ends.
 #![tactic(auto)]
 
+mod audit;
 mod command;
 mod export;
 mod inputs;
@@ -22,8 +23,8 @@ mod top;
 mod usage;
 
 pub use law::{
-    answers_are_determined, dictionaries_are_plain, dictionaries_have_no_joints, documents_show,
-    exports_are_dictionaries, inputs_have_one_verdict, words_have_one_task,
+    answers_are_determined, dictionaries_are_plain, dictionaries_have_no_joints, documents_hold,
+    documents_show, exports_are_dictionaries, inputs_have_one_verdict, words_have_one_task,
 };
 pub use status::Status;
 pub use top::run;

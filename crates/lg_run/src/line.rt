@@ -234,6 +234,15 @@ fn refusal(alloc: Global, name: &[u8], why: &[Piece<'_>]) -> Result<Vec<u8>, NoM
     Ok(line)
 }
 
+/// These pieces, one after another.
+pub(crate) fn joined(alloc: Global, pieces: &[Piece<'_>]) -> Result<Vec<u8>, NoMemory>
+    ensures { IfOk result (λ text. text.items ≡ flat_map piece_text pieces.now) }
+{
+    let mut text = Vec::new(alloc);
+    write_pieces(&mut text, pieces)?;
+    Ok(text)
+}
+
 fn write_pieces(out: &mut Vec<u8>, pieces: &[Piece<'_>]) -> Result<(), NoMemory>
     ensures { OnOk result (out.new.items ≡ out.old.items ++ flat_map piece_text pieces.now) }
 {

@@ -5,7 +5,7 @@ ghost use Rattle.lg_base.specs.Faults.{Rose};
 ghost use Rattle.lg_base.specs.Sinks.{AppendsFront, HasWriteCause};
 ghost use Rattle.lg_script.specs.Commands.{script_views};
 ghost use Rattle.lg_run.specs.Words.{SENTENCE, AreInRange};
-ghost use Rattle.lg_run.specs.Inputs.{OneGiven, RunGiven};
+ghost use Rattle.lg_run.specs.Inputs.{OneGiven, RunGiven, AuditGiven};
 ghost use Rattle.lg_run.specs.Lines.{line_about};
 ghost use Rattle.lg_run.specs.Reads.{AsksInOrder, AsksMore, given_in};
 ghost use Rattle.lg_run.specs.Written.{HasHaltCause};
@@ -13,6 +13,7 @@ ghost use Rattle.lg_run.specs.Shown.{ShowsWhatItSays};
 ghost use Rattle.lg_run.specs.Stops.{dict_status, SaysOf, EndsAs, EndsWithLine};
 ghost use Rattle.lg_run.specs.Answers.{WhereTold, IsNoTask, Unwritten, Caused, Told, AnswersRefused, AnswersAccepted, WritesLine, WritesLineFront, Finishes, Documents, last_line, IsStopped, IsGivenInBounds};
 
+use crate::audit::audit_text;
 use crate::command::command_of;
 use crate::inputs::{Inputs, read_inputs};
 use crate::law::{documents_show, inputs_have_one_verdict, words_have_one_task};
@@ -39,8 +40,8 @@ use std::thread::Threads;
 /// to `out`: that of a run one piece an answer and a last one for the journal, and every other in one piece. Every status but
 /// Done has one line on `err`; a fault of `err` changes no status.
 ///
-/// `words` is the command line without the program's name. The gate is called before each command of each session; it is no matter
-/// of what is written.
+/// `words` is the command line without the program's name. The gate is called before each command of each session; it does not
+/// affect what is written.
 ///
 /// However it ends, the files have their contents still; the names asked and the counts of faults may have grown, and each sink
 /// may have got a front part of what was to be written.
@@ -160,6 +161,12 @@ fn write_document<R: Threads + Sync, O: Sink, G: Gate>(
             sentences,
         } => write_made(rt, alloc, *seed, *words, *sentences, out, gate),
         Inputs::Export { text } => put(out, text),
+        Inputs::Audit {
+            dict,
+            know,
+            scripts,
+            document,
+        } => write_audit(alloc, dict, know, scripts, document, out),
     }
 }
 
@@ -204,6 +211,25 @@ fn write_sessions<R: Threads + Sync, O: Sink, G: Gate>(
     };
     match usage_lines(alloc, setup.usage, scripts, outcome.replies.items()) {
         Ok(lines) => write_outcome(alloc, scripts, &outcome, setup.look, &lines, out),
+        Err(NoMemory) => Err(Halt::Memory),
+    }
+}
+
+// Writes the line of an audit.
+fn write_audit<O: Sink>(
+    alloc: Global,
+    dict: &Dict,
+    know: &Knowledge,
+    scripts: &Scripts,
+    document: &[u8],
+    out: &mut O,
+) -> Result<(), Halt>
+    requires bounds { IsGivenInBounds (AuditGiven dict.now know.now (script_views scripts.now) document.now) }
+    ensures written { Documents (AuditGiven dict.now know.now (script_views scripts.now) document.now) (O.written out.old) (O.written out.new) result }
+    ensures cause { HasHaltCause (O.faults out.old) (O.faults out.new) result }
+{
+    match audit_text(alloc, dict, know, scripts, document) {
+        Ok(text) => put(out, &text),
         Err(NoMemory) => Err(Halt::Memory),
     }
 }

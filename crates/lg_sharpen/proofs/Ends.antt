@@ -8,9 +8,9 @@ use Rattle.lg_gram.specs.Linkages.{Linkage, link_length}
 use Rattle.lg_gram.specs.Rules.{chosen_at, left_list, right_list, HasLink}
 use Rattle.lg_gram.specs.declared.disjunct.Disjunct.{Disjunct}
 use Rattle.lg_gram.specs.declared.linkage.Link.{Link}
-use Rattle.lg_sharpen.specs.Sites.{own, place_on, across, MatchOn, IsBeforeOf}
+use Rattle.lg_sharpen.specs.Sites.{own, place_on, across, MatchOn, IsBeforeOf, IsBehindOf}
 use Rattle.lg_member.specs.Members.{list_on}
-use Rattle.lg_sharpen.specs.Bounds.{list_at, Fits, IsNearest, HasFarther, HasNearer, Allows, Covers}
+use Rattle.lg_sharpen.specs.Bounds.{list_at, Fits, IsNearest, HasFarther, HasNearer, HasAway, Needs, Allows, Covers}
 use Rattle.lg_sharpen.specs.declared.site.Site.{Site}
 use Rattle.lg_member.proofs.Linked.{linked_at}
 use Rattle.lg_sharpen.proofs.Apart.{is_short}
@@ -154,21 +154,21 @@ near_link most g f right l h true p =
     ]
 
 -- a link whose connector has another one behind it
-pub has_farther : (most : ℕ) (g : Linkage) → Fits most g → (right : Bool) (l : Link) → HasLink g l → place_on right l + 1 < length (list_at right g (own right l)) → HasFarther g right l
-has_farther most g f right l h w =
+pub has_farther : (most : ℕ) (g : Linkage) → Fits most g → (right : Bool) (n : ℕ) (l : Link) → HasLink g l → ((e : Link) → HasLink g e → own right e ≡ own right l → link_length e < n) → place_on right l + 1 < length (list_at right g (own right l)) → HasFarther g right n l
+has_farther most g f right n l h short w =
     let j = joined most g f right l h in
     let at = slice_get-get_or (list_at right g (own right l)) (place_on right l + 1) j.0 w in
     let k = served most g f right (own right l) (place_on right l + 1) _ at in
     let kp = k.3 in
-    (k.0, k.1, k.2, longer most g f right l k.0 h k.1 (sym k.2) (omega arith))
+    (k.0, k.1, k.2, longer most g f right l k.0 h k.1 (sym k.2) (omega arith), short k.0 k.1 k.2)
 
 pub fewer_before : (g : Linkage) (right : Bool) (l : Link) (n m : ℕ) → m ≤ n → (n ≡ 0) ⊎ HasNearer g right n l → (m ≡ 0) ⊎ HasNearer g right m l
 fewer_before g right l n m le (inl z) = inl (omega arith)
 fewer_before g right l n m le (inr e) = let a = e.3 in inr (e.0, e.1, e.2, omega arith, e.4)
 
 -- links farther than both ends of a link would cross
-both_farther : (most : ℕ) (g : Linkage) → Fits most g → (l : Link) → HasLink g l → HasFarther g true l → HasFarther g false l → ⊥
-both_farther most g f l h a b =
+both_farther : (most : ℕ) (g : Linkage) → Fits most g → (l : Link) → HasLink g l → (n m : ℕ) → HasFarther g true n l → HasFarther g false m l → ⊥
+both_farther most g f l h n m a b =
     let w = f.rules.matched.forward l h in
     let wa = f.rules.matched.forward a.0 a.1 in
     let wb = f.rules.matched.forward b.0 b.1 in
@@ -178,9 +178,53 @@ both_farther most g f l h a b =
     let lb : l.right - l.left < b.0.right - b.0.left = b.3 in
     f.rules.planar b.0 a.0 b.1 a.1 (omega arith) (omega arith) (omega arith)
 
-pub farther_cross : (most : ℕ) (g : Linkage) → Fits most g → (right : Bool) (l : Link) → HasLink g l → HasFarther g right l → HasFarther g (not right) l → ⊥
-farther_cross most g f true l h a b = both_farther most g f l h a b
-farther_cross most g f false l h a b = both_farther most g f l h b a
+pub farther_cross : (most : ℕ) (g : Linkage) → Fits most g → (right : Bool) (l : Link) → HasLink g l → (n m : ℕ) → HasFarther g right n l → HasFarther g (not right) m l → ⊥
+farther_cross most g f true l h n m a b = both_farther most g f l h n m a b
+farther_cross most g f false l h n m a b = both_farther most g f l h m n b a
+
+-- under a farther link of one end, the links of the other end that lead away end no farther than that
+away_under : (most : ℕ) (g : Linkage) → Fits most g → (right : Bool) (l : Link) → HasLink g l → (n m : ℕ) → HasFarther g right n l → HasAway g (not right) m (own (not right) l) → link_length l + m < n
+away_under most g f true l h n m a b =
+    let w = f.rules.matched.forward l h in
+    let wa = f.rules.matched.forward a.0 a.1 in
+    let wb = f.rules.matched.forward b.0 b.1 in
+    let ea : a.0.left ≡ l.left = a.2 in
+    let eb : b.0.left ≡ l.right = b.2 in
+    let la : l.right - l.left < a.0.right - a.0.left = a.3 in
+    let na : a.0.right - a.0.left < n = a.4 in
+    let lb : m ≤ b.0.right - b.0.left = b.3 in
+    let r : (l.right - l.left) + m < n = elim (cases_lt a.0.right b.0.right) [
+      | inl cross ↦ absurd (f.rules.planar a.0 b.0 a.1 b.1 (omega arith) (omega arith) cross)
+      | inr under ↦ omega arith
+    ] in
+    r
+away_under most g f false l h n m a b =
+    let w = f.rules.matched.forward l h in
+    let wa = f.rules.matched.forward a.0 a.1 in
+    let wb = f.rules.matched.forward b.0 b.1 in
+    let ea : a.0.right ≡ l.right = a.2 in
+    let eb : b.0.right ≡ l.left = b.2 in
+    let la : l.right - l.left < a.0.right - a.0.left = a.3 in
+    let na : a.0.right - a.0.left < n = a.4 in
+    let lb : m ≤ b.0.right - b.0.left = b.3 in
+    let r : (l.right - l.left) + m < n = elim (cases_lt b.0.left a.0.left) [
+      | inl cross ↦ absurd (f.rules.planar b.0 a.0 b.1 a.1 cross (omega arith) (omega arith))
+      | inr under ↦ omega arith
+    ] in
+    r
+
+pub needs_fit : (most : ℕ) (g : Linkage) → Fits most g → (right : Bool) (l : Link) → HasLink g l → (n m : ℕ) → HasFarther g right n l → Needs g (not right) m (own (not right) l) → link_length l + m < n
+needs_fit most g f right l h n m a (inl z) = let x = a.3 in let y = a.4 in omega arith
+needs_fit most g f right l h n m a (inr b) = away_under most g f right l h n m a b
+
+-- seen from the other end
+pub needs_fit_other : (most : ℕ) (g : Linkage) → Fits most g → (right : Bool) (l : Link) → HasLink g l → (n m : ℕ) → HasFarther g (not right) n l → Needs g right m (own right l) → link_length l + m < n
+needs_fit_other most g f true l h n m a b = needs_fit most g f false l h n m a b
+needs_fit_other most g f false l h n m a b = needs_fit most g f true l h n m a b
+
+pub fewer_needs : (g : Linkage) (right : Bool) (i n m : ℕ) → m ≤ n → Needs g right n i → Needs g right m i
+fewer_needs g right i n m le (inl z) = inl (omega arith)
+fewer_needs g right i n m le (inr e) = let a = e.3 in inr (e.0, e.1, e.2, omega arith)
 
 -- links nearer than both ends of a link have room
 nearer_fit : (most : ℕ) (g : Linkage) → Fits most g → (l : Link) → HasLink g l → (n m : ℕ) → HasNearer g true n l → HasNearer g false m l → n + m ≤ link_length l
@@ -219,3 +263,17 @@ before_is most g f right i sites c l h o (suc q) r pl w is =
     let kp = k.3 in
     let low = is.other q _ (omega arith) at in
     inr (k.0, k.1, k.2 ∙ sym o, omega arith, longer most g f right k.0 l k.1 h (k.2 ∙ sym o) (omega arith))
+
+-- what the place behind says of a link
+pub behind_is : (most : ℕ) (g : Linkage) → Fits most g → (right : Bool) (i : ℕ) (sites : List Site) → Covers g right i sites → (l : Link) → HasLink g l → own right l ≡ i → (p r : ℕ) → place_on right l ≡ p → (s : Site) → slice_get sites p ≡ Some s
+    → IsBehindOf sites p r → HasFarther g right s.behind l → HasFarther g right r l
+behind_is most g f right i sites c l h o p r pl s at is a =
+    elim (cases_lt (p + 1) (length sites)) [
+      | inl w ↦ (let next = slice_get-get_or sites (p + 1) s w in
+          let k = covered most g f right i sites c (p + 1) _ next w in
+          let kp = k.3 in
+          let ke = k.4.end in
+          let le = is.other _ next in
+          (k.0, k.1, k.2 ∙ sym o, longer most g f right l k.0 h k.1 (o ∙ sym k.2) (omega arith), omega arith))
+      | inr w ↦ (let le = is.last s at w in let x = a.4 in (a.0, a.1, a.2, a.3, omega arith))
+    ]

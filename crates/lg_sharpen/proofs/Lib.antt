@@ -5,4 +5,5 @@ pub mod Tables
 pub mod Standing
 pub mod Under
 pub mod Rows
+pub mod Away
 pub mod Pruned

@@ -9,48 +9,50 @@ use Rattle.lg_gram.specs.Connectors.{Connector}
 use Rattle.lg_gram.specs.Linkages.{Linkage, link_length}
 use Rattle.lg_gram.specs.Rules.{HasLink}
 use Rattle.lg_gram.specs.declared.linkage.Link.{Link}
-use Rattle.lg_sharpen.specs.Sites.{own, place_on, across, MatchOn, Holds, HasPartner, IsFrom, IsBelow, IsFromOf, IsEndOf, IsBeforeOf, IsAfter, IsAhead}
-use Rattle.lg_sharpen.specs.Bounds.{Fits, IsNearest, HasFarther, HasNearer, AllowsGaps, Allows, Covers, AllowsAll, IsNarrowed, Narrows, NarrowsAll}
+use Rattle.lg_sharpen.specs.Sites.{own, place_on, across, MatchOn, Holds, HasPartner, IsFrom, IsBelow, IsFromOf, IsEndOf, IsBeforeOf, IsBehindOf, IsAfter, IsAhead}
+use Rattle.lg_sharpen.specs.Bounds.{Fits, IsNearest, Needs, AllowsGaps, Allows, Covers, AllowsAll, IsNarrowed, Narrows, NarrowsAll}
 use Rattle.lg_member.specs.Cells.{Table}
 use Rattle.lg_member.specs.declared.side.Side.{Side}
 use Rattle.lg_sharpen.specs.Filling.{MaySpan}
 use Rattle.lg_sharpen.specs.declared.gaps.Gaps.{Gaps}
 use Rattle.lg_sharpen.specs.declared.site.Site.{Site}
-use Rattle.lg_sharpen.proofs.Ends.{longer, joined, is_across, short_on, covered, near_link, farther_cross, before_fit, before_is}
+use Rattle.lg_sharpen.specs.declared.site.Span.{Span}
+use Rattle.lg_sharpen.proofs.Ends.{longer, joined, is_across, short_on, covered, near_link, farther_cross, before_fit, before_is, behind_is, needs_fit, needs_fit_other}
 
 match_same : (right : Bool) (a b c d : Connector) → a ≡ c → b ≡ d → MatchOn right a b → MatchOn right c d
 match_same right a b c d e f m = subst (λ z. MatchOn right z d) e (subst (λ z. MatchOn right a z) f m)
 
 -- a link has a partner of its site in the table, over its length
 has_partner : (right : Bool) (most : ℕ) (gaps : Gaps) (i : ℕ) (table : Table Site) (g : Linkage) → Fits most g → AllowsGaps g gaps → AllowsAll g (not right) table → (l : Link) → HasLink g l → own right l ≡ i
-    → (s asked : Site) → Allows g right l s → asked.connector ≡ s.connector → (asked.nearest ≡ true → IsNearest g right l) → (asked.later ≡ true → HasFarther g right l)
-    → (asked.before ≡ 0) ⊎ HasNearer g right asked.before l → HasPartner right most gaps i table asked (link_length l)
-has_partner right most gaps i table g f spans all l h o s asked a ec near later before =
+    → (s : Site) → Allows g right l s → HasPartner right most gaps i table s (link_length l)
+has_partner right most gaps i table g f spans all l h o s a =
     let u = all l h in
     let j = joined most g f right l h in
     let far = subst (λ z. own (not right) l ≡ across right z (link_length l)) o (is_across right l (f.rules.matched.forward l h)) in
-    let x : j.0 ≡ asked.connector = same_Some j.0 s.connector (sym j.2 ∙ a.connector) ∙ sym ec in
+    let x : j.0 ≡ s.connector = same_Some j.0 s.connector (sym j.2 ∙ a.connector) in
     let y : j.1 ≡ u.0.connector = same_Some j.1 u.0.connector (sym j.3 ∙ u.2.connector) in (
       u.0,
       subst (λ z. Holds table z u.0) far u.1,
       record {
         from = u.2.from;
         end = u.2.end;
-        own = λ n. subst (λ z. MaySpan right gaps z (link_length l)) o (spans right l h (near n));
+        own = λ n. subst (λ z. MaySpan right gaps z (link_length l)) o (spans right l h (a.nearest n));
         lone = λ n. record {
           span = subst (λ z. MaySpan (not right) gaps z (link_length l)) far (spans (not right) l h (u.2.nearest n));
-          short = λ m. short_on most g f right l h (near m) (u.2.nearest n);
+          short = λ m. short_on most g f right l h (a.nearest m) (u.2.nearest n);
         };
-        later = λ n m. farther_cross most g f right l h (later n) (u.2.later m);
-        before = before_fit most g f right l h asked.before u.0.before before u.2.before;
-        match_at = match_same right j.0 j.1 asked.connector u.0.connector x y j.4;
+        later = λ n m. farther_cross most g f right l h s.behind u.0.behind (a.later n) (u.2.later m);
+        before = before_fit most g f right l h s.before u.0.before a.before u.2.before;
+        behind = λ n. needs_fit most g f right l h s.behind u.0.need (a.later n) u.2.need;
+        beyond = λ n. needs_fit_other most g f right l h u.0.behind s.need (u.2.later n) a.need;
+        match_at = match_same right j.0 j.1 s.connector u.0.connector x y j.4;
       },
     )
 
 -- the distances that the sites beside a place leave have the length of its links
-left_by_sides : (right : Bool) (most i : ℕ) (g : Linkage) → Fits most g → (sites : List Site) (p : ℕ) (s asked : Site) → slice_get sites p ≡ Some s → IsFromOf sites p asked.span.from → IsEndOf sites p asked.span.end
-    → Covers g right i sites → (l : Link) → HasLink g l → own right l ≡ i → place_on right l ≡ p → Allows g right l s × (asked.span.from ≤ link_length l) × (link_length l < asked.span.end)
-left_by_sides right most i g f sites p s asked at from end cov l h o pl =
+left_by_sides : (right : Bool) (most i : ℕ) (g : Linkage) → Fits most g → (sites : List Site) (p : ℕ) (s : Site) (u : Span) → slice_get sites p ≡ Some s → IsFromOf sites p u.from → IsEndOf sites p u.end
+    → Covers g right i sites → (l : Link) → HasLink g l → own right l ≡ i → place_on right l ≡ p → Allows g right l s × (u.from ≤ link_length l) × (link_length l < u.end)
+left_by_sides right most i g f sites p s u at from end cov l h o pl =
     let c = cov.each l h o in
     let es : c.0 ≡ s = same_Some c.0 s (sym c.1 ∙ subst (λ z. slice_get sites z ≡ Some s) (sym pl) at) in
     let a : Allows g right l s = subst (λ z. Allows g right l z) es c.2 in
@@ -70,32 +72,56 @@ left_by_sides right most i g f sites p s asked at from end cov l h o pl =
     omega arith in
     (a, from (link_length l) s at a.from before, end (link_length l) s at a.end after)
 
-pub narrowed_is : (right : Bool) (most : ℕ) (gaps : Gaps) (i : ℕ) (table : Table Site) (sites : List Site) (p : ℕ) (s near far r : Site) → slice_get sites p ≡ Some s → IsFromOf sites p near.span.from
-    → IsEndOf sites p near.span.end → near.connector ≡ s.connector → (near.nearest ≡ true → p ≡ 0) → far.span ≡ near.span → far.connector ≡ s.connector → far.nearest ≡ s.nearest
-    → near.later ≡ s.later → far.later ≡ s.later → r.later ≡ s.later → IsBeforeOf sites p near.before → far.before ≡ near.before → r.before ≡ near.before
-    → IsFrom right most gaps i table near r.span.from → IsBelow right most gaps i table far r.span.end → r.connector ≡ s.connector → r.nearest ≡ s.nearest → IsNarrowed right most gaps i table sites p r
-narrowed_is right most gaps i table sites p s near far r at from end en nn es ef nf ln lf lr is_before bf br first last rc rn g f spans all cov l h o pl =
-    let x = left_by_sides right most i g f sites p s near at from end cov l h o pl in
+-- a site of a place by what stands beside it
+pub record IsBeside (sites : List Site) (p : ℕ) (s r : Site) : Type 0 where
+  pub connector : r.connector ≡ s.connector
+  pub from : IsFromOf sites p r.span.from
+  pub end : IsEndOf sites p r.span.end
+  pub later : r.later ≡ s.later
+  pub before : IsBeforeOf sites p r.before
+  pub behind : IsBehindOf sites p r.behind
+  pub need : r.need ≡ s.need
+
+allows_beside : (right : Bool) (most i : ℕ) (g : Linkage) → Fits most g → (sites : List Site) (p : ℕ) (s r : Site) → slice_get sites p ≡ Some s → IsBeside sites p s r → Covers g right i sites
+    → (l : Link) → HasLink g l → own right l ≡ i → place_on right l ≡ p → (Allows g right l s → r.nearest ≡ true → IsNearest g right l) → Allows g right l r
+allows_beside right most i g f sites p s r at b cov l h o pl near =
+    let x = left_by_sides right most i g f sites p s r.span at b.from b.end cov l h o pl in
     let a = x.0 in
-    let x1 = x.1 in
-    let x2 = x.2 in
-    let inside = slice_get_within sites p s at in
-    let now = before_is most g f right i sites cov l h o p near.before pl inside is_before in
-    let k = near_link most g f right l h near.nearest (λ n. pl ∙ nn n) in
-    let y = left_by_sides right most i g f sites p s near at from end cov k.0 k.1 (k.2 ∙ o) (k.3 ∙ pl) in
-    let y1 = y.1 in
-    let nearer = first (link_length k.0) y.2 y.1 (has_partner right most gaps i table g f spans all k.0 k.1 (k.2 ∙ o) s near y.0 en k.5 (λ n. y.0.later (sym ln ∙ n)) (before_is most g f right i sites cov k.0 k.1 (k.2 ∙ o) p near.before (k.3 ∙ pl) inside is_before)) in
-    let k4 = k.4 in
-    let low : far.span.from ≤ link_length l = (let q = ap (λ z. z.from) es in omega arith) in
-    let high : link_length l < far.span.end = (let q = ap (λ z. z.end) es in omega arith) in
     record {
-      connector = a.connector ∙ ap (λ z. Some z) (sym rc);
-      from = omega arith;
-      end = last (link_length l) high low (has_partner right most gaps i table g f spans all l h o s far a ef (λ n. a.nearest (sym nf ∙ n)) (λ n. a.later (sym lf ∙ n)) (subst (λ z. (z ≡ 0) ⊎ HasNearer g right z l) (sym bf) now));
-      nearest = λ n. a.nearest (sym rn ∙ n);
-      later = λ n. a.later (sym lr ∙ n);
-      before = subst (λ z. (z ≡ 0) ⊎ HasNearer g right z l) (sym br) now;
+      connector = a.connector ∙ ap (λ z. Some z) (sym b.connector);
+      from = x.1;
+      end = x.2;
+      nearest = near a;
+      later = λ n. behind_is most g f right i sites cov l h o p r.behind pl s at b.behind (a.later (sym b.later ∙ n));
+      before = before_is most g f right i sites cov l h o p r.before pl (slice_get_within sites p s at) b.before;
+      need = subst (λ z. Needs g right z (own right l)) (sym b.need) a.need;
     }
+
+-- the same site with other distances
+abbrev pub with_span : Site → Span → Site
+with_span s u = record { connector = s.connector; span = u; nearest = s.nearest; later = s.later; before = s.before; behind = s.behind; need = s.need }
+
+-- the nearest link of the place meets the near site, and each link the far one
+pub narrowed_is : (right : Bool) (most : ℕ) (gaps : Gaps) (i : ℕ) (table : Table Site) (sites : List Site) (p : ℕ) (s near far r : Site) → slice_get sites p ≡ Some s → IsBeside sites p s near → (near.nearest ≡ true → p ≡ 0)
+    → IsBeside sites p s far → far.nearest ≡ s.nearest → IsFrom right most gaps i table near r.span.from → IsBelow right most gaps i table far r.span.end → r ≡ with_span far r.span → IsNarrowed right most gaps i table sites p r
+narrowed_is right most gaps i table sites p s near far r at bn nn bf nf first last same g f spans all cov l h o pl =
+    let a : Allows g right l far = allows_beside right most i g f sites p s far at bf cov l h o pl (λ b n. b.nearest (sym nf ∙ n)) in
+    let k = near_link most g f right l h near.nearest (λ n. pl ∙ nn n) in
+    let y : Allows g right k.0 near = allows_beside right most i g f sites p s near at bn cov k.0 k.1 (k.2 ∙ o) (k.3 ∙ pl) (λ b n. k.5 n) in
+    let low : r.span.from ≤ link_length k.0 = first (link_length k.0) y.end y.from (has_partner right most gaps i table g f spans all k.0 k.1 (k.2 ∙ o) near y) in
+    let k4 = k.4 in
+    let high : link_length l < r.span.end = last (link_length l) a.end a.from (has_partner right most gaps i table g f spans all l h o far a) in
+    let from : r.span.from ≤ link_length l = omega arith in
+    let b : Allows g right l (with_span far r.span) = record {
+      connector = a.connector;
+      from = from;
+      end = high;
+      nearest = a.nearest;
+      later = a.later;
+      before = a.before;
+      need = a.need;
+    } in
+    subst (λ z. Allows g right l z) (sym same) b
 
 pub narrow_set : (right : Bool) (most : ℕ) (gaps : Gaps) (i : ℕ) (table : Table Site) (old now : List Site) (p : ℕ) (r : Site) → p < length now → IsNarrowed right most gaps i table now p r → Narrows right most gaps i table old now
     → Narrows right most gaps i table old (set now p r)
@@ -197,3 +223,15 @@ end_last sites p s r at le d x atx high after =
     let ex : x ≡ s = same_Some x s (sym atx ∙ at) in
     let lx = ap (λ z. z.span.end) ex in
     omega arith
+
+pub behind_last : (sites : List Site) (p : ℕ) (s : Site) → slice_get sites p ≡ Some s → p + 1 ≡ length sites → IsBehindOf sites p s.behind
+behind_last sites p s at e = record {
+  last = λ x atx w. let ex : x ≡ s = same_Some x s (sym atx ∙ at) in let lx = ap (λ z. z.behind) ex in omega arith;
+  other = λ t atq. let w = slice_get_within sites (p + 1) t atq in absurd (omega arith);
+}
+
+pub behind_next : (sites : List Site) (p : ℕ) (t : Site) → slice_get sites (p + 1) ≡ Some t → IsBehindOf sites p t.span.end
+behind_next sites p t at = record {
+  last = λ x atx w. let inside = slice_get_within sites (p + 1) t at in absurd (omega arith);
+  other = λ x atx. let ex : x ≡ t = same_Some x t (sym atx ∙ at) in let lx = ap (λ z. z.span.end) ex in omega arith;
+}

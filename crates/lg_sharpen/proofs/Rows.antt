@@ -35,7 +35,7 @@ lowered_more place end old now x w lx ex t = record {
 above : (n a m : ℕ) → n ≤ a → (a ≡ n → ⊥) → m ≡ n + 1 → m ≤ a
 above n a m h d e = elim (cases_lt n a) [ inl l ↦ omega arith | inr l ↦ absurd (d (omega arith)) ]
 
-past : {A : Type 0} (xs : List A) (a : ℕ) (d : A) → length xs ≤ a → get_or xs a d ≡ d
+pub past : {A : Type 0} (xs : List A) (a : ℕ) (d : A) → length xs ≤ a → get_or xs a d ≡ d
 past {A} [] a d h = refl
 past {A} (x ∷ xs) zero d h = absurd (omega arith)
 past {A} (x ∷ xs) (suc a) d h = past xs a d (omega arith)

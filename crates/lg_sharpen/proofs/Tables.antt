@@ -90,7 +90,7 @@ partner_found right most gaps i table s d j class cell lone r one ej ec at found
     let is = p.2 in
     let e : class_of x.connector.caps ≡ class = ap class_of (same_caps right s.connector x.connector is.match_at) ∙ sym ec in
     let c = (at x).1 (subst (λ z. Stands table j z x) e (subst (λ z. Stands table z (class_of x.connector.caps) x) (sym ej) p.1)) in
-    found.1 (c.0, x, c.1, c.2, record { from = is.from; end = is.end; nearest = λ n. one.1 (is.lone n); later = is.later; before = is.before; match_at = is.match_at })
+    found.1 (c.0, x, c.1, c.2, record { from = is.from; end = is.end; nearest = λ n. one.1 (is.lone n); later = is.later; before = is.before; behind = is.behind; beyond = is.beyond; match_at = is.match_at })
 
 -- no partner is there over a gap that is shut
 pub shut_off : (right : Bool) (most : ℕ) (gaps : Gaps) (i : ℕ) (table : Table Site) (s : Site) (d : ℕ) (near : Bool) → ((near ≡ true) ↔ (s.nearest ≡ true → MaySpan right gaps i d)) → near ≡ false

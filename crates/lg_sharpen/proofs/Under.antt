@@ -21,7 +21,7 @@ use Rattle.lg_sharpen.specs.declared.gaps.Gaps.{Gaps}
 use Rattle.lg_sharpen.specs.declared.site.Site.{Site}
 use Rattle.lg_sharpen.proofs.Apart.{none_since}
 use Rattle.lg_sharpen.proofs.Ends.{covered}
-use Rattle.lg_sharpen.proofs.Standing.{at_member, right_within}
+use Rattle.lg_sharpen.proofs.Standing.{used_by, right_within}
 
 -- a link that begins under a link ends no farther than the last position, and one that ends there begins no nearer than the first
 stays_before : (most : ℕ) (g : Linkage) → Fits most g → (right : Bool) (l : Link) → HasLink g l → IsNearest g right l → (e : Link) → HasLink g e → l.left < e.left → e.left < l.right
@@ -65,31 +65,28 @@ need_met most g f right i [] c = inl refl
 need_met most g f right i (s ∷ ss) c = let k = covered most g f right i (s ∷ ss) c 0 s refl (omega arith) in inr (k.0, k.1, k.2, k.4.from)
 
 -- what a member that a linkage uses needs at least
-member_needs : (most : ℕ) (g : Linkage) → Fits most g → (right : Bool) (i : ℕ) (d : Disjunct) (sides : List Side) (lists : List (List Site)) (m : Member) → chosen_at g i ≡ Some d → m.position ≡ i → m.disjunct.now ≡ d
-    → IsSideAt sides (side_on right m) m.position (list_on right m.disjunct.now) → CoversAll g right sides lists
-    → (need_at lists (side_on right m) ≡ 0) ⊎ ((e : Link) × HasLink g e × (own right e ≡ i) × (need_at lists (side_on right m) ≤ link_length e))
-member_needs most g f right i d sides lists m e ei ed s covers =
-    let at = at_member g right i d sides m e ei ed s in
-    let c = covers (side_on right m) s.side s.at at.1 in
+member_needs : (most : ℕ) (g : Linkage) → Fits most g → (right : Bool) (lists : List (List Site)) (ms : List Member) (m : Member) → Contains ms m → chosen_at g m.position ≡ Some m.disjunct.now → CoversAll g right lists ms
+    → (need_at lists (side_on right m) ≡ 0) ⊎ ((e : Link) × HasLink g e × (own right e ≡ m.position) × (need_at lists (side_on right m) ≤ link_length e))
+member_needs most g f right lists ms m has e covers =
+    let c = covers m has e in
     let same : get_or lists (side_on right m) [] ≡ c.0 = get_or_from_slice_get lists (side_on right m) c.0 [] c.1 in
-    subst (λ z. (need_of z ≡ 0) ⊎ ((e : Link) × HasLink g e × (own right e ≡ i) × (need_of z ≤ link_length e))) (sym same)
-    (subst (λ z. (need_of c.0 ≡ 0) ⊎ ((e : Link) × HasLink g e × (own right e ≡ z) × (need_of c.0 ≤ link_length e))) at.0 (need_met most g f right s.side.position c.0 c.2))
+    subst (λ z. (need_of z ≡ 0) ⊎ ((e : Link) × HasLink g e × (own right e ≡ m.position) × (need_of z ≤ link_length e))) (sym same) (need_met most g f right m.position c.0 c.2)
 
 -- a linked word whose links lie between two positions has a way to link noted
-has_way : (most : ℕ) (g : Linkage) → Fits most g → (lefts rights : List Side) (ll rl : List (List Site)) (ms : List Member) → All (IsKnown lefts rights) ms → Stands g lefts rights ll rl ms
+has_way : (most : ℕ) (g : Linkage) → Fits most g → (ll rl : List (List Site)) (ms : List Member) → Stands g ll rl ms
     → (rows : List (List ℕ)) → AreLeast ll rl ms rows → (w : ℕ) (d : Disjunct) → chosen_at g w ≡ Some d → (a c : ℕ) → a ≤ w → w ≤ c
     → ((e : Link) → HasLink g e → e.right ≡ w → a ≤ e.left) → ((e : Link) → HasLink g e → e.left ≡ w → e.right ≤ c) → least_at rows w a ≤ c
-has_way most g f lefts rights ll rl ms known s rows least w d ew a c la lc from end =
+has_way most g f ll rl ms s rows least w d ew a c la lc from end =
     let m = s.chosen w d ew in
-    let k = All-contains (IsKnown lefts rights) ms m.0 known m.1 in
     let p = m.2 in
-    let x : a ≤ m.0.position - need_at ll m.0.left = elim (member_needs most g f false w d lefts ll m.0 ew m.2 m.3 k.left s.left) [
+    let u = used_by g w d m.0 ew m.2 m.3 in
+    let x : a ≤ m.0.position - need_at ll m.0.left = elim (member_needs most g f false ll ms m.0 m.1 u s.left) [
       | inl none ↦ (let z : need_at ll m.0.left ≡ 0 = none in omega arith)
-      | inr e ↦ (let q = from e.0 e.1 e.2 in let v = f.rules.matched.forward e.0 e.1 in let u : need_at ll m.0.left ≤ e.0.right - e.0.left = e.3 in let o : e.0.right ≡ w = e.2 in omega arith)
+      | inr e ↦ (let o : e.0.right ≡ m.0.position = e.2 in let q = from e.0 e.1 (o ∙ p) in let v = f.rules.matched.forward e.0 e.1 in let t : need_at ll m.0.left ≤ e.0.right - e.0.left = e.3 in omega arith)
     ] in
-    let y : m.0.position + need_at rl m.0.right ≤ c = elim (member_needs most g f true w d rights rl m.0 ew m.2 m.3 k.right s.right) [
+    let y : m.0.position + need_at rl m.0.right ≤ c = elim (member_needs most g f true rl ms m.0 m.1 u s.right) [
       | inl none ↦ (let z : need_at rl m.0.right ≡ 0 = none in omega arith)
-      | inr e ↦ (let q = end e.0 e.1 e.2 in let v = f.rules.matched.forward e.0 e.1 in let u : need_at rl m.0.right ≤ e.0.right - e.0.left = e.3 in let o : e.0.left ≡ w = e.2 in omega arith)
+      | inr e ↦ (let o : e.0.left ≡ m.0.position = e.2 in let q = end e.0 e.1 (o ∙ p) in let v = f.rules.matched.forward e.0 e.1 in let t : need_at rl m.0.right ≤ e.0.right - e.0.left = e.3 in omega arith)
     ] in
     let r : least_at rows w a ≤ m.0.position + need_at rl m.0.right = subst (λ z. least_at rows z a ≤ m.0.position + need_at rl m.0.right) p (least m.0 m.1 a x) in
     omega arith
@@ -99,14 +96,14 @@ some_of None n = absurd cc
 some_of (Some d) n = (d, refl)
 
 -- a word under a link that has no way to link is unlinked
-none_under : (most : ℕ) (g : Linkage) → Fits most g → (lefts rights : List Side) (ll rl : List (List Site)) (ms : List Member) → All (IsKnown lefts rights) ms → Stands g lefts rights ll rl ms
+none_under : (most : ℕ) (g : Linkage) → Fits most g → (ll rl : List (List Site)) (ms : List Member) → Stands g ll rl ms
     → (rows : List (List ℕ)) → AreLeast ll rl ms rows → (right : Bool) (l : Link) → HasLink g l → IsNearest g right l → (w : ℕ) → l.left < w → w < l.right
     → first_of right (own right l) (link_length l) ≤ w → w ≤ last_of right (own right l) (link_length l) → last_of right (own right l) (link_length l) < least_at rows w (first_of right (own right l) (link_length l))
     → chosen_at g w ≡ None
-none_under most g f lefts rights ll rl ms known s rows least right l h n w a b lf lt far =
+none_under most g f ll rl ms s rows least right l h n w a b lf lt far =
     none_since (chosen_at g w) (λ linked.
     let d = some_of (chosen_at g w) linked in
-    let r = has_way most g f lefts rights ll rl ms known s rows least w d.0 d.1 (first_of right (own right l) (link_length l)) (last_of right (own right l) (link_length l)) lf lt
+    let r = has_way most g f ll rl ms s rows least w d.0 d.1 (first_of right (own right l) (link_length l)) (last_of right (own right l) (link_length l)) lf lt
     (λ e he q. stays_behind most g f right l h n e he (omega arith) (omega arith))
     (λ e he q. stays_before most g f right l h n e he (omega arith) (omega arith)) in
     omega arith)
@@ -145,9 +142,9 @@ place_under : (right : Bool) (l : Link) → l.left < l.right → (under right (o
 place_under true l h = let a : l.left + 1 ≡ l.left + 1 = refl in let b : l.left + 1 ≤ l.left + 1 = omega arith in let c : l.right ≤ (l.left + (l.right - l.left)) + 1 = omega arith in (a, b, c)
 place_under false l h = let a : (l.right - (l.right - l.left)) + 1 ≡ l.left + 1 = omega arith in let b : l.right - (l.right - l.left) ≤ l.left + 1 = omega arith in let c : l.right ≤ (l.right - 1) + 1 = omega arith in (a, b, c)
 
-stuck_few : (most : ℕ) (g : Linkage) → Fits most g → (lefts rights : List Side) (ll rl : List (List Site)) (ms : List Member) → All (IsKnown lefts rights) ms → Stands g lefts rights ll rl ms
+stuck_few : (most : ℕ) (g : Linkage) → Fits most g → (ll rl : List (List Site)) (ms : List Member) → Stands g ll rl ms
     → (rows : List (List ℕ)) → AreLeast ll rl ms rows → (right : Bool) (l : Link) → HasLink g l → IsNearest g right l → stuck_under right rows (own right l) (link_length l) ≤ unlinked g
-stuck_few most g f lefts rights ll rl ms known s rows least right l h n =
+stuck_few most g f ll rl ms s rows least right l h n =
     let i = own right l in
     let d : ℕ = link_length l in
     let fwd = f.rules.matched.forward l h in
@@ -158,16 +155,15 @@ stuck_few most g f lefts rights ll rl ms known s rows least right l h n =
     let at2 = at.2 in
     let long : l.right ≡ l.left + d = (let q : d ≡ l.right - l.left = refl in omega arith) in
     let c : stuck_under right rows (own right l) (link_length l) ≤ count_by is_none (take (under right i d + (d - 1)) g.chosen) = count_first g.chosen (λ end. ltb (last_of right i d) end) (λ w. least_at rows w (first_of right i d)) (under right i d) (d - 1) (omega arith)
-    (λ w x y t. none_under most g f lefts rights ll rl ms known s rows least right l h n w (omega arith) (omega arith) (omega arith) (omega arith) (ltb-true (last_of right i d) (least_at rows w (first_of right i d)) t)) in
+    (λ w x y t. none_under most g f ll rl ms s rows least right l h n w (omega arith) (omega arith) (omega arith) (omega arith) (ltb-true (last_of right i d) (least_at rows w (first_of right i d)) t)) in
     let all : count_by is_none (take (under right i d + (d - 1)) g.chosen) ≤ unlinked g = sum_by-take-le (λ x. cond (is_none x) 1 0) g.chosen (under right i d + (d - 1)) in
     omega arith
 
 -- no nearest link spans a gap that is shut
-pub allows_gaps : (most : ℕ) (lefts rights : List Side) (ll rl : List (List Site)) (ms : List Member) (gaps : Gaps) → All (IsKnown lefts rights) ms → AreGaps most ll rl ms gaps → (g : Linkage) → Fits most g
-    → Stands g lefts rights ll rl ms → AllowsGaps g gaps
-allows_gaps most lefts rights ll rl ms gaps known a g f s right l h n =
+pub allows_gaps : (most : ℕ) (ll rl : List (List Site)) (ms : List Member) (gaps : Gaps) → AreGaps most ll rl ms gaps → (g : Linkage) → Fits most g → Stands g ll rl ms → AllowsGaps g gaps
+allows_gaps most ll rl ms gaps a g f s right l h n =
     is_true (flag_at (rows_in (cond right gaps.right.items gaps.left.items)) (own right l) (link_length l)) (λ off.
     let many = spans_on most ll rl ms gaps a right (own right l) (link_length l) off in
-    let few' = stuck_few most g f lefts rights ll rl ms known s a.rows a.least right l h n in
+    let few' = stuck_few most g f ll rl ms s a.rows a.least right l h n in
     let few = f.few in
     omega arith)

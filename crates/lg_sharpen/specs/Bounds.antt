@@ -1,6 +1,6 @@
 -- What holds of each linkage that keeps the rules and has few unlinked words.
-use Rattle.std.specs.Prelude.{◌≡◌, ℕ, ◌<◌, ◌≤◌, ◌⊎◌, Bool, true, false, not, cond, List, length, Some, slice_get}
-use Rattle.std.specs.List.{All}
+use Rattle.std.specs.Prelude.{◌≡◌, ℕ, ◌<◌, ◌≤◌, ◌⊎◌, Bool, true, false, not, cond, List, length, Some, slice_get, slice_index_or}
+use Rattle.std.specs.List.{All, Contains}
 use Rattle.lg_gram.specs.Connectors.{Connector}
 use Rattle.lg_gram.specs.Linkages.{Linkage, unlinked, link_length}
 use Rattle.lg_gram.specs.Rules.{Rules, IsConnected, IsLinked, HasLink, rights_of, lefts_of, chosen_at}
@@ -8,7 +8,7 @@ use Rattle.lg_gram.specs.Walks.{LinkFrom}
 use Rattle.lg_gram.specs.declared.disjunct.Disjunct.{Disjunct}
 use Rattle.lg_gram.specs.declared.linkage.Link.{Link}
 use Rattle.lg_member.specs.Cells.{Table}
-use Rattle.lg_member.specs.Members.{AreLeft, Have}
+use Rattle.lg_member.specs.Members.{AreLeft, Have, side_on}
 use Rattle.lg_sharpen.specs.Filling.{MaySpan}
 use Rattle.lg_sharpen.specs.Sites.{own, place_on, Holds}
 use Rattle.lg_member.specs.declared.side.Side.{Side}
@@ -30,12 +30,20 @@ pub record Fits (most : ℕ) (g : Linkage) : Type 0 where
 abbrev pub IsNearest : Linkage → Bool → Link → Type 0
 IsNearest g right l = (e : Link) → HasLink g e → own right e ≡ own right l → link_length l ≤ link_length e
 
--- the position at this end has, on the same side of it, a farther link; a nearer one, which is no shorter than this
-abbrev pub HasFarther : Linkage → Bool → Link → Type 0
-HasFarther g right l = (e : Link) × HasLink g e × (own right e ≡ own right l) × (link_length l < link_length e)
+-- the position at this end has, on the same side of it, a farther link, which is shorter than this; a nearer one, which is no shorter than this
+abbrev pub HasFarther : Linkage → Bool → ℕ → Link → Type 0
+HasFarther g right n l = (e : Link) × HasLink g e × (own right e ≡ own right l) × (link_length l < link_length e) × (link_length e < n)
 
 abbrev pub HasNearer : Linkage → Bool → ℕ → Link → Type 0
 HasNearer g right n l = (e : Link) × HasLink g e × (own right e ≡ own right l) × (n ≤ link_length e) × (link_length e < link_length l)
+
+-- position i has, on the other side, a link that is no shorter than this
+abbrev pub HasAway : Linkage → Bool → ℕ → ℕ → Type 0
+HasAway g right n i = (e : Link) × HasLink g e × (own (not right) e ≡ i) × (n ≤ link_length e)
+
+-- the same where it is not 0
+abbrev pub Needs : Linkage → Bool → ℕ → ℕ → Type 0
+Needs g right n i = (n ≡ 0) ⊎ HasAway g right n i
 
 -- nearest links span no gap that is shut
 abbrev pub AllowsGaps : Linkage → Gaps → Type 0
@@ -47,8 +55,9 @@ pub record Allows (g : Linkage) (right : Bool) (l : Link) (s : Site) : Type 0 wh
   pub from : s.span.from ≤ link_length l
   pub end : link_length l < s.span.end
   pub nearest : s.nearest ≡ true → IsNearest g right l
-  pub later : s.later ≡ true → HasFarther g right l
+  pub later : s.later ≡ true → HasFarther g right s.behind l
   pub before : (s.before ≡ 0) ⊎ HasNearer g right s.before l
+  pub need : Needs g right s.need (own right l)
 
 -- the sites are those of the list of position i, and allow all its links
 pub record Covers (g : Linkage) (right : Bool) (i : ℕ) (sites : List Site) : Type 0 where
@@ -76,6 +85,15 @@ pub record NarrowsAll (right : Bool) (most : ℕ) (gaps : Gaps) (sides : List Si
   pub long : length new ≡ length old
   pub each : (g : Linkage) → Fits most g → AllowsGaps g gaps → AllowsAll g (not right) table → (k : ℕ) (side : Side) → slice_get sides k ≡ Some side → CoversAt g right side.position old k → CoversAt g right side.position new k
 
+-- sites have this need, and allow all links that they did where the position has it
+abbrev pub SetsNeed : ℕ → List Site → List Site → Type 0
+SetsNeed n old new = (g : Linkage) (right : Bool) (i : ℕ) → Needs g right n i → Covers g right i old → Covers g right i new
+
+-- the same of the lists of sites, by their numbers
+pub record SetsNeeds (needs : List ℕ) (old new : List (List Site)) : Type 0 where
+  pub long : length new ≡ length old
+  pub each : (g : Linkage) (right : Bool) (i k : ℕ) → Needs g right (slice_index_or needs k 0) i → CoversAt g right i old k → CoversAt g right i new k
+
 -- a distance is left
 abbrev pub IsOpen : Site → Type 0
 IsOpen s = s.span.from < s.span.end
@@ -87,21 +105,27 @@ pub record AreOpen (lists : List (List Site)) (flags : List Bool) : Type 0 where
 abbrev pub AreChosen : Linkage → List Member → Type 0
 AreChosen g members = (i : ℕ) (d : Disjunct) → chosen_at g i ≡ Some d → Have members i d
 
--- the lists that the linkage uses, to the right, or to the left, have sites that allow all links
-abbrev pub CoversAll : Linkage → Bool → List Side → List (List Site) → Type 0
-CoversAll g right sides lists = (k : ℕ) (side : Side) → slice_get sides k ≡ Some side → list_at right g side.position ≡ side.list.now → CoversAt g right side.position lists k
+-- the lists, to the right, or to the left, of the members that the linkage uses have sites that allow all links
+abbrev pub CoversAll : Linkage → Bool → List (List Site) → List Member → Type 0
+CoversAll g right lists members = (m : Member) → Contains members m → chosen_at g m.position ≡ Some m.disjunct.now → CoversAt g right m.position lists (side_on right m)
 
-pub record Stands (g : Linkage) (lefts rights : List Side) (left_lists right_lists : List (List Site)) (members : List Member) : Type 0 where
+pub record Stands (g : Linkage) (left_lists right_lists : List (List Site)) (members : List Member) : Type 0 where
   pub chosen : AreChosen g members
-  pub left : CoversAll g false lefts left_lists
-  pub right : CoversAll g true rights right_lists
+  pub left : CoversAll g false left_lists members
+  pub right : CoversAll g true right_lists members
 
 -- some members go, and what stood for a linkage with few unlinked words still does
-pub record KeepsStanding (most : ℕ) (lefts rights : List Side) (old_left old_right : List (List Site)) (old : List Member) (new_left new_right : List (List Site)) (new : List Member) : Type 0 where
+pub record KeepsStanding (most : ℕ) (old_left old_right : List (List Site)) (old : List Member) (new_left new_right : List (List Site)) (new : List Member) : Type 0 where
   pub left : AreLeft old new
   pub long_left : length new_left ≡ length old_left
   pub long_right : length new_right ≡ length old_right
-  pub stands : (g : Linkage) → Fits most g → Stands g lefts rights old_left old_right old → Stands g lefts rights new_left new_right new
+  pub stands : (g : Linkage) → Fits most g → Stands g old_left old_right old → Stands g new_left new_right new
+
+-- what stood for a linkage with few unlinked words still does, with the same members
+pub record KeepsNeeds (old_left old_right : List (List Site)) (members : List Member) (new_left new_right : List (List Site)) : Type 0 where
+  pub long_left : length new_left ≡ length old_left
+  pub long_right : length new_right ≡ length old_right
+  pub stands : (most : ℕ) (g : Linkage) → Fits most g → Stands g old_left old_right members → Stands g new_left new_right members
 
 -- some members go that no linkage of n words with few unlinked ones uses
 pub record KeepsChosen (n most : ℕ) (old new : List Member) : Type 0 where

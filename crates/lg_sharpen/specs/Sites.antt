@@ -25,6 +25,10 @@ across right i d = cond right (i + d) (i - d)
 abbrev pub MatchOn : Bool → Connector → Connector → Type 0
 MatchOn right a b = cond right (Match a b) (Match b a)
 
+-- where a connector stands behind the site, its links go farther than the links of the other's position that lead away from it
+abbrev pub StaysUnder : Site → Site → ℕ → Type 0
+StaysUnder s other d = s.later ≡ true → d + other.need < s.behind
+
 -- A site, of a list to the right, or to the left, and one that lies this far away can be linked, where the other may, or may not, have its nearest link over
 -- this distance.
 pub record MeetsOver (right lone : Bool) (d : ℕ) (s other : Site) : Type 0 where
@@ -33,6 +37,8 @@ pub record MeetsOver (right lone : Bool) (d : ℕ) (s other : Site) : Type 0 whe
   pub nearest : other.nearest ≡ true → lone ≡ true
   pub later : s.later ≡ true → other.later ≡ true → ⊥
   pub before : s.before + other.before ≤ d
+  pub behind : StaysUnder s other d
+  pub beyond : StaysUnder other s d
   pub match_at : MatchOn right s.connector other.connector
 
 -- A link of this length from position i to the right, or to the left, may be the nearest of its other end. Where it is the nearest of both it is no longer than
@@ -49,6 +55,8 @@ pub record IsPartner (right : Bool) (most : ℕ) (gaps : Gaps) (i d : ℕ) (s ot
   pub lone : other.nearest ≡ true → MayBeLone right most gaps i d s.nearest
   pub later : s.later ≡ true → other.later ≡ true → ⊥
   pub before : s.before + other.before ≤ d
+  pub behind : StaysUnder s other d
+  pub beyond : StaysUnder other s d
   pub match_at : MatchOn right s.connector other.connector
 
 -- what can be linked to the second can be linked to the first
@@ -58,6 +66,8 @@ pub record IsWider (wide s : Site) : Type 0 where
   pub nearest : wide.nearest ≡ true → s.nearest ≡ true
   pub later : wide.later ≡ true → s.later ≡ true
   pub before : wide.before ≤ s.before
+  pub behind : s.behind ≤ wide.behind
+  pub need : wide.need ≤ s.need
   pub connector : wide.connector ≡ s.connector
 
 -- more than the length of each link that a position of n can have, to the right, or to the left
@@ -72,6 +82,8 @@ pub record IsStarted (cs : List Connector) (end p : ℕ) (s : Site) : Type 0 whe
   pub nearest : s.nearest ≡ true → (p ≡ 0) × (s.connector.multi ≡ false)
   pub later : s.later ≡ true → p + 1 < length cs
   pub before : s.before ≡ 0
+  pub behind : end ≤ s.behind
+  pub need : s.need ≡ 0
 
 pub record AreStarted (cs : List Connector) (end : ℕ) (sites : List Site) : Type 0 where
   pub same_length : length sites ≡ length cs
@@ -130,6 +142,11 @@ IsEndOf sites p r = (d : ℕ) (s : Site) → slice_get sites p ≡ Some s → d 
 pub record IsBeforeOf (sites : List Site) (p r : ℕ) : Type 0 where
   pub first : p ≡ 0 → r ≡ 0
   pub other : (q : ℕ) (t : Site) → q + 1 ≡ p → slice_get sites q ≡ Some t → r ≤ t.span.from
+
+-- no less than the ends of the next place, and than what was known where there is none
+pub record IsBehindOf (sites : List Site) (p r : ℕ) : Type 0 where
+  pub last : (s : Site) → slice_get sites p ≡ Some s → length sites ≤ p + 1 → s.behind ≤ r
+  pub other : (t : Site) → slice_get sites (p + 1) ≡ Some t → t.span.end ≤ r
 
 abbrev pub items_in : List (Vec Site) → List (List Site)
 items_in lists = map (λ v. v.items) lists

@@ -3,6 +3,7 @@
 
 mod gaps;
 mod narrow;
+mod needs;
 mod problem;
 mod rounds;
 mod site;

@@ -1,6 +1,6 @@
 //! How far away the partners of a list's connectors may be.
 ghost use Rattle.std.specs.Prelude.{◌≡◌, ◌<◌, length};
-ghost use Rattle.lg_sharpen.specs.Sites.{IsAfter, IsAhead, IsBeforeOf, IsBelow, IsEndOf, IsFrom, IsFromOf, items_in};
+ghost use Rattle.lg_sharpen.specs.Sites.{IsAfter, IsAhead, IsBeforeOf, IsBehindOf, IsBelow, IsEndOf, IsFrom, IsFromOf, items_in};
 ghost use Rattle.lg_sharpen.specs.Bounds.{IsNarrowed, Narrows, NarrowsAll};
 
 use crate::gaps::Gaps;
@@ -104,28 +104,21 @@ fn narrowed(
         from: from_of(sites, place),
         end: end_of(sites, place),
     };
-    let near = Site {
-        connector: old.connector,
-        span,
-        nearest: place == 0,
-        later: old.later,
-        before: before_of(sites, place),
-    };
     let far = Site {
-        connector: old.connector,
         span,
-        nearest: old.nearest,
-        later: old.later,
-        before: near.before,
+        before: before_of(sites, place),
+        behind: behind_of(sites, place),
+        ..old
+    };
+    let near = Site {
+        nearest: place == 0,
+        ..far
     };
     let from = first(right, most, gaps, position, table, &near);
     let end = last(right, most, gaps, position, table, &far);
     Site {
-        connector: old.connector,
         span: Span { from, end },
-        nearest: old.nearest,
-        later: old.later,
-        before: near.before,
+        ..far
     }
 }
 
@@ -140,6 +133,20 @@ fn before_of(sites: &[Site], place: usize) -> u32
     let earlier = place - 1;
     let before = sites[earlier];
     before.span.from
+}
+
+// More than the length of each link of the next place, where there is one.
+fn behind_of(sites: &[Site], place: usize) -> u32
+    requires { place < length sites.now }
+    ensures { IsBehindOf sites.now place result }
+{
+    let here = sites[place];
+    let later = place + 1;
+    if later == sites.len() {
+        return here.behind;
+    }
+    let next = sites[later];
+    next.span.end
 }
 
 fn from_of(sites: &[Site], place: usize) -> u32

@@ -7,6 +7,7 @@ ghost use Rattle.lg_sharpen.specs.Sites.{items_in};
 
 use crate::gaps::gaps_of;
 use crate::narrow::narrow_all;
+use crate::needs::note_needs;
 use crate::site::Site;
 use crate::start::sites_of;
 use crate::table::table_of;
@@ -57,10 +58,11 @@ fn rounds(
     requires known { All (IsKnown lefts.now rights.now) members.old.items }
     requires left { length left_lists.old ≡ length lefts.now }
     requires right { length right_lists.old ≡ length rights.now }
-    ensures { OnOk result (KeepsStanding most lefts.now rights.now (items_in left_lists.old) (items_in right_lists.old) members.old.items (items_in left_lists.new) (items_in right_lists.new) members.new.items) }
+    ensures { OnOk result (KeepsStanding most (items_in left_lists.old) (items_in right_lists.old) members.old.items (items_in left_lists.new) (items_in right_lists.new) members.new.items) }
 {
     members_go_by_rounds();
     for _ in 0..ROUNDS {
+        note_needs(alloc, left_lists, right_lists, members)?;
         round(
             alloc,
             words,
@@ -89,7 +91,7 @@ fn round(
     requires known { All (IsKnown lefts.now rights.now) members.old.items }
     requires left { length left_lists.old ≡ length lefts.now }
     requires right { length right_lists.old ≡ length rights.now }
-    ensures { OnOk result (KeepsStanding most lefts.now rights.now (items_in left_lists.old) (items_in right_lists.old) members.old.items (items_in left_lists.new) (items_in right_lists.new) members.new.items) }
+    ensures { OnOk result (KeepsStanding most (items_in left_lists.old) (items_in right_lists.old) members.old.items (items_in left_lists.new) (items_in right_lists.new) members.new.items) }
 {
     let left_used = used(alloc, false, lefts, rights, members)?;
     let right_used = used(alloc, true, lefts, rights, members)?;

@@ -1,6 +1,6 @@
 //! Sites: the connectors of lists, with how far away their partners may be.
 ghost use Rattle.std.specs.Prelude.{◌≡◌, ◌↔◌, ◌≤◌, ◌+◌, true, IsTrue};
-ghost use Rattle.lg_sharpen.specs.Sites.{IsWider, MatchOn, MeetsOver};
+ghost use Rattle.lg_sharpen.specs.Sites.{IsWider, MatchOn, MeetsOver, StaysUnder};
 
 use lg_gram::{Connector, matches};
 use lg_member::Wide;
@@ -23,6 +23,10 @@ pub(crate) struct Site {
     pub(crate) later: bool,
     /// How long each link of the connector before it is at least; 0 where there is none.
     pub(crate) before: u32,
+    /// More than the length of some link of a connector behind it, where there is one.
+    pub(crate) behind: u32,
+    /// How long some link of its position to the other side is at least; 0 where there may be none.
+    pub(crate) need: u32,
 }
 
 /// Whether two sites over this distance, the first of a list to the right, or to the left, can be linked, where the other may, or
@@ -35,6 +39,8 @@ pub(crate) fn meets(right: bool, lone: bool, distance: u32, site: &Site, other: 
         && implies(other.nearest, lone)
         && are_not_both(site.later, other.later)
         && has_room(site.before, other.before, distance)
+        && stays_under(site, other, distance)
+        && stays_under(other, site, distance)
         && matches_on(right, &site.connector, &other.connector)
 }
 
@@ -50,6 +56,13 @@ fn has_room(a: u32, b: u32, distance: u32) -> bool
     ensures { IsTrue result ↔ (a + b ≤ distance) }
 {
     u64::from(a) + u64::from(b) <= u64::from(distance)
+}
+
+// A link behind the site's goes farther than those of the other's position that lead away from it, since they would cross.
+fn stays_under(site: &Site, other: &Site, distance: u32) -> bool
+    ensures { IsTrue result ↔ StaysUnder site.now other.now distance }
+{
+    !site.later || u64::from(distance) + u64::from(other.need) < u64::from(site.behind)
 }
 
 fn matches_on(right: bool, a: &Connector, b: &Connector) -> bool
@@ -70,10 +83,12 @@ impl Wide for Site {
             && implies(self.nearest, site.nearest)
             && implies(self.later, site.later)
             && self.before <= site.before
+            && site.behind <= self.behind
+            && self.need <= site.need
             && is_same_connector(&self.connector, &site.connector)
     }
 
-    ghost itself = { λ s. record { from = omega arith; end = omega arith; nearest = λ n. n; later = λ n. n; before = omega arith; connector = refl } };
+    ghost itself = { λ s. record { from = omega arith; end = omega arith; nearest = λ n. n; later = λ n. n; before = omega arith; behind = omega arith; need = omega arith; connector = refl } };
 }
 
 fn implies(wide: bool, nearest: bool) -> bool

@@ -61,5 +61,7 @@ fn site_at(list: &[Connector], end: u32, place: usize) -> Site
         nearest: place == 0 && !connector.is_multi(),
         later: place + 1 < list.len(),
         before: 0,
+        behind: u32::MAX,
+        need: 0,
     }
 }

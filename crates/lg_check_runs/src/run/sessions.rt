@@ -103,15 +103,6 @@ link 0 1 A 0 0
 page shown 1 examined 1 next 2 end
 ";
 
-// These texts one after another.
-fn all(alloc: Global, texts: &[&str]) -> Result<String, Fail> {
-    let mut whole = String::new(alloc);
-    for text in texts {
-        whole.push_str(text)?;
-    }
-    Ok(whole)
-}
-
 #[test]
 fn an_edit_changes_the_next_listing(rt: HostRuntime) -> Result<(), Fail> {
     let last = "\

@@ -48,6 +48,21 @@ returns-in-Export-clause-told g c =
     subst (λ (t : Command). IfSome (g.F.Files.contents c.args.files.now) (λ known. Tells given_in (InputsAre known (task c.args.setup t)) (g.F.Files.asked c.args.files.now) (g.F.Files.asked c.inputs_of_export.new.files) c.inputs_of_export.result))
     (sym c.in-Export.is) c.inputs_of_export.ensures.told
 
+pub returns-in-Audit-clause-names : goal.returns-in-Audit-clause-names
+returns-in-Audit-clause-names g c =
+    subst (λ (t : Command). IfSome (g.F.Files.contents c.args.files.now) (λ known. AsksInOrder (InputsAre known (task c.args.setup t)) (g.F.Files.asked c.args.files.now) (g.F.Files.asked c.inputs_of_audit.new.files)))
+    (sym c.in-Audit.is) c.inputs_of_audit.ensures.names
+
+pub returns-in-Audit-clause-about : goal.returns-in-Audit-clause-about
+returns-in-Audit-clause-about g c =
+    subst (λ (t : Command). IfErr c.inputs_of_audit.result (IsAbout (names_of (task c.args.setup t)) (g.F.Files.asked c.inputs_of_audit.new.files)))
+    (sym c.in-Audit.is) c.inputs_of_audit.ensures.about
+
+pub returns-in-Audit-clause-told : goal.returns-in-Audit-clause-told
+returns-in-Audit-clause-told g c =
+    subst (λ (t : Command). IfSome (g.F.Files.contents c.args.files.now) (λ known. Tells given_in (InputsAre known (task c.args.setup t)) (g.F.Files.asked c.args.files.now) (g.F.Files.asked c.inputs_of_audit.new.files) c.inputs_of_audit.result))
+    (sym c.in-Audit.is) c.inputs_of_audit.ensures.told
+
 -- no file is read for made input
 pub returns-in-Gen-clause-names : goal.returns-in-Gen-clause-names
 returns-in-Gen-clause-names g c =

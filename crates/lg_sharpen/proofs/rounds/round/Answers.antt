@@ -23,7 +23,7 @@ returns c =
     let lo = c.in_ok-left_open.left_open.items in
     let ro = c.in_ok-right_open.right_open.items in
     round_keeps c.args.most lefts rights ll rl ll' rl' gaps lt rt ms c.keep.new.members.items lu ru lo ro c.requires.known
-    (allows_gaps c.args.most lefts rights ll rl ms gaps c.requires.known (subst (λ z. AreGaps c.args.most ll rl z gaps) c.deref-3.ensures.value c.in_ok-gaps.ensures))
+    (allows_gaps c.args.most ll rl ms gaps (subst (λ z. AreGaps c.args.most ll rl z gaps) c.deref-3.ensures.value c.in_ok-gaps.ensures))
     (subst (λ z. AreUsed false (length lefts) z lu) c.deref.ensures.value c.in_ok-left_used.ensures)
     (subst (λ z. AreUsed true (length rights) z ru) c.deref-2.ensures.value c.in_ok-right_used.ensures)
     (subst (λ z. IsTableOf lefts z ll lt) c.deref-4.ensures.value c.in_ok-left_sites.ensures)
