@@ -67,7 +67,7 @@ fewer_next i next e (At w m tl tr (Some (Between l r ll rl k)) rk) = (
 
 -- all levels were looked at
 module _ (n : Numbering) (key : Key) (gap : Gap) (is : IsGapOf n key gap) (are : AreListsOf n.positions n.lists) (law : RegionsBeginAlike) (i : ℕ) (end : gap.nulls + 1 ≤ i) where
-  first : Origin
+  abbrev first : Origin
   first = record { left = gap.left; llist = gap.llist; nulls = 0; last = last_of (list_of n.lists gap.rlist) }
 
   begins : BeginsWith n first gap

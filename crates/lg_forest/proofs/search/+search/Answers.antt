@@ -1,4 +1,4 @@
-use Rattle.std.proofs.Common.{◌≢◌, inl, inr, refl, [], ◌≡◌, ◌↔◌, ◌+◌, ◌∙◌, true≢false, Option, subst, sym, ap, Some, IsTrue, IfOk, OnOk, IfSome, length, take, slice_get, get_or, Contains, map, arith, rules}
+use Rattle.std.proofs.Common.{◌≢◌, inl, inr, refl, [], ◌≡◌, ◌↔◌, ◌+◌, ◌<◌, ◌≤◌, ◌∙◌, true≢false, Option, subst, sym, ap, Some, IsTrue, IfOk, OnOk, IfSome, length, take, slice_get, get_or, Contains, map, arith, rules}
 use Rattle.std.proofs.lemmas.Option.{slice_get-get_or}
 use Rattle.lg_region.specs.Keys.{kept}
 use Rattle.lg_region.specs.Small.{full}
