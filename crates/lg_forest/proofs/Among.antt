@@ -17,12 +17,12 @@ use Rattle.lg_region.specs.declared.alternative.Alt.TheVariants.{AllNull, Split 
 use Rattle.lg_region.specs.declared.group.Gap.{Gap}
 use Rattle.lg_region.specs.declared.group.Group.{Group}
 use Rattle.lg_region.specs.declared.opening.Beginning.{Beginning}
-use Rattle.lg_forest.specs.Demands.{AsksNext, HasLinkageUnder, left_key}
-use Rattle.lg_forest.specs.Forests.{IsLive, AreLive}
+use Rattle.lg_forest.specs.Demands.{HasLinkageUnder, left_key}
+use Rattle.lg_forest.specs.Forests.{IsLive}
 use Rattle.lg_forest.specs.Halves.{AddsLive, AsksAmong, IsEnding}
 use Rattle.lg_forest.specs.Search.{Asked, AsksOf, IsTable, KeysAreDecided, key_width}
 use Rattle.lg_forest.specs.Search.AsksOf.{left as asks_left, right as asks_right}
-use Rattle.lg_forest.specs.Demands.AsksNext.{left as next_left, right as next_right}
+use Rattle.lg_forest.specs.Demands.AsksNext.{left as next_left}
 use Rattle.lg_forest.proofs.Asked.{asked_as, asked_then, next_narrow}
 use Rattle.lg_forest.proofs.Once.{contains_at, contains_none, once_none}
 

@@ -1,10 +1,9 @@
 -- Alternatives by how many words they leave unlinked on the left.
-use Rattle.std.proofs.Common.{◌≡◌, ◌↔◌, ◌⊎◌, ℕ, suc, ◌+◌, ◌<◌, ◌≤◌, inl, inr, refl, sym, ◌∙◌, ap, subst, List, [], Option, Some, None, arith}
+use Rattle.std.proofs.Common.{◌≡◌, ◌↔◌, ◌⊎◌, ℕ, ◌+◌, ◌<◌, ◌≤◌, inl, inr, refl, sym, ◌∙◌, List, [], Some, None, arith}
 use Rattle.std.proofs.lemmas.Bool.{cases_lt}
 use Rattle.lg_region.specs.Alike.{BeginsWith, CutsInside, RegionsBeginAlike, last_of}
 use Rattle.lg_region.specs.Fronts.{AreListsOf, Numbering, list_of}
-use Rattle.lg_region.specs.Keys.{IsAltOf, IsAltOfRegion}
-use Rattle.lg_region.specs.Groups.{region_of_gap}
+use Rattle.lg_region.specs.Keys.{IsAltOf}
 use Rattle.lg_region.specs.Openings.{BeginsSo, IsGapOf, LeavesLeft}
 use Rattle.lg_region.specs.declared.key.Key.{Key}
 use Rattle.lg_region.specs.declared.key.Key.TheVariants.{Whole, Region as Between}

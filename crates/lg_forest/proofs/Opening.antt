@@ -7,8 +7,8 @@ use Rattle.lg_gram.specs.Connectors.{Connector}
 use Rattle.lg_region.specs.Alike.{BeginsWith, CutsInside, HaveSameLeft, IsAltAt, RegionsBeginAlike, end_of}
 use Rattle.lg_region.specs.Fronts.{AreListsOf, Numbering}
 use Rattle.lg_region.specs.Chains.{class_at}
-use Rattle.lg_region.specs.Groups.{region_of_gap, HaveLeft, IsGroup, IsNextLed, StandsBefore, StandsIn, left_lead}
-use Rattle.lg_region.specs.Keys.{IsAltOf, IsAltOfRegion}
+use Rattle.lg_region.specs.Groups.{HaveLeft, IsNextLed, StandsBefore, StandsIn, left_lead}
+use Rattle.lg_region.specs.Keys.{IsAltOf}
 use Rattle.lg_region.specs.declared.chains.Side.TheVariants.{Right}
 use Rattle.lg_region.specs.Openings.{AreBeginnings, BeginsSo, IsKeyOfGap, LeavesLeft, left_of}
 use Rattle.lg_region.specs.declared.key.Key.{Key}

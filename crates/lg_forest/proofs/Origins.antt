@@ -1,5 +1,5 @@
 -- The test of `==` at where regions begin.
-use Rattle.std.proofs.Common.{◌≡◌, refl, sym, ap, ◌∙◌, Bool, true, true≢false, inl, inr, List, Option, None, Some, IfSome, Contains, rules}
+use Rattle.std.proofs.Common.{◌≡◌, refl, sym, ap, ◌∙◌, Bool, true≢false, inl, inr, List, Option, None, Some, IfSome, Contains, rules}
 use Rattle.std.proofs.lemmas.Bool.{cases_Bool}
 use Rattle.std.proofs.lemmas.Bool.Decides.{Decides-and, Decides-eqb}
 use Rattle.std.proofs.lemmas.Option.{same_Some}
