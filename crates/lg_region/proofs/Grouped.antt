@@ -1,10 +1,9 @@
 -- Groups of a region, one after another.
-use Rattle.std.proofs.Common.{◌≡◌, ℕ, ◌+◌, ◌<◌, ◌≤◌, List, [], ◌∷◌, ◌++◌, length, get_or, refl, sym, ◌∙◌, ap, subst, inl, inr, Contains, arith, append_assoc, append-nil}
+use Rattle.std.proofs.Common.{◌≡◌, ℕ, ◌≤◌, List, [], ◌∷◌, ◌++◌, refl, sym, ◌∙◌, ap, subst, inl, inr, Contains, arith, append_assoc, append-nil}
 use Rattle.std.proofs.lemmas.List.Elements.{Contains-append_left, Contains-append_right, Contains-append_cases}
 use Rattle.std.proofs.lemmas.Option.{slice_get_within}
-use Rattle.lg_region.specs.Fronts.{AreListsOf, Numbering}
-use Rattle.lg_region.specs.Keys.{IsAltOfRegion}
-use Rattle.lg_region.specs.Groups.{region_of_gap, IsGroup, IsKnownGap, IsNextLed, Leads, StandsIn, StandsBefore}
+use Rattle.lg_region.specs.Fronts.{Numbering}
+use Rattle.lg_region.specs.Groups.{region_of_gap, IsGroup, IsNextLed, Leads, StandsIn}
 use Rattle.lg_region.specs.Openings.{AreApart, GroupsOfWord}
 use Rattle.lg_region.specs.declared.alternative.Alt.{Alt}
 use Rattle.lg_region.specs.declared.alternative.Alt.TheVariants.{AllNull, Split as At}
@@ -13,7 +12,7 @@ use Rattle.lg_region.specs.declared.group.Group.{Group}
 use Rattle.lg_base.proofs.Elements.{contains_here, contains_none, contains_cases}
 use Rattle.lg_region.proofs.Numbers.{get_contains}
 use Rattle.lg_region.proofs.Once.{append_cases}
-use Rattle.lg_region.proofs.Expanding.{adds_skip, before_all, before_split, gap_start, in_split, region_lies, region_names}
+use Rattle.lg_region.proofs.Expanding.{adds_skip, in_split}
 
 abbrev In : Group → Alt → Type 0
 In g a = StandsIn g.word g.from g.to a
