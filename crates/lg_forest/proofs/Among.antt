@@ -8,9 +8,8 @@ use Rattle.std.proofs.lemmas.List.Elements.{Contains-append_left, Contains-appen
 use Rattle.lg_region.specs.Fronts.{AreOnce, Numbering}
 use Rattle.lg_region.specs.Keys.{IsAltOf, IsAltOfRegion}
 use Rattle.lg_region.specs.Groups.{StandsIn, region_of_gap}
-use Rattle.lg_region.specs.Openings.{AreBeginnings, AreGroups, BeginsSo, IsIn, IsKeyOfGap, left_of}
+use Rattle.lg_region.specs.Openings.{BeginsSo, IsIn, IsKeyOfGap, left_of}
 use Rattle.lg_region.specs.Keys.{IsValidKey}
-use Rattle.lg_region.specs.declared.opening.Groups.{Groups}
 use Rattle.lg_region.specs.Ways.{AddsExactly, AreExactly}
 use Rattle.lg_region.specs.declared.key.Key.{Key}
 use Rattle.lg_region.specs.declared.alternative.Alt.{Alt}
@@ -18,12 +17,12 @@ use Rattle.lg_region.specs.declared.alternative.Alt.TheVariants.{AllNull, Split 
 use Rattle.lg_region.specs.declared.group.Gap.{Gap}
 use Rattle.lg_region.specs.declared.group.Group.{Group}
 use Rattle.lg_region.specs.declared.opening.Beginning.{Beginning}
-use Rattle.lg_forest.specs.Demands.{AsksNext, HasLinkageUnder, left_key}
-use Rattle.lg_forest.specs.Forests.{IsLive, AreLive}
+use Rattle.lg_forest.specs.Demands.{HasLinkageUnder, left_key}
+use Rattle.lg_forest.specs.Forests.{IsLive}
 use Rattle.lg_forest.specs.Halves.{AddsLive, AsksAmong, IsEnding}
 use Rattle.lg_forest.specs.Search.{Asked, AsksOf, IsTable, KeysAreDecided, key_width}
 use Rattle.lg_forest.specs.Search.AsksOf.{left as asks_left, right as asks_right}
-use Rattle.lg_forest.specs.Demands.AsksNext.{left as next_left, right as next_right}
+use Rattle.lg_forest.specs.Demands.AsksNext.{left as next_left}
 use Rattle.lg_forest.proofs.Asked.{asked_as, asked_then, next_narrow}
 use Rattle.lg_forest.proofs.Once.{contains_at, contains_none, once_none}
 
@@ -257,38 +256,10 @@ module _ (n : Numbering) (alts : List Alt) (i next : ℕ) (a : Alt) (q : next �
         λ (l', m). elim ((step z).0 m) [ inl m' ↦ (l', m') | inr same ↦ absurd (dead (subst (IsLive n.positions n.lists) (sym same) l')) ],
       )) x
 
--- ---- groups and their beginnings
-
-pub group_begun : (n : Numbering) (key : Key) (gap : Gap) (g : Group) (bs : List Beginning) (i : ℕ) → IsKeyOfGap key gap → AreBeginnings n gap g bs → length bs ≤ i → (a : Alt) → IsAltOf n.positions n.lists key a → Among (IsEnding gap g) bs i a ↔ StandsIn g.word g.from g.to a
-group_begun n key gap g bs i is are end a alt = (
-  λ (j, b, l, at, h). h.0,
-  λ s. let x = are.some a (alt_out n key gap a is alt, s) in among_all (IsEnding gap g) bs i x.0 a end x.1 (s, x.2),
-)
+-- ---- groups
 
 abbrev pub In : Group → Alt → Type 0
 In g a = StandsIn g.word g.from g.to a
-
-module _ (n : Numbering) (key : Key) (groups : Groups) (are : AreGroups n key groups) (i : ℕ) (end : length groups.items.items ≤ i) where
-  among_groups : (a : Alt) → IsAltOf n.positions n.lists key a → Among In groups.items.items i a
-  among_groups a alt = let x = are.some a (alt_out n key groups.gap a are.key_is alt) in among_all In groups.items.items i x.0 a end x.1 x.2
-
-  pub groups_asked : (old new : List (Key × List Alt)) → Asked n (AsksAmong n key (Among In groups.items.items i)) old new → Asked n (AsksNext n.positions n.lists key) old new
-  groups_asked old new x =
-      asked_as n (AsksAmong n key (Among In groups.items.items i)) (AsksNext n.positions n.lists key) old new (λ k (a, alt, m, o). next_of a k alt o) (λ k h. by k h) x
-    where
-      next_of : (a : Alt) (k : Key) → IsAltOf n.positions n.lists key a → AsksOf n a k → AsksNext n.positions n.lists key k
-      next_of a _ alt (asks_left k q) = next_left a k alt q
-      next_of a _ alt (asks_right k q l) = next_right a k alt q l
-
-      by : (k : Key) → AsksNext n.positions n.lists key k → AsksAmong n key (Among In groups.items.items i) k
-      by _ (next_left a k alt q) = (a, alt, among_groups a alt, asks_left k q)
-      by _ (next_right a k alt q l) = (a, alt, among_groups a alt, asks_right k q l)
-
-  pub groups_live : (live : List Alt) → AddsLive n key (Among In groups.items.items i) [] live → AreLive n.positions n.lists key live
-  groups_live live x = let r = from_none [] live (λ a. IsAltOf n.positions n.lists key a × Among In groups.items.items i a × IsLive n.positions n.lists a) refl x in record {
-    exactly = λ a. (λ c. (let t = (r.each a).0 c in (t.0, t.2)), λ (alt, l). (r.each a).1 (alt, among_groups a alt, l));
-    once = r.once;
-  }
 
 -- ---- what a loop tells
 

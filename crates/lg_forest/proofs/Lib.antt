@@ -14,6 +14,7 @@ pub mod Forested
 pub mod GoodLinkage
 pub mod SameLinkage
 mod Among
+pub mod Levels
 pub mod Opening
 pub mod Starting
 pub mod Origins

@@ -1,29 +1,35 @@
 -- Openings: how they begin, grow and are kept, and what they tell of a region.
-use Rattle.std.proofs.Common.{◌≡◌, ◌↔◌, ℕ, ◌+◌, ◌<◌, ◌≤◌, ◌⊎◌, inl, inr, refl, sym, ap, ◌∙◌, subst, List, [], ◌∷◌, ◌++◌, Some, None, IfSome, Contains, slice_get, arith}
+use Rattle.std.proofs.Common.{◌≡◌, ◌↔◌, ℕ, ◌+◌, ◌<◌, ◌≤◌, ◌⊎◌, inl, inr, refl, sym, ap, ◌∙◌, subst, List, [], ◌∷◌, ◌++◌, Some, None, Option, IfSome, Contains, slice_get, arith}
 use Rattle.std.proofs.lemmas.Bool.{cases_lt}
 use Rattle.std.proofs.lemmas.List.Elements.{Contains-append_left, Contains-append_right, Contains-append_cases}
 use Rattle.std.specs.Map.{keys_of}
-use Rattle.lg_region.specs.Alike.{BeginsWith, HaveSameLeft, RegionsBeginAlike}
+use Rattle.lg_gram.specs.Connectors.{Connector}
+use Rattle.lg_region.specs.Alike.{BeginsWith, CutsInside, HaveSameLeft, IsAltAt, RegionsBeginAlike, end_of}
 use Rattle.lg_region.specs.Fronts.{AreListsOf, Numbering}
-use Rattle.lg_region.specs.Groups.{region_of_gap, IsGroup, StandsBefore, StandsIn}
-use Rattle.lg_region.specs.Keys.{IsAltOf, IsAltOfRegion}
-use Rattle.lg_region.specs.Openings.{AreBeginnings, BeginsSo, IsKeyOfGap, left_of}
+use Rattle.lg_region.specs.Chains.{class_at}
+use Rattle.lg_region.specs.Groups.{HaveLeft, IsNextLed, StandsBefore, StandsIn, left_lead}
+use Rattle.lg_region.specs.Keys.{IsAltOf}
+use Rattle.lg_region.specs.declared.chains.Side.TheVariants.{Right}
+use Rattle.lg_region.specs.Openings.{AreBeginnings, BeginsSo, IsKeyOfGap, LeavesLeft, left_of}
 use Rattle.lg_region.specs.declared.key.Key.{Key}
+use Rattle.lg_region.specs.declared.key.Key.TheVariants.{Whole, Region as Between}
 use Rattle.lg_region.specs.declared.alternative.Alt.{Alt}
 use Rattle.lg_region.specs.declared.alternative.Alt.TheVariants.{AllNull, Split as At}
 use Rattle.lg_region.specs.declared.group.Gap.{Gap}
+use Rattle.lg_region.specs.declared.group.Lead.{Lead}
 use Rattle.lg_region.specs.declared.group.Group.{Group}
 use Rattle.lg_region.specs.declared.opening.Beginning.{Beginning}
 use Rattle.lg_forest.specs.Demands.{HasLinkageUnder, left_key}
 use Rattle.lg_forest.specs.Known.{AreKnown}
-use Rattle.lg_forest.specs.Opened.{AsksLeft, IsAny, IsLiveLeft, IsMemory, IsOpening, IsStart, OpensWord, StandsAt, StartsSo}
+use Rattle.lg_forest.specs.Opened.{AsksLeft, IsAltWith, IsAny, IsLiveLeft, IsMemory, IsOpening, IsStart, OpensWord, StandsAt, StartsSo}
 use Rattle.lg_forest.specs.Search.{Asked, IsTable}
 use Rattle.lg_forest.specs.declared.memory.Memory.{Memory}
 use Rattle.lg_forest.specs.declared.openings.Opening.{Opening}
-use Rattle.lg_forest.specs.declared.openings.Origin.{Origin}
+use Rattle.lg_region.specs.declared.opening.Origin.{Origin}
 use Rattle.lg_forest.specs.declared.openings.Start.{Start}
 use Rattle.lg_forest.proofs.Asked.{asked_same, keys_later}
 use Rattle.lg_forest.proofs.Among.{append_cases, alt_in, alt_out}
+use Rattle.lg_forest.proofs.Levels.{leaves}
 use Rattle.lg_forest.proofs.Starting.{lefts_as, lefts_then}
 use Rattle.lg_forest.proofs.Once.{contains_at, contains_none}
 
@@ -34,14 +40,14 @@ Entries = List (Key × List Alt)
 abbrev pub no_beginning : Beginning
 no_beginning = record { nulls = 0; way = record { joint = None; near = 0; far = 0 } }
 
-pub same_begins : (n : Numbering) (gap : Gap) (group : Group) (xs ys : List Beginning) → xs ≡ ys → AreBeginnings n gap group ys → AreBeginnings n gap group xs
-same_begins n gap group xs ys e h = subst (AreBeginnings n gap group) (sym e) h
+pub same_begins : (n : Numbering) (gap : Gap) (group : Group) (nulls : ℕ) (xs ys : List Beginning) → xs ≡ ys → AreBeginnings n gap group nulls ys → AreBeginnings n gap group nulls xs
+same_begins n gap group nulls xs ys e h = subst (AreBeginnings n gap group nulls) (sym e) h
 
 -- ---- a table that only grew
 
 module _ (n : Numbering) (old new : Entries) (kept : (k : Key) → Contains (keys_of old) k → Contains (keys_of new) k) where
   pub opening_kept : (origin : Origin) (o : Opening) → IsOpening n old origin o → IsOpening n new origin o
-  opening_kept origin o x = record { behind = x.behind; before = x.before; each = x.each; some = x.some; apart = x.apart; asked = λ gap a k b i s e. kept k (x.asked gap a k b i s e) }
+  opening_kept origin o x = record { behind = x.behind; before = x.before; level = x.level; each = x.each; some = x.some; apart = x.apart; asked = λ gap a k b i s e. kept k (x.asked gap a k b i s e) }
 
   pub memory_kept : (m : Memory) → IsMemory n old m → IsMemory n new m
   memory_kept m x = record { known = x.known; opened = λ origin o has. opening_kept origin o (x.opened origin o has) }
@@ -108,69 +114,75 @@ before_cases : (word : ℕ) (a : Alt) → StandsBefore (word + 1) a → StandsBe
 before_cases word AllNull s = inl tt
 before_cases word (At w i tl tr lk rk) s = elim (cases_lt w word) [ inl h ↦ inl h | inr h ↦ inr (let x = s in omega arith) ]
 
--- ---- the alternatives of a region that begins with a list
+at_before : (word end : ℕ) (a : Alt) → StandsAt word a → StandsBefore end a → word < end
+at_before word end AllNull s l = absurd s
+at_before word end (At w i tl tr lk rk) s l = let e = s in omega arith
 
-module _ (n : Numbering) (are : AreListsOf n.positions n.lists) (law : RegionsBeginAlike) (left llist : ℕ) where
+-- ---- the alternatives of a region that begins so, with as many unlinked words on the left as the origin says
+
+abbrev lead_at : Option Connector → Lead
+lead_at c = record { side = Right; class = class_at c }
+
+module _ (n : Numbering) (are : AreListsOf n.positions n.lists) (law : RegionsBeginAlike) (origin : Origin) where
   abbrev IsOf : Gap → Alt → Type 0
-  IsOf gap a = IsAltOfRegion n.positions n.lists (region_of_gap n.lists gap) a
+  IsOf gap a = IsAltAt n gap origin.nulls a
 
-  null_not : (z : Alt) → HaveSameLeft AllNull z → ⊥
-  null_not AllNull h = h
-  null_not (At w i tl tr lk rk) h = h
-
-  module _ (gap : Gap) (b : BeginsWith n left llist gap) where
-    not_null : IsOf gap AllNull → ⊥
-    not_null i = let r = law n left llist gap gap AllNull are b b i tt in null_not r.0 r.2
-
-    -- it is cut inside
-    pub cut_inside : (a : Alt) → IsOf gap a → (w : ℕ) × StandsAt w a × (gap.left < w) × (w < gap.right)
-    cut_inside AllNull i = absurd (not_null i)
-    cut_inside (At w m tl tr None rk) i = absurd i
-    cut_inside (At w m tl tr (Some lk) None) i = absurd i
-    cut_inside (At w m tl tr (Some lk) (Some rk)) (c, is) = let a = is.cut.after in let z = is.cut.before in let p = is.place in (w, refl, omega arith, omega arith)
+  module _ (gap : Gap) (b : BeginsWith n origin gap) where
+    -- it is cut inside, with room behind the word
+    pub cut_inside : (a : Alt) → IsOf gap a → (w : ℕ) × StandsAt w a × (gap.left < w) × (w < end_of gap origin.nulls)
+    cut_inside a i = by a (law.inside n origin gap a are b i.0) i.1
+      where
+        by : (a : Alt) → CutsInside gap a → LeavesLeft origin.nulls a → (w : ℕ) × StandsAt w a × (gap.left < w) × (w < end_of gap origin.nulls)
+        by AllNull x l = absurd x
+        by (At w m tl tr None rk) x l = absurd l
+        by (At w m tl tr (Some (Whole z)) rk) x l = absurd l
+        by (At w m tl tr (Some (Between p q ll rl k)) rk) x l = (w, refl, x.0, subst (λ v. w < end_of gap v) l x.2)
 
     pub none_before : (a : Alt) → IsOf gap a → StandsBefore (gap.left + 1) a → ⊥
-    none_before AllNull i s = not_null i
-    none_before (At w m tl tr lk rk) i s = let r = cut_inside (At w m tl tr lk rk) i in let x = r.1 in let y = r.2 in omega arith
+    none_before a i s = let r = cut_inside a i in let x = r.2 in let y = at_before r.0 (gap.left + 1) a r.1 s in omega arith
 
-    module _ (other : Gap) (o : BeginsWith n left llist other) where
+    module _ (other : Gap) (o : BeginsWith n origin other) where
       lefts : gap.left ≡ other.left
       lefts = b.left_is ∙ sym o.left_is
 
-      -- an alternative of the one, before the end of the other
-      moved : (word : ℕ) (a : Alt) → IsOf gap a → StandsAt word a → word < other.right → (z : Alt) × IsOf other z × HaveSameLeft a z
-      moved word a i s l = law n left llist other gap a are o b i (before_at word other.right a s l)
+      leads : gap.lead ≡ other.lead
+      leads = let same = b.llist_is ∙ sym o.llist_is in elim (cases_lt gap.llist 1) [
+        | inl p ↦ (let z : gap.llist ≡ 0 = omega arith in b.rlead z ∙ ap lead_at (b.last_is z ∙ sym (o.last_is (sym same ∙ z))) ∙ sym (o.rlead (sym same ∙ z)))
+        | inr p ↦ b.lead (λ z. omega arith) ∙ ap (left_lead n) same ∙ sym (o.lead (λ z. omega arith))
+      ]
 
-      pub start_moved : (s : Start) → IsStart n gap s → s.group.word < other.right → IsStart n other s
-      start_moved s x l =
-          let lead : gap.lead ≡ other.lead = b.lead ∙ sym o.lead in
+      -- an alternative of the one, where the other has room behind its word
+      moved : (word : ℕ) (a : Alt) → IsOf gap a → StandsAt word a → word < end_of other origin.nulls → (z : Alt) × IsOf other z × HaveSameLeft a z
+      moved word a i s l = law.alike n origin other gap a are o b i (before_at word (end_of other origin.nulls) a s l)
+
+      pub start_moved : (s : Start) → s.begin.nulls ≡ origin.nulls → IsStart n gap s → s.group.word < end_of other origin.nulls → IsStart n other s
+      start_moved s level x l =
           let e = lefts in
           let after = x.group.after in
           let a = x.some.0 in
-          let r = moved s.group.word a x.some.1.0 (in_at s.group.word s.group.from s.group.to a x.some.1.1) l in record {
+          let r = moved s.group.word a (x.some.1.0, subst (λ z. LeavesLeft z a) level (leaves gap s.group s.begin a x.some.2)) (in_at s.group.word s.group.from s.group.to a x.some.1.1) l in record {
             group = record {
               after = omega arith;
-              before = l;
+              before = omega arith;
               listed = x.group.listed;
               known = x.group.known;
-              left = subst (λ z. Rattle.lg_region.specs.Groups.HaveLeft n z s.group.word s.group.left s.group.from s.group.to) lead x.group.left;
-              first = subst (λ z. Rattle.lg_region.specs.Groups.IsNextLed n z s.group.word s.group.from s.group.from) lead x.group.first;
+              left = subst (λ z. HaveLeft n z s.group.word s.group.left s.group.from s.group.to) leads x.group.left;
+              first = subst (λ z. IsNextLed n z s.group.word s.group.from s.group.from) leads x.group.first;
             };
-            some = (r.0, (r.1, (same_in s.group.word s.group.from s.group.to a r.0 r.2).0 x.some.1.1), (same_begin gap other s.group s.begin a r.0 e r.2).0 x.some.2);
+            some = (r.0, (r.1.0, (same_in s.group.word s.group.from s.group.to a r.0 r.2).0 x.some.1.1), (same_begin gap other s.group s.begin a r.0 e r.2).0 x.some.2);
           }
 
   -- nothing was looked at
-  pub opening_new : (es : Entries) (origin : Origin) (o : Opening) → origin.left ≡ left → origin.llist ≡ llist → o.done ≡ left + 1 → o.starts.items ≡ [] → IsOpening n es origin o
-  opening_new es origin o l m d e =
+  pub opening_new : (es : Entries) (o : Opening) → o.done ≡ origin.left + 1 → o.starts.items ≡ [] → IsOpening n es origin o
+  opening_new es o d e =
       let none : (s : Start) → Contains o.starts.items s → ⊥ = λ s c. contains_none s (subst (λ z. Contains z s) e c) in
-      let behind : (gap : Gap) (a : Alt) → BeginsWith n origin.left origin.llist gap → IsOf gap a → StandsBefore o.done a → ⊥ =
-      λ gap a b i s. (let b' = subst (λ z. BeginsWith n origin.left z gap) m (b) in
-      let b'' = subst (λ z. BeginsWith n z llist gap) l b' in
-      let q = b''.left_is in
+      let behind : (gap : Gap) (a : Alt) → BeginsWith n origin gap → IsOf gap a → StandsBefore o.done a → ⊥ =
+      λ gap a b i s. (let q = b.left_is in
       let d' : o.done ≡ gap.left + 1 = omega arith in
-      none_before gap b'' a i (subst (λ z. StandsBefore z a) d' s)) in record {
+      none_before gap b a i (subst (λ z. StandsBefore z a) d' s)) in record {
         behind = omega arith;
         before = λ s c. absurd (none s c);
+        level = λ s c. absurd (none s c);
         each = λ gap s b c. absurd (none s c);
         some = λ gap a b i s live. absurd (behind gap a b i s);
         apart = λ gap i j s t a f g. absurd (none s (contains_at o.starts.items i s f));
@@ -178,11 +190,8 @@ module _ (n : Numbering) (are : AreListsOf n.positions n.lists) (law : RegionsBe
       }
 
   -- one word more was looked at
-  module _ (key : Key) (gap : Gap) (word : ℕ) (is : IsKeyOfGap key gap) (b : BeginsWith n left llist gap) (lt : word < gap.right) (mid new : Entries) (old : Opening) (next : Opening) (d : old.done ≡ word) (opens : OpensWord n gap word old next)
-      (kept : (k : Key) → Contains (keys_of mid) k → Contains (keys_of new) k) (there : (k : Key) → AsksLeft n key (StandsAt word) k → Contains (keys_of new) k) where
-    abbrev here : Origin
-    here = record { left = left; llist = llist }
-
+  module _ (key : Key) (gap : Gap) (word : ℕ) (is : IsKeyOfGap key gap) (b : BeginsWith n origin gap) (lt : word < end_of gap origin.nulls) (mid new : Entries) (old : Opening) (next : Opening) (d : old.done ≡ word) (opens : OpensWord n gap origin.nulls word old next)
+      (kept : (k : Key) → Contains (keys_of mid) k → Contains (keys_of new) k) (there : (k : Key) → AsksLeft n key origin.nulls (StandsAt word) k → Contains (keys_of new) k) where
     starts_cases : (s : Start) → Contains next.starts.items s → Contains old.starts.items s ⊎ Contains opens.more s
     starts_cases s c = Contains-append_cases old.starts.items opens.more s (subst (λ z. Contains z s) opens.added c)
 
@@ -195,11 +204,12 @@ module _ (n : Numbering) (are : AreListsOf n.positions n.lists) (law : RegionsBe
     end_cases : (a : Alt) → StandsBefore next.done a → StandsBefore old.done a ⊎ StandsAt word a
     end_cases a s = elim (before_cases word a (subst (λ z. StandsBefore z a) opens.done s)) [ inl h ↦ inl (subst (λ z. StandsBefore z a) (sym d) h) | inr h ↦ inr h ]
 
-    pub word_opened : IsOpening n mid here old → IsOpening n new here next
+    pub word_opened : IsOpening n mid origin old → IsOpening n new origin next
     word_opened x = record {
       behind = (let e = opens.done in let l = x.behind in omega arith);
       before = λ s c. (let e = opens.done in elim (starts_cases s c) [ inl h ↦ (let l = x.before s h in omega arith) | inr h ↦ (let l = (opens.each s h).0 in omega arith) ]);
-      each = λ other s o c l. elim (starts_cases s c) [ inl h ↦ x.each other s o h l | inr h ↦ start_moved gap b other o s (opens.each s h).1 l ];
+      level = λ s c. elim (starts_cases s c) [ inl h ↦ x.level s h | inr h ↦ (opens.each s h).1 ];
+      each = λ other s o c l. elim (starts_cases s c) [ inl h ↦ x.each other s o h l | inr h ↦ start_moved gap b other o s (opens.each s h).1 (opens.each s h).2 l ];
       some = λ other a o i s live. elim (end_cases a s) [
         | inl h ↦ (let r = x.some other a o i h live in (r.0, starts_left r.0 r.1, r.2))
         | inr h ↦ (let m = moved other o gap b word a i h lt in
@@ -219,7 +229,7 @@ module _ (n : Numbering) (are : AreListsOf n.positions n.lists) (law : RegionsBe
       ];
       asked = λ other a k o i s e. elim (end_cases a s) [
         | inl h ↦ kept k (x.asked other a k o i h e)
-        | inr h ↦ (let m = moved other o gap b word a i h lt in there k (m.0, alt_in n key gap m.0 is m.1, same_word word a m.0 m.2 h, sym (same_key a m.0 m.2) ∙ e))
+        | inr h ↦ (let m = moved other o gap b word a i h lt in there k (m.0, (alt_in n key gap m.0 is m.1.0, m.1.1), same_word word a m.0 m.2 h, sym (same_key a m.0 m.2) ∙ e))
       ];
     }
       where
@@ -233,25 +243,28 @@ before_next : (word next : ℕ) (a : Alt) → next ≡ word + 1 → StandsBefore
 before_next word next AllNull e = (λ s. inl tt, λ h. tt)
 before_next word next (At w i tl tr lk rk) e = (λ s. elim (cases_lt w word) [ inl h ↦ inl h | inr h ↦ inr (omega arith) ], λ h. elim h [ inl s ↦ omega arith | inr s ↦ (let x = s in omega arith) ])
 
-pub words_next : (n : Numbering) (key : Key) (word next : ℕ) → next ≡ word + 1 → (old mid new : Entries) → Asked n (AsksLeft n key (StandsBefore word)) old mid → Asked n (AsksLeft n key (StandsAt word)) mid new → Asked n (AsksLeft n key (StandsBefore next)) old new
-words_next n key word next e old mid new x y = lefts_then n key (StandsBefore word) (StandsAt word) (StandsBefore next) (λ a. before_next word next a e) old mid new x y
+pub words_next : (n : Numbering) (key : Key) (nulls word next : ℕ) → next ≡ word + 1 → (old mid new : Entries) → Asked n (AsksLeft n key nulls (StandsBefore word)) old mid → Asked n (AsksLeft n key nulls (StandsAt word)) mid new
+    → Asked n (AsksLeft n key nulls (StandsBefore next)) old new
+words_next n key nulls word next e old mid new x y = lefts_then n key nulls (StandsBefore word) (StandsAt word) (StandsBefore next) (λ a. before_next word next a e) old mid new x y
 
-module _ (n : Numbering) (are : AreListsOf n.positions n.lists) (law : RegionsBeginAlike) (key : Key) (gap : Gap) (is : IsKeyOfGap key gap) (b : BeginsWith n gap.left gap.llist gap) where
-  abbrev mine : Origin
-  mine = record { left = gap.left; llist = gap.llist }
+module _ (n : Numbering) (are : AreListsOf n.positions n.lists) (law : RegionsBeginAlike) (origin : Origin) (key : Key) (gap : Gap) (is : IsKeyOfGap key gap) (b : BeginsWith n origin gap) where
+  here : (a : Alt) → IsAltWith n key origin.nulls a → IsAltAt n gap origin.nulls a
+  here a alt = (alt_out n key gap a is alt.0, alt.1)
 
   -- what an opening tells is in the table
-  pub words_first : (o : Opening) (es : Entries) → IsTable n es → IsOpening n es mine o → Asked n (AsksLeft n key (StandsBefore o.done)) es es
-  words_first o es table x = asked_same n (AsksLeft n key (StandsBefore o.done)) es table (λ k (a, alt, s, e). x.asked gap a k b (alt_out n key gap a is alt) s e)
+  pub words_first : (o : Opening) (es : Entries) → IsTable n es → IsOpening n es origin o → Asked n (AsksLeft n key origin.nulls (StandsBefore o.done)) es es
+  words_first o es table x = asked_same n (AsksLeft n key origin.nulls (StandsBefore o.done)) es table (λ k (a, alt, s, e). x.asked gap a k b (here a alt) s e)
 
-  pub words_all : (word : ℕ) → gap.right ≤ word → (old new : Entries) → Asked n (AsksLeft n key (StandsBefore word)) old new → Asked n (AsksLeft n key IsAny) old new
+  pub words_all : (word : ℕ) → end_of gap origin.nulls ≤ word → (old new : Entries) → Asked n (AsksLeft n key origin.nulls (StandsBefore word)) old new → Asked n (AsksLeft n key origin.nulls IsAny) old new
   words_all word l old new x =
-      lefts_as n key (StandsBefore word) IsAny (λ a alt. (λ s. tt, λ t. let r = cut_inside n are law gap.left gap.llist gap b a (alt_out n key gap a is alt) in let lt = r.3 in before_at r.0 word a r.1 (omega arith))) old new x
+      lefts_as n key origin.nulls (StandsBefore word) IsAny (λ a alt. (λ s. tt, λ t. let r = cut_inside n are law origin gap b a (here a alt) in let lt = r.3 in before_at r.0 word a r.1 (omega arith))) old new x
 
   -- each alternative whose left key has a linkage starts so
-  pub opening_some : (o : Opening) (es : Entries) → gap.right ≤ o.done → IsOpening n es mine o → (a : Alt) → IsAltOfRegion n.positions n.lists (region_of_gap n.lists gap) a → IsLiveLeft n a → (s : Start) × Contains o.starts.items s × StartsSo gap s a
-  opening_some o es l x a i live = let r = cut_inside n are law gap.left gap.llist gap b a i in let lt = r.3 in x.some gap a b i (before_at r.0 o.done a r.1 (omega arith)) live
+  pub opening_some : (o : Opening) (es : Entries) → end_of gap origin.nulls ≤ o.done → IsOpening n es origin o → (a : Alt) → IsAltWith n key origin.nulls a → IsLiveLeft n a → (s : Start) × Contains o.starts.items s × StartsSo gap s a
+  opening_some o es l x a alt live = let r = cut_inside n are law origin gap b a (here a alt) in let lt = r.3 in x.some gap a b (here a alt) (before_at r.0 o.done a r.1 (omega arith)) live
 
-  -- none starts at a word that does not lie in the region
-  pub none_starts : (s : Start) → gap.right ≤ s.group.word → (a : Alt) → IsAltOf n.positions n.lists key a → StartsSo gap s a → ⊥
-  none_starts s l a alt h = let r = cut_inside n are law gap.left gap.llist gap b a (alt_out n key gap a is alt) in let e = one_word r.0 s.group.word a r.1 (start_at gap s a h) in let lt = r.3 in omega arith
+  -- none starts at a word behind which there is no room
+  pub none_starts : (s : Start) → s.begin.nulls ≡ origin.nulls → end_of gap origin.nulls ≤ s.group.word → (a : Alt) → IsAltOf n.positions n.lists key a → StartsSo gap s a → ⊥
+  none_starts s level l a alt h =
+      let r = cut_inside n are law origin gap b a (here a (alt, subst (λ z. LeavesLeft z a) level (leaves gap s.group s.begin a h.1))) in
+      let e = one_word r.0 s.group.word a r.1 (start_at gap s a h) in let lt = r.3 in omega arith

@@ -4,7 +4,7 @@ use Rattle.std.proofs.lemmas.Option.{slice_get_within}
 use Rattle.lg_region.specs.Fronts.{AreOnce, Numbering}
 use Rattle.lg_region.specs.Groups.{region_of_gap, IsGroup, StandsIn}
 use Rattle.lg_region.specs.Keys.{IsAltOf, IsAltOfRegion}
-use Rattle.lg_region.specs.Openings.{AreApart, AreBeginnings, BeginsSo, GroupsOfWord, IsIn, IsKeyOfGap, left_of}
+use Rattle.lg_region.specs.Openings.{AreApart, AreBeginnings, BeginsSo, GroupsOfWord, IsIn, IsKeyOfGap, LeavesLeft, left_of}
 use Rattle.lg_region.specs.Ways.{AddsExactly}
 use Rattle.lg_region.specs.declared.key.Key.{Key}
 use Rattle.lg_region.specs.declared.key.Key.TheVariants.{Whole, Region as Between}
@@ -13,17 +13,17 @@ use Rattle.lg_region.specs.declared.alternative.Alt.TheVariants.{AllNull, Split 
 use Rattle.lg_region.specs.declared.group.Gap.{Gap}
 use Rattle.lg_region.specs.declared.group.Group.{Group}
 use Rattle.lg_region.specs.declared.opening.Beginning.{Beginning}
-use Rattle.lg_forest.specs.Demands.{AsksNext, HasLinkageUnder}
-use Rattle.lg_forest.specs.Demands.AsksNext.{left as next_left, right as next_right}
-use Rattle.lg_forest.specs.Forests.{IsLive, AreLive}
+use Rattle.lg_forest.specs.Demands.{HasLinkageUnder}
+use Rattle.lg_forest.specs.Forests.{IsLive}
 use Rattle.lg_forest.specs.Halves.{AddsLive, AsksAmong}
-use Rattle.lg_forest.specs.Opened.{AddsStarts, AsksLeft, IsAny, IsLiveLeft, IsLiveStart, OpensWord, StandsAt, StartsSo}
+use Rattle.lg_forest.specs.Opened.{AddsStarts, AsksLeft, IsAltWith, IsAny, IsLiveLeft, IsLiveStart, OpensWord, StandsAt, StartsSo}
 use Rattle.lg_forest.specs.Search.{Asked, AsksOf}
 use Rattle.lg_forest.specs.Search.AsksOf.{left as asks_left, right as asks_right}
 use Rattle.lg_forest.specs.declared.openings.Opening.{Opening}
 use Rattle.lg_forest.specs.declared.openings.Start.{Start}
 use Rattle.lg_forest.proofs.Asked.{asked_as, asked_then}
-use Rattle.lg_forest.proofs.Among.{Among, In, adds_as, adds_one, adds_then, among_all, among_next, alt_in, alt_out, begins_same, ending_left, from_none}
+use Rattle.lg_forest.proofs.Among.{Among, In, adds_as, adds_one, adds_then, among_all, among_next, alt_in, alt_out, begins_same, ending_left}
+use Rattle.lg_forest.proofs.Levels.{leaves, same_level}
 use Rattle.lg_forest.proofs.Once.{contains_at}
 
 abbrev Entries : Type 0
@@ -31,24 +31,24 @@ Entries = List (Key × List Alt)
 
 -- ---- the left keys of some alternatives
 
-module _ (n : Numbering) (key : Key) (P Q R : Alt → Type 0) (e : (a : Alt) → R a ↔ (P a ⊎ Q a)) where
-  pub lefts_then : (old mid new : Entries) → Asked n (AsksLeft n key P) old mid → Asked n (AsksLeft n key Q) mid new → Asked n (AsksLeft n key R) old new
+module _ (n : Numbering) (key : Key) (nulls : ℕ) (P Q R : Alt → Type 0) (e : (a : Alt) → R a ↔ (P a ⊎ Q a)) where
+  pub lefts_then : (old mid new : Entries) → Asked n (AsksLeft n key nulls P) old mid → Asked n (AsksLeft n key nulls Q) mid new → Asked n (AsksLeft n key nulls R) old new
   lefts_then old mid new x y =
-      asked_then n (AsksLeft n key P) (AsksLeft n key Q) (AsksLeft n key R) old mid new
+      asked_then n (AsksLeft n key nulls P) (AsksLeft n key nulls Q) (AsksLeft n key nulls R) old mid new
       (λ k (a, is, p, q). (a, is, (e a).1 (inl p), q))
       (λ k (a, is, p, q). (a, is, (e a).1 (inr p), q))
       (λ k (a, is, r, q). elim ((e a).0 r) [ inl p ↦ inl (a, is, p, q) | inr p ↦ inr (a, is, p, q) ])
       x y
 
-pub lefts_as : (n : Numbering) (key : Key) (P Q : Alt → Type 0) → ((a : Alt) → IsAltOf n.positions n.lists key a → P a ↔ Q a) → (old new : Entries) → Asked n (AsksLeft n key P) old new → Asked n (AsksLeft n key Q) old new
-lefts_as n key P Q e old new x =
-    asked_as n (AsksLeft n key P) (AsksLeft n key Q) old new (λ k (a, is, p, q). (a, is, (e a is).0 p, q)) (λ k (a, is, p, q). (a, is, (e a is).1 p, q)) x
+pub lefts_as : (n : Numbering) (key : Key) (nulls : ℕ) (P Q : Alt → Type 0) → ((a : Alt) → IsAltWith n key nulls a → P a ↔ Q a) → (old new : Entries) → Asked n (AsksLeft n key nulls P) old new → Asked n (AsksLeft n key nulls Q) old new
+lefts_as n key nulls P Q e old new x =
+    asked_as n (AsksLeft n key nulls P) (AsksLeft n key nulls Q) old new (λ k (a, is, p, q). (a, is, (e a is).0 p, q)) (λ k (a, is, p, q). (a, is, (e a is).1 p, q)) x
 
 -- ---- the starts of a group
 
--- a live start of the group
-abbrev pub IsOfGroup : Numbering → Gap → Group → Start → Type 0
-IsOfGroup n gap g s = (s.group ≡ g) × ((a : Alt) × IsIn n gap g a × BeginsSo gap g s.begin a) × IsLiveStart n gap s
+-- a live start of the group that leaves so many words unlinked on the left
+abbrev pub IsOfGroup : Numbering → Gap → ℕ → Group → Start → Type 0
+IsOfGroup n gap nulls g s = (s.group ≡ g) × ((a : Alt) × IsIn n gap g a × BeginsSo gap g s.begin a) × (s.begin.nulls ≡ nulls) × IsLiveStart n gap s
 
 -- with one of the first beginnings
 abbrev pub OfFirst : Numbering → Gap → Group → List Beginning → ℕ → Start → Type 0
@@ -99,22 +99,24 @@ module _ (n : Numbering) (gap : Gap) (g : Group) (bs : List Beginning) (i next :
       (λ k m. elim ((here k).0 m) [ inl m' ↦ inl m' | inr f ↦ inr (sym (e ∙ f)) ])
       x y
 
-module _ (n : Numbering) (key : Key) (gap : Gap) (g : Group) (is : IsKeyOfGap key gap) (bs : List Beginning) (are : AreBeginnings n gap g bs) (i : ℕ) (end : length bs ≤ i) where
+module _ (n : Numbering) (key : Key) (gap : Gap) (g : Group) (nulls : ℕ) (is : IsKeyOfGap key gap) (bs : List Beginning) (are : AreBeginnings n gap g nulls bs) (i : ℕ) (end : length bs ≤ i) where
   -- all beginnings were looked at
-  pub group_started : (old new : List Start) → AddsExactly old new (OfFirst n gap g bs i) → AddsStarts n gap g old new
+  pub group_started : (old new : List Start) → AddsExactly old new (OfFirst n gap g bs i) → AddsStarts n gap nulls g old new
   group_started old new x =
-      adds_as old new (OfFirst n gap g bs i) (IsOfGroup n gap g)
+      adds_as old new (OfFirst n gap g bs i) (IsOfGroup n gap nulls g)
       (λ s. (
-        λ (u, (j, b, l, at, r), v). (u, subst (λ z. (a : Alt) × IsIn n gap g a × BeginsSo gap g z a) r (are.each b (contains_at bs j b at)), v),
-        λ (u, (a, h, p), v). let c = are.some a h in (u, among_all (λ (b c : Beginning). b ≡ c) bs i c.0 s.begin end c.1 (begins_same gap g c.0 s.begin a c.2 p), v),
+        λ (u, (j, b, l, at, r), v). (let has = contains_at bs j b at in (u, subst (λ z. (a : Alt) × IsIn n gap g a × BeginsSo gap g z a) r (are.each b has), subst (λ (z : Beginning). z.nulls ≡ nulls) r (are.level b has), v)),
+        λ (u, (a, h, p), level, v). let c = are.some a h (subst (λ z. LeavesLeft z a) level (leaves gap g s.begin a p)) in
+            (u, among_all (λ (b c : Beginning). b ≡ c) bs i c.0 s.begin end c.1 (begins_same gap g c.0 s.begin a c.2 p), v),
       ))
       x
 
-  pub group_asked : (old new : Entries) → Asked n (LeftOfFirst gap g bs i) old new → Asked n (AsksLeft n key (In g)) old new
+  pub group_asked : (old new : Entries) → Asked n (LeftOfFirst gap g bs i) old new → Asked n (AsksLeft n key nulls (In g)) old new
   group_asked old new x =
-      asked_as n (LeftOfFirst gap g bs i) (AsksLeft n key (In g)) old new
-      (λ k (j, b, l, at, r). let a = are.each b (contains_at bs j b at) in (a.0, alt_in n key gap a.0 is a.1.0, a.1.1, ending_left gap g b a.0 a.2 ∙ ap Some r))
-      (λ k (a, alt, s, e). let c = are.some a (alt_out n key gap a is alt, s) in
+      asked_as n (LeftOfFirst gap g bs i) (AsksLeft n key nulls (In g)) old new
+      (λ k (j, b, l, at, r). let has = contains_at bs j b at in let a = are.each b has in
+      (a.0, (alt_in n key gap a.0 is a.1.0, subst (λ z. LeavesLeft z a.0) (are.level b has) (leaves gap g b a.0 a.2)), a.1.1, ending_left gap g b a.0 a.2 ∙ ap Some r))
+      (λ k (a, alt, s, e). let c = are.some a (alt_out n key gap a is alt.0, s) alt.1 in
       among_all (λ (b : Beginning) (m : Key). left_of gap g b ≡ m) bs i c.0 k end c.1 (same (left_of gap g c.0) k (sym (ending_left gap g c.0 a c.2) ∙ e)))
       x
     where
@@ -123,13 +125,13 @@ module _ (n : Numbering) (key : Key) (gap : Gap) (g : Group) (is : IsKeyOfGap ke
 
 -- ---- the starts of a word
 
-module _ (n : Numbering) (gap : Gap) (gs : List Group) (apart : AreApart gs) (i next : ℕ) (g : Group) (q : next ≡ suc i) (at : slice_get gs i ≡ Some g) where
-  pub groups_started : (old mid new : List Start) → AddsExactly old mid (Among (IsOfGroup n gap) gs i) → AddsStarts n gap g mid new → AddsExactly old new (Among (IsOfGroup n gap) gs next)
+module _ (n : Numbering) (gap : Gap) (nulls : ℕ) (gs : List Group) (apart : AreApart gs) (i next : ℕ) (g : Group) (q : next ≡ suc i) (at : slice_get gs i ≡ Some g) where
+  pub groups_started : (old mid new : List Start) → AddsExactly old mid (Among (IsOfGroup n gap nulls) gs i) → AddsStarts n gap nulls g mid new → AddsExactly old new (Among (IsOfGroup n gap nulls) gs next)
   groups_started old mid new x y =
-      adds_then old mid new (Among (IsOfGroup n gap) gs i) (IsOfGroup n gap g) (Among (IsOfGroup n gap) gs next) x y
-      (λ s (j, h, l, at', (u, v, z)) (u', (a, inside, p), w).
+      adds_then old mid new (Among (IsOfGroup n gap nulls) gs i) (IsOfGroup n gap nulls g) (Among (IsOfGroup n gap nulls) gs next) x y
+      (λ s (j, h, l, at', (u, v, lv, z)) (u', (a, inside, p), lw, w).
       let e = apart j i h g a at' at (subst (λ z. In z a) (sym u' ∙ u) inside.1) inside.1 in omega arith)
-      (λ s. among_next (IsOfGroup n gap) gs i next g q at s)
+      (λ s. among_next (IsOfGroup n gap nulls) gs i next g q at s)
 
 -- how an alternative of the region begins
 begin_of : (n : Numbering) (gap : Gap) (g : Group) (a : Alt) → IsAltOfRegion n.positions n.lists (region_of_gap n.lists gap) a → In g a → (b : Beginning) × BeginsSo gap g b a
@@ -168,8 +170,8 @@ module _ (n : Numbering) (gap : Gap) (word : ℕ) (gs : List Group) (of : Groups
       stands g AllNull s = absurd s
       stands g (At w m tl tr lk rk) s = s.0
 
-module _ (n : Numbering) (gap : Gap) (word : ℕ) (gs : List Group) (of : GroupsOfWord n gap word (length (get_or n.positions word [])) [] gs) (i : ℕ) (end : length gs ≤ i) (old next : Opening) (d : next.done ≡ word + 1) where
-  pub word_started : AddsExactly old.starts.items next.starts.items (Among (IsOfGroup n gap) gs i) → OpensWord n gap word old next
+module _ (n : Numbering) (gap : Gap) (nulls word : ℕ) (gs : List Group) (of : GroupsOfWord n gap word (length (get_or n.positions word [])) [] gs) (i : ℕ) (end : length gs ≤ i) (old next : Opening) (d : next.done ≡ word + 1) where
+  pub word_started : AddsExactly old.starts.items next.starts.items (Among (IsOfGroup n gap nulls) gs i) → OpensWord n gap nulls word old next
   word_started x = record {
     done = d;
     more = x.more;
@@ -177,14 +179,14 @@ module _ (n : Numbering) (gap : Gap) (word : ℕ) (gs : List Group) (of : Groups
     each = λ s c. (let m = (x.exactly.each s).0 c in
         let has = group_there n gap word gs of m.1 (contains_at gs m.0 m.1 m.3) in
         let e : s.group ≡ m.1 = m.4.0 in
-        (ap (λ (z : Group). z.word) e ∙ has.1, record { group = subst (λ z. IsGroup n gap z) (sym e) has.0; some = subst (λ z. (a : Alt) × IsIn n gap z a × BeginsSo gap z s.begin a) (sym e) m.4.1 }));
-    some = λ a alt at live. (let h = of.some a alt (number_in n gap word a alt at) in
+        (ap (λ (z : Group). z.word) e ∙ has.1, m.4.2, record { group = subst (λ z. IsGroup n gap z) (sym e) has.0; some = subst (λ z. (a : Alt) × IsIn n gap z a × BeginsSo gap z s.begin a) (sym e) m.4.1 }));
+    some = λ a alt at live. (let h = of.some a alt.0 (number_in n gap word a alt.0 at) in
         let g : Group = h.0 in
         let has : Contains gs g = subst (λ z. Contains z g) (sym of.added) h.1 in
-        let b = begin_of n gap g a alt h.2 in
+        let b = begin_of n gap g a alt.0 h.2 in
         let s : Start = record { group = g; begin = b.0 } in
         let lives : IsLiveStart n gap s = subst (λ z. IfSome z (HasLinkageUnder n.positions n.lists)) (ending_left gap g b.0 a b.1) live in
-        (s, (x.exactly.each s).1 (among_all (IsOfGroup n gap) gs i g s end has (refl, (a, (alt, h.2), b.1), lives)), (h.2, b.1)));
+        (s, (x.exactly.each s).1 (among_all (IsOfGroup n gap nulls) gs i g s end has (refl, (a, (alt.0, h.2), b.1), same_level b.0.nulls nulls a (leaves gap g b.0 a b.1) alt.1, lives)), (h.2, b.1)));
     apart = λ other j k s t a f g p r. (let u = (x.exactly.each s).0 (contains_at x.more j s f) in
         let v = (x.exactly.each t).0 (contains_at x.more k t g) in
         let e : s.group ≡ t.group = u.4.0 ∙ one_group u.0 v.0 u.1 v.1 u.3 v.3 (groups_apart n gap word gs of u.0 v.0 u.1 v.1 a u.3 v.3 (subst (λ z. In z a) u.4.0 p.0) (subst (λ z. In z a) v.4.0 r.0)) ∙ sym v.4.0 in
@@ -195,44 +197,42 @@ module _ (n : Numbering) (gap : Gap) (word : ℕ) (gs : List Group) (of : Groups
       one_group : (j k : ℕ) (g h : Group) → slice_get gs j ≡ Some g → slice_get gs k ≡ Some h → j ≡ k → g ≡ h
       one_group j k g h e f same = let two : ◌≡◌ {A = Option Group} (Some g) (Some h) = sym e ∙ ap (slice_get gs) same ∙ f in cc
 
--- ---- the region, from its live starts
+-- ---- the alternatives that leave so many words unlinked on the left, from the live starts
 
-module _ (n : Numbering) (key : Key) (gap : Gap) (is : IsKeyOfGap key gap) (starts : List Start) (i : ℕ) (end : length starts ≤ i)
-    (some : (a : Alt) → IsAltOfRegion n.positions n.lists (region_of_gap n.lists gap) a → IsLiveLeft n a → (s : Start) × Contains starts s × StartsSo gap s a) where
-  among_starts : (a : Alt) → IsAltOf n.positions n.lists key a → IsLiveLeft n a → Among (StartsSo gap) starts i a
-  among_starts a alt live = let r = some a (alt_out n key gap a is alt) live in among_all (StartsSo gap) starts i r.0 a end r.1 r.2
+-- the left keys of all of them, and what the live ones ask for that start as one of the first
+abbrev pub SoFar : Numbering → Key → ℕ → Gap → List Start → ℕ → Key → Type 0
+SoFar n key nulls gap starts i k = AsksLeft n key nulls IsAny k ⊎ AsksAmong n key (Among (StartsSo gap) starts i) k
 
-  pub opening_live : (live : List Alt) → AddsLive n key (Among (StartsSo gap) starts i) [] live → AreLive n.positions n.lists key live
-  opening_live live x = let r = from_none [] live (λ a. IsAltOf n.positions n.lists key a × Among (StartsSo gap) starts i a × IsLive n.positions n.lists a) refl x in record {
-    exactly = λ a. (λ c. (let t = (r.each a).0 c in (t.0, t.2)), λ (alt, l). (r.each a).1 (alt, among_starts a alt l.left, l));
-    once = r.once;
-  }
+module _ (n : Numbering) (key : Key) (nulls : ℕ) (gap : Gap) (starts : List Start) (i : ℕ) (end : length starts ≤ i) (level : (s : Start) → Contains starts s → s.begin.nulls ≡ nulls)
+    (some : (a : Alt) → IsAltWith n key nulls a → IsLiveLeft n a → (s : Start) × Contains starts s × StartsSo gap s a) where
+  among_starts : (a : Alt) → IsAltWith n key nulls a → IsLiveLeft n a → Among (StartsSo gap) starts i a
+  among_starts a alt live = let r = some a alt live in among_all (StartsSo gap) starts i r.0 a end r.1 r.2
 
-  -- the left keys of all alternatives, and what the live ones ask for
-  pub opening_asked : (old new : Entries) → Asked n (λ k. AsksLeft n key IsAny k ⊎ AsksAmong n key (Among (StartsSo gap) starts i) k) old new → Asked n (AsksNext n.positions n.lists key) old new
+  level_among : (a : Alt) → Among (StartsSo gap) starts i a → LeavesLeft nulls a
+  level_among a (j, s, l, at, r) = subst (λ z. LeavesLeft z a) (level s (contains_at starts j s at)) (leaves gap s.group s.begin a r.1)
+
+  pub opening_live : (old new : List Alt) → AddsLive n key (Among (StartsSo gap) starts i) old new → AddsLive n key (LeavesLeft nulls) old new
+  opening_live old new x =
+      adds_as old new (λ a. IsAltOf n.positions n.lists key a × Among (StartsSo gap) starts i a × IsLive n.positions n.lists a) (λ a. IsAltOf n.positions n.lists key a × LeavesLeft nulls a × IsLive n.positions n.lists a)
+      (λ a. (λ (alt, m, l). (alt, level_among a m, l), λ (alt, lv, l). (alt, among_starts a (alt, lv) l.left, l)))
+      x
+
+  pub opening_asked : (old new : Entries) → Asked n (SoFar n key nulls gap starts i) old new → Asked n (AsksAmong n key (LeavesLeft nulls)) old new
   opening_asked old new x =
-      asked_as n (λ k. AsksLeft n key IsAny k ⊎ AsksAmong n key (Among (StartsSo gap) starts i) k) (AsksNext n.positions n.lists key) old new
-      (λ k h. elim h [ inl (a, alt, t, e) ↦ next_left a k alt e | inr (a, alt, m, o) ↦ next_of a k alt o ])
-      (λ k h. by k h)
+      asked_as n (SoFar n key nulls gap starts i) (AsksAmong n key (LeavesLeft nulls)) old new
+      (λ k h. elim h [ inl (a, alt, t, e) ↦ (a, alt.0, alt.1, asks_left k e) | inr (a, alt, m, o) ↦ (a, alt, level_among a m, o) ])
+      (λ k (a, alt, lv, o). by a k alt lv o)
       x
     where
-      next_of : (a : Alt) (k : Key) → IsAltOf n.positions n.lists key a → AsksOf n a k → AsksNext n.positions n.lists key k
-      next_of a _ alt (asks_left k q) = next_left a k alt q
-      next_of a _ alt (asks_right k q l) = next_right a k alt q l
+      by : (a : Alt) (k : Key) → IsAltOf n.positions n.lists key a → LeavesLeft nulls a → AsksOf n a k → SoFar n key nulls gap starts i k
+      by a _ alt lv (asks_left k q) = inl (a, (alt, lv), tt, q)
+      by a _ alt lv (asks_right k q l) = inr (a, alt, among_starts a (alt, lv) l, asks_right k q l)
 
-      by : (k : Key) → AsksNext n.positions n.lists key k → AsksLeft n key IsAny k ⊎ AsksAmong n key (Among (StartsSo gap) starts i) k
-      by _ (next_left a k alt q) = inl (a, alt, tt, q)
-      by _ (next_right a k alt q l) = inr (a, alt, among_starts a alt l, asks_right k q l)
-
--- the left keys of all alternatives, and what the live ones ask for that start as one of the first
-abbrev pub SoFar : Numbering → Key → Gap → List Start → ℕ → Key → Type 0
-SoFar n key gap starts i k = AsksLeft n key IsAny k ⊎ AsksAmong n key (Among (StartsSo gap) starts i) k
-
-module _ (n : Numbering) (key : Key) (gap : Gap) (starts : List Start) (i next : ℕ) (s : Start) (q : next ≡ suc i) (at : slice_get starts i ≡ Some s) where
-  pub start_asked : (old mid new : Entries) → Asked n (SoFar n key gap starts i) old mid → Asked n (AsksAmong n key (StartsSo gap s)) mid new → Asked n (SoFar n key gap starts next) old new
+module _ (n : Numbering) (key : Key) (nulls : ℕ) (gap : Gap) (starts : List Start) (i next : ℕ) (s : Start) (q : next ≡ suc i) (at : slice_get starts i ≡ Some s) where
+  pub start_asked : (old mid new : Entries) → Asked n (SoFar n key nulls gap starts i) old mid → Asked n (AsksAmong n key (StartsSo gap s)) mid new → Asked n (SoFar n key nulls gap starts next) old new
   start_asked old mid new x y =
       let here = among_next (StartsSo gap) starts i next s q at in
-      asked_then n (SoFar n key gap starts i) (AsksAmong n key (StartsSo gap s)) (SoFar n key gap starts next) old mid new
+      asked_then n (SoFar n key nulls gap starts i) (AsksAmong n key (StartsSo gap s)) (SoFar n key nulls gap starts next) old mid new
       (λ k h. elim h [ inl l ↦ inl l | inr (a, alt, m, o) ↦ inr (a, alt, (here a).1 (inl m), o) ])
       (λ k (a, alt, r, o). inr (a, alt, (here a).1 (inr r), o))
       (λ k h. elim h [ inl l ↦ inl (inl l) | inr (a, alt, m, o) ↦ elim ((here a).0 m) [ inl m' ↦ inl (inr (a, alt, m', o)) | inr r ↦ inr (a, alt, r, o) ] ])

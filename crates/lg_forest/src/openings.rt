@@ -1,19 +1,12 @@
-//! What is known of the regions that begin at one position with one list: the ways to begin whose left key has a linkage.
+//! What is known of the regions that begin alike: the ways to begin whose left key has a linkage.
 ghost use Rattle.std.specs.Prelude.{◌≡◌, ◌⊎◌, [], List, IfSome, OnErr, OnOk};
 ghost use Rattle.std.specs.List.{Contains};
 
 use indexmap::IndexMap;
 use lg_base::NoMemory;
-use lg_region::{Beginning, Group};
+use lg_region::{Beginning, Group, Origin};
 use std::alloc::Global;
 use std::marker::Model;
-
-/// Where regions begin: the position, and the number of what is left of its right list.
-#[derive(Clone, Copy, Debug, PartialEq, Eq, Hash)]
-pub(crate) struct Origin {
-    pub(crate) left: u32,
-    pub(crate) llist: u32,
-}
 
 /// A group of disjuncts, and a way to begin with it.
 #[derive(Clone, Copy, Debug)]
@@ -37,7 +30,7 @@ pub(crate) struct Openings {
 
 impl Model for Openings {
     ghost use Rattle.std.specs.Prelude.{List};
-    ghost use Rattle.lg_forest.specs.declared.openings.Origin.{Origin as SeenOrigin};
+    ghost use Rattle.lg_region.specs.declared.opening.Origin.{Origin as SeenOrigin};
     ghost use Rattle.lg_forest.specs.declared.openings.Opening.{Opening as SeenOpening};
 
     ghost Value = { List (SeenOrigin × SeenOpening) };

@@ -1,9 +1,9 @@
 //! The search: each key that is asked for is expanded once, depth first.
 ghost use Rattle.std.specs.Prelude.{◌≡◌, ◌↔◌, ◌+◌, ◌<◌, ◌≤◌, ◌^◌, suc, Some, length, IsTrue, IfOk, OnOk, IfSome};
-ghost use Rattle.lg_region.specs.Alike.{BeginsWith};
+ghost use Rattle.lg_region.specs.Alike.{BeginsWith, end_of};
 ghost use Rattle.lg_region.specs.Groups.{IsGroup, IsKnownGap, StandsIn};
 ghost use Rattle.lg_region.specs.Keys.{IsValidKey};
-ghost use Rattle.lg_region.specs.Openings.{AreGroups, BeginsSo, IsGapOf, IsIn, IsKeyOfGap};
+ghost use Rattle.lg_region.specs.Openings.{BeginsSo, IsGapOf, IsIn, IsKeyOfGap, LeavesLeft};
 ghost use Rattle.lg_forest.specs.Halves.{AddsLive, AsksAmong, IsEnding};
 ghost use Rattle.lg_forest.specs.Demands.{HasLinkageUnder, AsksNext};
 ghost use Rattle.lg_forest.specs.Forests.{IsLive, AreLive};
@@ -13,12 +13,12 @@ ghost use Rattle.lg_forest.specs.Search.{KeysAreDecided, IsTable, HasValidKeys, 
 
 use crate::known::Known;
 use crate::memory::Memory;
-use crate::openings::{Opening, Origin, Start};
+use crate::openings::{Opening, Start};
 use crate::table::Table;
 use lg_base::{NoMemory, Steps};
 use lg_region::{
-    Alt, Alts, Beginning, Gap, Group, Groups, Key, Lists, alternatives_are_small, beginnings,
-    expand_key, gap_of, groups_at, groups_of, push_endings, regions_begin_alike,
+    Alt, Alts, Beginning, Gap, Group, Key, Lists, Origin, alternatives_are_small, beginnings,
+    end_with, expand_key, gap_of, groups_at, origin_of, push_endings, regions_begin_alike,
 };
 use std::alloc::Global;
 
@@ -89,45 +89,14 @@ fn explore<L>(
         None => explore_all(alloc, lists, table, memory, key, steps),
         Some(gap) => {
             steps.tick();
-            explore_gap(alloc, lists, table, memory, key, gap, steps)
+            explore_gap(alloc, lists, table, memory, key, &gap, steps)
         }
     }
 }
 
-// The same of a region with a list. Regions that begin with a list, and in which no word is unlinked, begin alike wherever they
-// end.
+// The same of a region with a list, by how many words its alternatives leave unlinked on the left.
 #[cycle(search)]
 fn explore_gap<L>(
-    alloc: Global,
-    lists: &Lists<'_>,
-    table: &mut Table,
-    memory: &mut Memory,
-    key: Key,
-    gap: Gap,
-    steps: &mut Steps<L>,
-) -> Result<Alts, NoMemory>
-    requires decided { KeysAreDecided lists.now }
-    requires key { IsValidKey lists.now.positions lists.now.lists key }
-    requires gap { IsGapOf lists.now key gap }
-    requires table { IsTable lists.now table.old }
-    requires known { IsMemory lists.now table.old memory.old }
-    requires room { HasRoom (key_width lists.now.positions key) steps.old table.old }
-    ensures live { let n = lists.entry.now in IfOk result (AreLive n.positions n.lists key) }
-    ensures asked { let n = lists.entry.now in OnOk result (Asked n (AsksNext n.positions n.lists key) table.old table.new) }
-    ensures left { OnOk result (IsLeft lists.entry.now table.new memory.old memory.new) }
-    ensures steps { OnOk result (IsCounted 0 (steps.old + length memory.new.known) table.old (steps.new + length memory.old.known) table.new) }
-    ensures later { steps.old ≤ steps.new }
-{
-    if gap.llist != 0 && gap.nulls == 0 {
-        return explore_opening(alloc, lists, table, memory, key, &gap, steps);
-    }
-    let groups = groups_of(alloc, lists, gap)?;
-    explore_groups(alloc, lists, table, memory, key, &groups, steps)
-}
-
-// The same from the ways to begin whose left key has a linkage.
-#[cycle(search)]
-fn explore_opening<L>(
     alloc: Global,
     lists: &Lists<'_>,
     table: &mut Table,
@@ -139,7 +108,6 @@ fn explore_opening<L>(
     requires decided { KeysAreDecided lists.now }
     requires key { IsValidKey lists.now.positions lists.now.lists key }
     requires gap { IsGapOf lists.now key gap.now }
-    requires alike { BeginsWith lists.now gap.now.left gap.now.llist gap.now }
     requires table { IsTable lists.now table.old }
     requires known { IsMemory lists.now table.old memory.old }
     requires room { HasRoom (key_width lists.now.positions key) steps.old table.old }
@@ -153,23 +121,57 @@ fn explore_opening<L>(
     regions_begin_alike();
     lists.are_numbered();
     lists.keep_limits();
-    let opening = open(alloc, lists, table, memory, key, gap, steps)?;
     let mut live = Vec::new(alloc);
-    for index in 0..opening.starts.len() {
-        let start = opening.starts[index];
-        explore_start(
-            alloc, lists, table, memory, key, gap, &start, &mut live, steps,
+    for nulls in 0..gap.nulls + 1 {
+        explore_opening(
+            alloc, lists, table, memory, key, gap, nulls, &mut live, steps,
         )?;
     }
-    let origin = Origin {
-        left: gap.left,
-        llist: gap.llist,
-    };
-    memory.openings.put(origin, opening)?;
     Alts::of(alloc, &live)
 }
 
-// Adds the live alternatives that start so, if the word of the start lies in the region.
+// Adds the live alternatives that leave so many words unlinked on the left, from the ways to begin whose left key has a linkage:
+// these are the same wherever regions end that begin alike.
+#[cycle(search)]
+fn explore_opening<L>(
+    alloc: Global,
+    lists: &Lists<'_>,
+    table: &mut Table,
+    memory: &mut Memory,
+    key: Key,
+    gap: &Gap,
+    nulls: u32,
+    live: &mut Vec<Alt>,
+    steps: &mut Steps<L>,
+) -> Result<(), NoMemory>
+    requires decided { KeysAreDecided lists.now }
+    requires key { IsValidKey lists.now.positions lists.now.lists key }
+    requires gap { IsGapOf lists.now key gap.now }
+    requires few { nulls ≤ gap.now.nulls }
+    requires table { IsTable lists.now table.old }
+    requires known { IsMemory lists.now table.old memory.old }
+    requires room { HasRoom (key_width lists.now.positions key) steps.old table.old }
+    ensures live { OnOk result (AddsLive lists.entry.now key (LeavesLeft nulls) live.old.items live.new.items) }
+    ensures asked { OnOk result (Asked lists.entry.now (AsksAmong lists.entry.now key (LeavesLeft nulls)) table.old table.new) }
+    ensures left { OnOk result (IsLeft lists.entry.now table.new memory.old memory.new) }
+    ensures steps { OnOk result (IsCounted 0 (steps.old + length memory.new.known) table.old (steps.new + length memory.old.known) table.new) }
+    ensures later { steps.old ≤ steps.new }
+{
+    regions_begin_alike();
+    lists.are_numbered();
+    let origin = origin_of(lists, gap, nulls);
+    let opening = open(alloc, lists, table, memory, key, gap, &origin, steps)?;
+    for index in 0..opening.starts.len() {
+        let start = opening.starts[index];
+        explore_start(
+            alloc, lists, table, memory, key, gap, &origin, &start, live, steps,
+        )?;
+    }
+    memory.openings.put(origin, opening)?;
+    Ok(())
+}
+
+// Adds the live alternatives that start so, if the region has room behind the word of the start.
 #[cycle(search)]
 fn explore_start<L>(
     alloc: Global,
@@ -178,6 +180,7 @@ fn explore_start<L>(
     memory: &mut Memory,
     key: Key,
     gap: &Gap,
+    origin: &Origin,
     start: &Start,
     live: &mut Vec<Alt>,
     steps: &mut Steps<L>,
@@ -185,8 +188,9 @@ fn explore_start<L>(
     requires decided { KeysAreDecided lists.now }
     requires key { IsValidKey lists.now.positions lists.now.lists key }
     requires gap { IsGapOf lists.now key gap.now }
-    requires alike { BeginsWith lists.now gap.now.left gap.now.llist gap.now }
-    requires start { start.now.group.word < gap.now.right → IsStart lists.now gap.now start.now }
+    requires alike { BeginsWith lists.now origin.now gap.now }
+    requires start { start.now.group.word < end_of gap.now origin.now.nulls → IsStart lists.now gap.now start.now }
+    requires level { start.now.begin.nulls ≡ origin.now.nulls }
     requires table { IsTable lists.now table.old }
     requires known { IsMemory lists.now table.old memory.old }
     requires room { HasRoom (key_width lists.now.positions key) steps.old table.old }
@@ -198,7 +202,8 @@ fn explore_start<L>(
 {
     regions_begin_alike();
     lists.are_numbered();
-    if start.group.word >= gap.right {
+    let end = end_with(gap, origin.nulls);
+    if start.group.word >= end {
         return Ok(());
     }
     explore_beginning(
@@ -224,36 +229,34 @@ fn open<L>(
     memory: &mut Memory,
     key: Key,
     gap: &Gap,
+    origin: &Origin,
     steps: &mut Steps<L>,
 ) -> Result<Opening, NoMemory>
     requires decided { KeysAreDecided lists.now }
     requires key { IsValidKey lists.now.positions lists.now.lists key }
     requires gap { IsGapOf lists.now key gap.now }
-    requires alike { BeginsWith lists.now gap.now.left gap.now.llist gap.now }
+    requires alike { BeginsWith lists.now origin.now gap.now }
     requires table { IsTable lists.now table.old }
     requires known { IsMemory lists.now table.old memory.old }
     requires room { HasRoom (key_width lists.now.positions key) steps.old table.old }
-    ensures opened { IfOk result (IsOpening lists.entry.now table.new (record { left = gap.now.left; llist = gap.now.llist })) }
-    ensures done { IfOk result (λ opening. gap.now.right ≤ opening.done) }
-    ensures asked { OnOk result (Asked lists.entry.now (AsksLeft lists.entry.now key IsAny) table.old table.new) }
+    ensures opened { IfOk result (IsOpening lists.entry.now table.new origin.now) }
+    ensures done { IfOk result (λ opening. end_of gap.now origin.now.nulls ≤ opening.done) }
+    ensures asked { OnOk result (Asked lists.entry.now (AsksLeft lists.entry.now key origin.now.nulls IsAny) table.old table.new) }
     ensures left { OnOk result (IsLeft lists.entry.now table.new memory.old memory.new) }
     ensures steps { OnOk result (IsCounted 0 (steps.old + length memory.new.known) table.old (steps.new + length memory.old.known) table.new) }
     ensures later { steps.old ≤ steps.new }
 {
     regions_begin_alike();
     lists.are_numbered();
-    let origin = Origin {
-        left: gap.left,
-        llist: gap.llist,
-    };
-    let mut opening = match memory.openings.take(&origin) {
+    let mut opening = match memory.openings.take(origin) {
         Some(opening) => opening,
         None => Opening {
             done: gap.left + 1,
             starts: Vec::new(alloc),
         },
     };
-    for word in opening.done..gap.right {
+    let end = end_with(gap, origin.nulls);
+    for word in opening.done..end {
         open_word(
             alloc,
             lists,
@@ -261,6 +264,7 @@ fn open<L>(
             memory,
             key,
             gap,
+            origin.nulls,
             word,
             &mut opening,
             steps,
@@ -278,6 +282,7 @@ fn open_word<L>(
     memory: &mut Memory,
     key: Key,
     gap: &Gap,
+    nulls: u32,
     word: u32,
     opening: &mut Opening,
     steps: &mut Steps<L>,
@@ -290,8 +295,8 @@ fn open_word<L>(
     requires table { IsTable lists.now table.old }
     requires known { IsMemory lists.now table.old memory.old }
     requires room { HasRoom (key_width lists.now.positions key) steps.old table.old }
-    ensures opens { OnOk result (OpensWord lists.entry.now gap.now word opening.old opening.new) }
-    ensures asked { OnOk result (Asked lists.entry.now (AsksLeft lists.entry.now key (StandsAt word)) table.old table.new) }
+    ensures opens { OnOk result (OpensWord lists.entry.now gap.now nulls word opening.old opening.new) }
+    ensures asked { OnOk result (Asked lists.entry.now (AsksLeft lists.entry.now key nulls (StandsAt word)) table.old table.new) }
     ensures left { OnOk result (IsLeft lists.entry.now table.new memory.old memory.new) }
     ensures steps { OnOk result (IsCounted 0 (steps.old + length memory.new.known) table.old (steps.new + length memory.old.known) table.new) }
     ensures later { steps.old ≤ steps.new }
@@ -307,6 +312,7 @@ fn open_word<L>(
             key,
             gap,
             &group,
+            nulls,
             &mut opening.starts,
             steps,
         )?;
@@ -315,7 +321,7 @@ fn open_word<L>(
     Ok(())
 }
 
-// Adds the starts of a group whose left key has a linkage.
+// Adds the starts of a group that leave so many words unlinked on the left and whose left key has a linkage.
 #[cycle(search)]
 fn open_group<L>(
     alloc: Global,
@@ -325,6 +331,7 @@ fn open_group<L>(
     key: Key,
     gap: &Gap,
     group: &Group,
+    nulls: u32,
     starts: &mut Vec<Start>,
     steps: &mut Steps<L>,
 ) -> Result<(), NoMemory>
@@ -336,13 +343,13 @@ fn open_group<L>(
     requires table { IsTable lists.now table.old }
     requires known { IsMemory lists.now table.old memory.old }
     requires room { HasRoom (key_width lists.now.positions key) steps.old table.old }
-    ensures starts { OnOk result (AddsStarts lists.entry.now gap.now group.now starts.old.items starts.new.items) }
-    ensures asked { OnOk result (Asked lists.entry.now (AsksLeft lists.entry.now key (StandsIn group.now.word group.now.from group.now.to)) table.old table.new) }
+    ensures starts { OnOk result (AddsStarts lists.entry.now gap.now nulls group.now starts.old.items starts.new.items) }
+    ensures asked { OnOk result (Asked lists.entry.now (AsksLeft lists.entry.now key nulls (StandsIn group.now.word group.now.from group.now.to)) table.old table.new) }
     ensures left { OnOk result (IsLeft lists.entry.now table.new memory.old memory.new) }
     ensures steps { OnOk result (IsCounted 0 (steps.old + length memory.new.known) table.old (steps.new + length memory.old.known) table.new) }
     ensures later { steps.old ≤ steps.new }
 {
-    let found = beginnings(alloc, lists, gap, group)?;
+    let found = beginnings(alloc, lists, gap, group, nulls)?;
     let begins = found.as_slice();
     for index in 0..begins.len() {
         let begin = &begins[index];
@@ -399,88 +406,6 @@ fn explore_all<L>(
         flags.push(live)?;
     }
     Ok(alts.keep(flags.as_slice()))
-}
-
-// The same by the groups of the key's region. The right half of an alternative is made only where its left key has a linkage.
-#[cycle(search)]
-fn explore_groups<L>(
-    alloc: Global,
-    lists: &Lists<'_>,
-    table: &mut Table,
-    memory: &mut Memory,
-    key: Key,
-    groups: &Groups,
-    steps: &mut Steps<L>,
-) -> Result<Alts, NoMemory>
-    requires decided { KeysAreDecided lists.now }
-    requires key { IsValidKey lists.now.positions lists.now.lists key }
-    requires groups { AreGroups lists.now key groups.now }
-    requires table { IsTable lists.now table.old }
-    requires known { IsMemory lists.now table.old memory.old }
-    requires room { HasRoom (key_width lists.now.positions key) steps.old table.old }
-    ensures live { let n = lists.entry.now in IfOk result (AreLive n.positions n.lists key) }
-    ensures asked { let n = lists.entry.now in OnOk result (Asked n (AsksNext n.positions n.lists key) table.old table.new) }
-    ensures left { OnOk result (IsLeft lists.entry.now table.new memory.old memory.new) }
-    ensures steps { OnOk result (IsCounted 0 (steps.old + length memory.new.known) table.old (steps.new + length memory.old.known) table.new) }
-    ensures later { steps.old ≤ steps.new }
-{
-    alternatives_are_small();
-    lists.are_numbered();
-    lists.keep_limits();
-    let mut live = Vec::new(alloc);
-    for index in 0..groups.items.len() {
-        let group = groups.items[index];
-        explore_group(
-            alloc,
-            lists,
-            table,
-            memory,
-            key,
-            &groups.gap,
-            &group,
-            &mut live,
-            steps,
-        )?;
-    }
-    Alts::of(alloc, &live)
-}
-
-// Adds the live alternatives of a group.
-#[cycle(search)]
-fn explore_group<L>(
-    alloc: Global,
-    lists: &Lists<'_>,
-    table: &mut Table,
-    memory: &mut Memory,
-    key: Key,
-    gap: &Gap,
-    group: &Group,
-    live: &mut Vec<Alt>,
-    steps: &mut Steps<L>,
-) -> Result<(), NoMemory>
-    requires decided { KeysAreDecided lists.now }
-    requires key { IsValidKey lists.now.positions lists.now.lists key }
-    requires is_key { IsKeyOfGap key gap.now }
-    requires gap { IsKnownGap lists.now gap.now }
-    requires group { IsGroup lists.now gap.now group.now }
-    requires table { IsTable lists.now table.old }
-    requires known { IsMemory lists.now table.old memory.old }
-    requires room { HasRoom (key_width lists.now.positions key) steps.old table.old }
-    ensures live { OnOk result (AddsLive lists.entry.now key (StandsIn group.now.word group.now.from group.now.to) live.old.items live.new.items) }
-    ensures asked { OnOk result (Asked lists.entry.now (AsksAmong lists.entry.now key (StandsIn group.now.word group.now.from group.now.to)) table.old table.new) }
-    ensures left { OnOk result (IsLeft lists.entry.now table.new memory.old memory.new) }
-    ensures steps { OnOk result (IsCounted 0 (steps.old + length memory.new.known) table.old (steps.new + length memory.old.known) table.new) }
-    ensures later { steps.old ≤ steps.new }
-{
-    let found = beginnings(alloc, lists, gap, group)?;
-    let begins = found.as_slice();
-    for index in 0..begins.len() {
-        let begin = &begins[index];
-        explore_beginning(
-            alloc, lists, table, memory, key, gap, group, begin, live, steps,
-        )?;
-    }
-    Ok(())
 }
 
 // Adds the live alternatives of a group that begin so.

@@ -1,21 +1,18 @@
 -- Groups of a region, one after another.
-use Rattle.std.proofs.Common.{◌≡◌, ℕ, ◌+◌, ◌<◌, ◌≤◌, List, [], ◌∷◌, ◌++◌, length, get_or, refl, sym, ◌∙◌, ap, subst, inl, inr, Contains, arith, append_assoc, append-nil}
+use Rattle.std.proofs.Common.{◌≡◌, ℕ, ◌≤◌, List, [], ◌∷◌, ◌++◌, refl, sym, ◌∙◌, ap, subst, inl, inr, Contains, arith, append_assoc, append-nil}
 use Rattle.std.proofs.lemmas.List.Elements.{Contains-append_left, Contains-append_right, Contains-append_cases}
 use Rattle.std.proofs.lemmas.Option.{slice_get_within}
-use Rattle.lg_region.specs.Fronts.{AreListsOf, Numbering}
-use Rattle.lg_region.specs.Keys.{IsAltOfRegion}
-use Rattle.lg_region.specs.Groups.{region_of_gap, IsGroup, IsKnownGap, IsNextLed, Leads, StandsIn, StandsBefore}
-use Rattle.lg_region.specs.Openings.{AreApart, AreGroups, GroupsOfWord, IsKeyOfGap}
-use Rattle.lg_region.specs.declared.key.Key.{Key}
+use Rattle.lg_region.specs.Fronts.{Numbering}
+use Rattle.lg_region.specs.Groups.{region_of_gap, IsGroup, IsNextLed, Leads, StandsIn}
+use Rattle.lg_region.specs.Openings.{AreApart, GroupsOfWord}
 use Rattle.lg_region.specs.declared.alternative.Alt.{Alt}
 use Rattle.lg_region.specs.declared.alternative.Alt.TheVariants.{AllNull, Split as At}
 use Rattle.lg_region.specs.declared.group.Gap.{Gap}
 use Rattle.lg_region.specs.declared.group.Group.{Group}
-use Rattle.lg_region.specs.declared.opening.Groups.{Groups}
 use Rattle.lg_base.proofs.Elements.{contains_here, contains_none, contains_cases}
 use Rattle.lg_region.proofs.Numbers.{get_contains}
 use Rattle.lg_region.proofs.Once.{append_cases}
-use Rattle.lg_region.proofs.Expanding.{adds_skip, before_all, before_split, gap_start, in_split, region_lies, region_names}
+use Rattle.lg_region.proofs.Expanding.{adds_skip, in_split}
 
 abbrev In : Group → Alt → Type 0
 In g a = StandsIn g.word g.from g.to a
@@ -83,46 +80,4 @@ groups_more n gap word left from to old mid new le is p e =
             | inl q ↦ one_number x.word x.from x.to word from to a (p.each x c).2 s (subst (λ z. In z a) (sym q) t)
             | inr d' ↦ contains_none y d'
           ]);
-    }
-
--- the groups of the words before one
-pub record GroupsBefore (n : Numbering) (gap : Gap) (word : ℕ) (gs : List Group) : Type 0 where
-  pub each : (g : Group) → Contains gs g → IsGroup n gap g × (g.word < word)
-  pub some : (a : Alt) → IsAltOfRegion n.positions n.lists (region_of_gap n.lists gap) a → StandsBefore word a → (g : Group) × Contains gs g × In g a
-  pub apart : AreApart gs
-
-pub words_none : (n : Numbering) (gap : Gap) (gs : List Group) → AreListsOf n.positions n.lists → gap.llist ≤ length n.lists → gap.rlist ≤ length n.lists → ((gap.llist ≡ 0) × (gap.rlist ≡ 0) → ⊥) → gs ≡ [] → GroupsBefore n gap (gap.left + 1) gs
-words_none n gap gs are l r some e =
-    let none = gap_start n.positions n.lists gap [] are l r some refl in
-    subst (λ z. GroupsBefore n gap (gap.left + 1) z) (sym e) (record {
-      each = λ g c. absurd (contains_none g c);
-      some = λ a i s. absurd (contains_none a ((none.each a).1 (i, s)));
-      apart = apart_none;
-    })
-
-pub words_more : (n : Numbering) (gap : Gap) (word : ℕ) (old new : List Group) → GroupsBefore n gap word old → GroupsOfWord n gap word (length (get_or n.positions word [])) old new → GroupsBefore n gap (word + 1) new
-words_more n gap word old new p q =
-    subst (λ z. GroupsBefore n gap (word + 1) z) (sym q.added) (record {
-      each = λ g c. elim (Contains-append_cases old q.more g c) [
-        | inl d ↦ (let x = p.each g d in let y = x.1 in (x.0, omega arith))
-        | inr d ↦ (let x = q.each g d in let y = x.1 in (x.0, omega arith))
-      ];
-      some = λ a i s. elim (before_split n.positions (IsAltOfRegion n.positions n.lists (region_of_gap n.lists gap)) word a (region_names n.positions n.lists (region_of_gap n.lists gap)) i s) [
-        | inl t ↦ (let x = p.some a i t in (x.0, Contains-append_left old q.more x.0 x.1, x.2))
-        | inr t ↦ (let x = q.some a i t in (x.0, Contains-append_right old q.more x.0 x.1, x.2))
-      ];
-      apart = apart_append old q.more p.apart q.apart
-          (λ g h a c d s t. let e = one_word g.word g.from g.to h.word h.from h.to a s t in let x = (p.each g c).1 in let y = (q.each h d).1 in let no : ⊥ = omega arith in no);
-    })
-
-pub words_all : (n : Numbering) (gap : Gap) (word : ℕ) (groups : Groups) (key : Key) → groups.gap ≡ gap → IsKnownGap n gap → gap.right ≤ word → GroupsBefore n gap word groups.items.items → IsKeyOfGap key gap → AreGroups n key groups
-words_all n gap word groups key same known l p is =
-    let k = region_of_gap n.lists gap in
-    let of : IsKnownGap n groups.gap = subst (λ z. IsKnownGap n z) (sym same) known in record {
-      key_is = subst (λ z. IsKeyOfGap key z) (sym same) is;
-      known = of;
-      each = λ g c. subst (λ z. IsGroup n z g) (sym same) (p.each g c).0;
-      some = λ a i. let i' = subst (λ z. IsAltOfRegion n.positions n.lists (region_of_gap n.lists z) a) same i in
-          p.some a i' (before_all (gap.left + 1) gap.right word (IsAltOfRegion n.positions n.lists k) (region_lies n.positions n.lists k) l a i');
-      apart = p.apart;
     }

@@ -123,7 +123,7 @@ side_front positions i d cs c h =
       | inr p ↦ absurd (contains_none d (rw (get_or_past positions i [] p) at c))
     ]
 
-known_number : (positions : List (List Disjunct)) (lists : List (List Connector)) → AreListsOf positions lists → (cs : List Connector) → IsKnown positions cs → (n : ℕ) × (n ≤ length lists) × (list_of lists n ≡ cs)
+pub known_number : (positions : List (List Disjunct)) (lists : List (List Connector)) → AreListsOf positions lists → (cs : List Connector) → IsKnown positions cs → (n : ℕ) × (n ≤ length lists) × (list_of lists n ≡ cs)
 known_number positions lists are cs (inl e) = (0, omega arith, sym e)
 known_number positions lists are cs (inr (i, d, m, c, inl e)) =
     elim (take_cases d.left m) [
@@ -135,6 +135,25 @@ known_number positions lists are cs (inr (i, d, m, c, inr e)) =
       | inl z ↦ (0, omega arith, sym (e ∙ z))
       | inr z ↦ numbered positions lists are cs (subst (λ v. Contains (all_fronts positions) v) (sym e) (side_front positions i d (take m d.right) c (Contains-append_right (fronts d.left) (fronts d.right) (take m d.right) z)))
     ]
+
+front_known : (positions : List (List Disjunct)) (x : List Connector) → Contains (all_fronts positions) x → IsKnown positions x
+front_known positions x c =
+    let r = flat_out (flat_map fronts_of) positions x c in
+    let s = flat_out fronts_of r.0 x r.2 in
+    let d = s.0 in
+    let p = contains_get positions r.0 r.1 in
+    let has : Contains (get_or positions p.0 []) d = subst (λ z. Contains z d) (sym (get_or_from_slice_get positions p.0 r.0 [] p.2)) s.1 in
+    elim (Contains-append_cases (fronts d.left) (fronts d.right) x s.2) [
+      | inl h ↦ (let m = map_out (λ n. take n d.left) (range_with_len 1 (length d.left)) x h in inr (p.0, d, m.0, has, inl (sym m.2)))
+      | inr h ↦ (let m = map_out (λ n. take n d.right) (range_with_len 1 (length d.right)) x h in inr (p.0, d, m.0, has, inr (sym m.2)))
+    ]
+
+-- the list of a number may stand in a region
+pub list_known : (positions : List (List Disjunct)) (lists : List (List Connector)) → AreListsOf positions lists → (n : ℕ) → n ≤ length lists → IsKnown positions (list_of lists n)
+list_known positions lists are zero l = inl refl
+list_known positions lists are (suc n) l =
+    let x = get_or lists n [] in
+    front_known positions x ((are.same x).0 (get_contains lists n x (slice_get-get_or lists n [] (omega arith))))
 
 -- the right list of a disjunct has a number
 pub right_number : (positions : List (List Disjunct)) (lists : List (List Connector)) → AreListsOf positions lists → (i : ℕ) (d : Disjunct) → Contains (get_or positions i []) d → (n : ℕ) × (n ≤ length lists) × (list_of lists n ≡ d.right)

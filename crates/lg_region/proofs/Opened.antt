@@ -1,20 +1,20 @@
 -- The beginnings of a group, and the alternatives that begin so.
-use Rattle.std.proofs.Common.{◌≡◌, ℕ, ◌+◌, ◌-◌, ◌≤◌, min, Bool, ◌==◌, List, [], length, map, refl, sym, ◌∙◌, ap, subst, Contains, arith}
-use Rattle.std.specs.List.{flat_map, range_with_len}
+use Rattle.std.proofs.Common.{◌≡◌, ℕ, ◌≤◌, Bool, ◌==◌, List, [], length, map, refl, sym, ◌∙◌, ap, subst, Some, None, Contains, arith}
 use Rattle.lg_region.specs.Fronts.{AreListsOf, Numbering}
 use Rattle.lg_region.specs.Keys.{IsAltOfRegion}
 use Rattle.lg_region.specs.Ways.{AreExactly, IsWayOf}
 use Rattle.lg_region.specs.Groups.{region_of_gap, IsGroup, IsRightOf, Leads, StandsIn, split_of}
-use Rattle.lg_region.specs.Openings.{AreBeginnings, BeginsSo, HasRight, IsIn, begins_at}
+use Rattle.lg_region.specs.Openings.{AreBeginnings, BeginsSo, HasRight, HasRoomFor, IsIn, LeavesLeft, begins_at}
+use Rattle.lg_region.specs.declared.key.Key.TheVariants.{Whole, Region as Between}
 use Rattle.lg_region.specs.declared.alternative.Alt.{Alt}
+use Rattle.lg_region.specs.declared.alternative.Alt.TheVariants.{AllNull, Split as At}
 use Rattle.lg_region.specs.declared.ways.Way.{Way}
 use Rattle.lg_region.specs.declared.group.Gap.{Gap}
 use Rattle.lg_region.specs.declared.group.Group.{Group}
 use Rattle.lg_region.specs.declared.group.Right.{Right}
 use Rattle.lg_region.specs.declared.opening.Beginning.{Beginning}
-use Rattle.lg_base.proofs.Elements.{contains_none, flat_in, flat_out, map_in, map_out}
-use Rattle.lg_region.proofs.Numbers.{range_in, range_out}
-use Rattle.lg_region.proofs.Once.{once_flat, once_map, once_none, once_range}
+use Rattle.lg_base.proofs.Elements.{contains_none, map_in, map_out}
+use Rattle.lg_region.proofs.Once.{once_map, once_none}
 use Rattle.lg_region.proofs.Splitting.{HasRoom, alt_made, made_is, split_parts, way_same}
 
 module _ (n : Numbering) (gap : Gap) (g : Group) where
@@ -26,8 +26,15 @@ module _ (n : Numbering) (gap : Gap) (g : Group) where
       let nulls : i ≡ b.nulls = cc in
       (nulls, way_same l b.way e near far)
 
-  pub none_begin : ((a : Alt) → IsIn n gap g a → ⊥) → (bs : List Beginning) → bs ≡ [] → AreBeginnings n gap g bs
-  none_begin none bs e = subst (λ z. AreBeginnings n gap g z) (sym e) (record { some = λ a h. absurd (none a h); each = λ b c. absurd (contains_none b c); once = once_none })
+  level_of : (b : Beginning) (nulls : ℕ) (a : Alt) → BeginsSo gap g b a → LeavesLeft nulls a → b.nulls ≡ nulls
+  level_of b nulls AllNull s l = absurd l
+  level_of b nulls (At w i tl tr None rk) s l = absurd l
+  level_of b nulls (At w i tl tr (Some (Whole k)) rk) s l = absurd l
+  level_of b nulls (At w i tl tr (Some (Between x y z u k)) rk) (e, f) l = let same : k ≡ b.nulls = cc in sym same ∙ l
+
+  pub none_begin : (nulls : ℕ) → ((a : Alt) → IsIn n gap g a → LeavesLeft nulls a → ⊥) → (bs : List Beginning) → bs ≡ [] → AreBeginnings n gap g nulls bs
+  none_begin nulls none bs e =
+      subst (λ z. AreBeginnings n gap g nulls z) (sym e) (record { some = λ a h l. absurd (none a h l); each = λ b c. absurd (contains_none b c); level = λ b c. absurd (contains_none b c); once = once_none })
 
   module _ (may : Bool) (is : IsGroup n gap g) (m : may ≡ (gap.llist == 0)) (are : AreListsOf n.positions n.lists) (known : gap.llist ≤ length n.lists) (led : Leads gap.lead n.positions (region_of_gap n.lists gap)) where
     -- how an alternative of the group begins, and how it goes on
@@ -36,6 +43,12 @@ module _ (n : Numbering) (gap : Gap) (g : Group) where
         let q = alt_made n.positions n.lists gap g may a is m are known led i s in
         let b : Beginning = record { nulls = q.0; way = q.2.0 } in
         (b, q.2.2, q.1, subst (λ z. BeginsSo gap g b z) q.2.4 (refl, refl), (q.2.1, q.2.3))
+
+    -- where so many unlinked words have no room, none begins so
+    pub room_of : (nulls : ℕ) (a : Alt) → IsIn n gap g a → LeavesLeft nulls a → HasRoomFor gap g.word nulls
+    room_of nulls a h l =
+        let q = begin_of a h in let u = q.2.0 in let v = q.2.1 in let w = q.2.2 in let after = is.after in let before = is.before in
+        subst (λ z. HasRoomFor gap g.word z) (level_of q.0 nulls a q.3 l) (u, omega arith, omega arith)
 
     -- exactly the alternatives that begin so
     ends_of : (b : Beginning) (rights : List Right) → IsWayOf n.lists gap.llist g.left may b.way → HasRoom gap g.word b.nulls → AreExactly rights (IsRightOf n gap g)
@@ -61,22 +74,16 @@ module _ (n : Numbering) (gap : Gap) (g : Group) where
         let e = parts b q.0 q.2.0 q.2.1 (subst (λ z. BeginsSo gap g b z) (sym q.2.4) h) in
         ends_of b rights (subst (λ z. IsWayOf n.lists gap.llist g.left may z) e.1 q.2.2) (subst (λ z. HasRoom gap g.word z) e.0 q.1) r
 
-    pub begins_are : (lefts : List Way) (least most : ℕ) → AreExactly lefts (IsWayOf n.lists gap.llist g.left may) → HasRight n gap g → least ≡ gap.nulls - (gap.right - g.word - 1) → most ≡ min gap.nulls (g.word - gap.left - 1)
-        → AreBeginnings n gap g (flat_map (λ i. map (begins_at i) lefts) (range_with_len least (most + 1 - least)))
-    begins_are lefts least most x right el em =
-        let count = most + 1 - least in
-        let after = is.after in
-        let before = is.before in
-        let f : ℕ → List Beginning = λ i. map (begins_at i) lefts in record {
-          some = λ a h. let q = begin_of a h in let b = q.0 in let room = q.2 in let u = room.0 in let v = room.1 in let w = room.2 in
-              (b, flat_in f (range_with_len least count) b.nulls b (range_in least count b.nulls (omega arith) (omega arith)) (map_in (begins_at b.nulls) lefts b.way ((x.each b.way).1 q.1)), q.3);
+    pub begins_are : (lefts : List Way) (nulls : ℕ) → AreExactly lefts (IsWayOf n.lists gap.llist g.left may) → HasRight n gap g → HasRoomFor gap g.word nulls → AreBeginnings n gap g nulls (map (begins_at nulls) lefts)
+    begins_are lefts nulls x right room =
+        let u = room.0 in let v = room.1 in let w = room.2 in
+        record {
+          some = λ a h l. let q = begin_of a h in let b = q.0 in
+              (begins_at nulls b.way, map_in (begins_at nulls) lefts b.way ((x.each b.way).1 q.1), subst (λ z. BeginsSo gap g (begins_at z b.way) a) (level_of b nulls a q.3 l) q.3);
           each = λ b c.
-              let r = flat_out f (range_with_len least count) b c in
-              let t = map_out (begins_at r.0) lefts b r.2 in
-              let o = range_out least count r.0 r.1 in
-              let u = o.0 in let v = o.1 in
-              let made = made_is n.positions n.lists gap g may r.0 t.0 right.0 is m are known (omega arith, omega arith, omega arith) ((x.each t.0).0 t.1) right.1 in
-              (split_of gap g.word r.0 t.0 right.0, (made.0, made.1), subst (λ z. BeginsSo gap g z (split_of gap g.word r.0 t.0 right.0)) t.2 (refl, refl));
-          once = once_flat f (range_with_len least count) (once_range least count) (λ i. once_map (begins_at i) lefts (λ w w' e. ap (λ z. z.way) e) x.once)
-              (λ i j z c d. let r = map_out (begins_at i) lefts z c in let s = map_out (begins_at j) lefts z d in ap (λ v. v.nulls) (r.2 ∙ sym s.2));
+              let t = map_out (begins_at nulls) lefts b c in
+              let made = made_is n.positions n.lists gap g may nulls t.0 right.0 is m are known (u, omega arith, omega arith) ((x.each t.0).0 t.1) right.1 in
+              (split_of gap g.word nulls t.0 right.0, (made.0, made.1), subst (λ z. BeginsSo gap g z (split_of gap g.word nulls t.0 right.0)) t.2 (refl, refl));
+          level = λ b c. sym (ap (λ z. z.nulls) (map_out (begins_at nulls) lefts b c).2);
+          once = once_map (begins_at nulls) lefts (λ w w' e. ap (λ z. z.way) e) x.once;
         }

@@ -24,7 +24,7 @@ take_short (c ∷ cs) (suc m) = let r = take_short cs m in omega arith
 take_twice : (p m : ℕ) (cs : List Connector) → (n : ℕ) × (take p (take m cs) ≡ take n cs)
 take_twice p m cs = elim (cases_lt p m) [ inl h ↦ (p, take-take p m cs (omega arith)) | inr h ↦ (m, take_all p (take m cs) (let x = take_short cs m in omega arith)) ]
 
-known_take : (positions : List (List Disjunct)) (cs : List Connector) (p : ℕ) → IsKnown positions cs → IsKnown positions (take p cs)
+pub known_take : (positions : List (List Disjunct)) (cs : List Connector) (p : ℕ) → IsKnown positions cs → IsKnown positions (take p cs)
 known_take positions cs p (inl e) = inl (take_nil p cs e)
 known_take positions cs p (inr (i, d, m, h, inl e)) = let t = take_twice p m d.left in inr (i, d, t.0, h, inl (ap (λ z. take p z) e ∙ t.1))
 known_take positions cs p (inr (i, d, m, h, inr e)) = let t = take_twice p m d.right in inr (i, d, t.0, h, inr (ap (λ z. take p z) e ∙ t.1))

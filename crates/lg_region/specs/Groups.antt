@@ -9,7 +9,7 @@ use Rattle.lg_region.specs.Fronts.{Numbering, list_of}
 use Rattle.lg_region.specs.Keys.{region_of_numbers, IsAltOfRegion, IsAltOfWhole, IsDisjunctAt}
 use Rattle.lg_region.specs.Chains.{class_of, list_on, IsNext}
 use Rattle.lg_region.specs.Ways.{AddsExactly}
-use Rattle.lg_region.specs.declared.chains.Side.TheVariants.{Left}
+use Rattle.lg_region.specs.declared.chains.Side.TheVariants.{Left, Right}
 use Rattle.lg_region.specs.declared.key.Key.TheVariants.{Region as Between}
 use Rattle.lg_region.specs.declared.alternative.Alt.{Alt}
 use Rattle.lg_region.specs.declared.alternative.Alt.TheVariants.{AllNull, Split as At}
@@ -17,7 +17,7 @@ use Rattle.lg_region.specs.declared.ways.Way.{Way}
 use Rattle.lg_region.specs.declared.group.Lead.{Lead}
 use Rattle.lg_region.specs.declared.group.Gap.{Gap}
 use Rattle.lg_region.specs.declared.group.Group.{Group}
-use Rattle.lg_region.specs.declared.group.Right.{Right}
+use Rattle.lg_region.specs.declared.group.Right.{Right as OnRight}
 
 abbrev pub region_of_gap : List (List Connector) → Gap → Region
 region_of_gap lists gap = region_of_numbers lists gap.left gap.right gap.llist gap.rlist gap.nulls
@@ -25,6 +25,10 @@ region_of_gap lists gap = region_of_numbers lists gap.left gap.right gap.llist g
 -- the disjuncts that can be joined with a list to their left
 abbrev pub left_lead : Numbering → ℕ → Lead
 left_lead n llist = record { side = Left; class = class_of (list_of n.lists llist) }
+
+-- the disjuncts that can be joined with a list to their right
+abbrev pub right_lead : Numbering → ℕ → Lead
+right_lead n rlist = record { side = Right; class = class_of (list_of n.lists rlist) }
 
 -- a disjunct has the class that is looked for
 abbrev pub IsLed : Lead → Disjunct → Type 0
@@ -61,7 +65,7 @@ pub record IsGroup (numbers : Numbering) (gap : Gap) (group : Group) : Type 0 wh
   pub first : IsNextLed numbers gap.lead group.word group.from group.from
 
 -- a disjunct of the group with the class, and a way on of its right list and the right list of the gap
-pub record IsRightOf (numbers : Numbering) (gap : Gap) (group : Group) (r : Right) : Type 0 where
+pub record IsRightOf (numbers : Numbering) (gap : Gap) (group : Group) (r : OnRight) : Type 0 where
   pub from : group.from ≤ r.disjunct
   pub to : r.disjunct < group.to
   pub known_near : r.way.near ≤ length numbers.lists
@@ -70,16 +74,16 @@ pub record IsRightOf (numbers : Numbering) (gap : Gap) (group : Group) (r : Righ
   pub cut : (d : Disjunct) → IsDisjunctAt numbers.positions group.word r.disjunct d → IsCutAt r.way.joint d.right (list_of numbers.lists gap.rlist) (list_of numbers.lists r.way.near) (list_of numbers.lists r.way.far)
   pub joined : gap.llist ≡ 0 → IsSome r.way.joint
 
-abbrev pub right_of : ℕ → Way → Right
+abbrev pub right_of : ℕ → Way → OnRight
 right_of number way = record { disjunct = number; way = way }
 
 -- the alternative of a word, of so many unlinked words to its left, and of what is chosen on both sides
-abbrev pub split_of : Gap → ℕ → ℕ → Way → Right → Alt
+abbrev pub split_of : Gap → ℕ → ℕ → Way → OnRight → Alt
 split_of gap word nulls left right =
     At word right.disjunct left.joint right.way.joint
     (Some (Between gap.left word left.near left.far nulls)) (Some (Between word gap.right right.way.near right.way.far (gap.nulls - nulls)))
 
-abbrev pub splits_with : Gap → ℕ → List Way → List Right → ℕ → List Alt
+abbrev pub splits_with : Gap → ℕ → List Way → List OnRight → ℕ → List Alt
 splits_with gap word lefts rights nulls = flat_map (λ left. map (split_of gap word nulls left) rights) lefts
 
 -- where an alternative stands: at this word, with one of these disjuncts

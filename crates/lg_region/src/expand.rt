@@ -3,7 +3,7 @@ ghost use Rattle.std.specs.Prelude.{◌≡◌, ◌≢◌, ◌↔◌, ◌∷◌, 
 ghost use Rattle.lg_region.specs.Fronts.{AreOnce, list_of};
 ghost use Rattle.lg_region.specs.Keys.{IsValidKey, IsAltOf, IsAltOfRegion, IsAltOfWhole};
 ghost use Rattle.lg_region.specs.Ways.{AreExactly, AddsExactly};
-ghost use Rattle.lg_region.specs.Groups.{AddsIn, AddsFirst, HaveLeft, IsKnownGap, IsNextLed, Leads, left_lead, region_of_gap};
+ghost use Rattle.lg_region.specs.Groups.{AddsIn, AddsFirst, HaveLeft, IsGroup, IsKnownGap, IsNextLed, Leads, left_lead, region_of_gap, right_lead};
 ghost use Rattle.lg_region.specs.Parts.{Region};
 ghost use Rattle.lg_region.specs.declared.alternative.Alt.{Alt};
 
@@ -71,6 +71,7 @@ pub(crate) fn lead_of(lists: &Lists<'_>, llist: u32, rlist: u32) -> Lead
     ensures small { result.class < 256 }
     ensures led { (k : Region) → k.llist ≡ list_of lists.entry.now.lists llist → k.rlist ≡ list_of lists.entry.now.lists rlist → Leads result lists.entry.now.positions k }
     ensures left { llist ≢ 0 → result ≡ left_lead lists.entry.now llist }
+    ensures right { llist ≡ 0 → result ≡ right_lead lists.entry.now rlist }
 {
     lists.are_numbered();
     if llist == 0 {
@@ -141,23 +142,39 @@ fn push_word(
     let count = lists.count(word);
     let mut from = lists.first(gap.lead.side, gap.lead.class, word);
     while from < count {
-        let left = lists.sides(word, from).left;
-        let to = run_end(lists, gap.lead, word, from, left);
-        let group = Group {
-            word,
-            left,
-            from,
-            to,
-        };
+        let group = group_at(lists, gap, word, from);
         push_group(alloc, lists, gap, &group, out)?;
-        from = to;
+        from = group.to;
     }
     Ok(())
 }
 
+// The disjuncts of a word from this one on that have its left list where they have the class.
+pub(crate) fn group_at(lists: &Lists<'_>, gap: &Gap, word: u32, from: u32) -> Group
+    requires after { gap.now.left < word }
+    requires before { word < gap.now.right }
+    requires within { word < length lists.now.positions }
+    requires listed { from < length (slice_index_or lists.now.positions word []) }
+    requires led { IsNextLed lists.now gap.now.lead word from from }
+    ensures word { result.word ≡ word }
+    ensures from { result.from ≡ from }
+    ensures later { from < result.to }
+    ensures group { IsGroup lists.entry.now gap.now result }
+    ensures led { IsNextLed lists.entry.now gap.now.lead word result.to result.to }
+{
+    let left = lists.sides(word, from).left;
+    let to = run_end(lists, gap.lead, word, from, left);
+    Group {
+        word,
+        left,
+        from,
+        to,
+    }
+}
+
 // Up to which number the disjuncts of a word that have the class have the left list of this one: the next one of the class
 // that has another, or how many disjuncts there are.
-pub(crate) fn run_end(lists: &Lists<'_>, lead: Lead, word: u32, from: u32, left: u32) -> u32
+fn run_end(lists: &Lists<'_>, lead: Lead, word: u32, from: u32, left: u32) -> u32
     requires within { word < length lists.now.positions }
     requires listed { from < length (slice_index_or lists.now.positions word []) }
     requires led { IsNextLed lists.now lead word from from }

@@ -46,8 +46,9 @@ pub fn alternatives_are_small()
     ensures { AlternativesAreSmall }
 {}
 
-/// Two regions that begin at one position with one list, in which no word is unlinked, begin alike: for each alternative of the
-/// one that cuts it before the end of the other, the other has one with the same word, disjunct, left joint and left key.
+/// Two regions that begin at one position with one list, or with none and with right lists that end with one connector, begin
+/// alike: for each alternative of the one that cuts it where the other can be cut with as many unlinked words on the left, the
+/// other has one with the same word, disjunct, left joint and left key.
 pub fn regions_begin_alike()
     ensures { RegionsBeginAlike }
 {}

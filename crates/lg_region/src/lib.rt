@@ -26,5 +26,5 @@ pub use law::{
 };
 pub use lists::Lists;
 pub use opening::{
-    Beginning, Beginnings, Groups, beginnings, gap_of, groups_at, groups_of, push_endings,
+    Beginning, Beginnings, Origin, beginnings, end_with, gap_of, groups_at, origin_of, push_endings,
 };

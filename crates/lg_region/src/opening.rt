@@ -1,26 +1,32 @@
 //! How the alternatives of a region begin, so that a caller need not make those whose left key it has no use for.
 ghost use Rattle.std.specs.Prelude.{◌≡◌, ◌≢◌, ◌+◌, ◌++◌, ◌<◌, ◌≤◌, ◌↔◌, [], length, map, slice_index_or, IfNone, IfOk, IfSome, IsTrue, OnOk};
-ghost use Rattle.lg_region.specs.Openings.{AreBeginnings, AreGroups, BeginsSo, GroupsOfWord, HasRight, IsGapOf, begins_at, left_of};
+ghost use Rattle.lg_region.specs.Alike.{BeginsWith, end_of, last_of};
+ghost use Rattle.lg_region.specs.Fronts.{list_of};
+ghost use Rattle.lg_region.specs.Openings.{AreBeginnings, BeginsSo, GroupsOfWord, HasRight, HasRoomFor, IsGapOf, begins_at, left_of};
 ghost use Rattle.lg_region.specs.Groups.{IsGroup, IsKnownGap, StandsIn, region_of_gap};
 ghost use Rattle.lg_region.specs.Keys.{IsAltOfRegion, IsValidKey};
 ghost use Rattle.lg_region.specs.declared.group.Gap.{Gap as SeenGap};
 ghost use Rattle.lg_region.specs.Ways.{AddsExactly, KeepsFront};
 
 use crate::alternative::Alt;
-use crate::expand::{lead_of, run_end};
+use crate::expand::{group_at, lead_of};
 use crate::group::{Gap, Group, push_with_left, rights};
 use crate::key::Key;
 use crate::lists::Lists;
 use crate::ways::{Way, has_way, ways_between};
 use lg_base::NoMemory;
+use lg_gram::Connector;
 use smallvec::SmallVec;
 use std::alloc::Global;
 
-/// A region, and the groups of disjuncts that can cut it.
-#[derive(Drop)]
-pub struct Groups {
-    pub gap: Gap,
-    pub items: Vec<Group>,
+/// How regions begin that begin alike: the left end, the number of its list, and how many words are unlinked to the left of the
+/// word that cuts them. Where that list is empty, the last connector of the right list tells the disjuncts that can cut them.
+#[derive(Clone, Copy, Debug, PartialEq, Eq, Hash)]
+pub struct Origin {
+    pub left: u32,
+    pub llist: u32,
+    pub nulls: u32,
+    pub last: Option<Connector>,
 }
 
 /// How the alternatives of a group begin that have one left key: how the two left lists go on, and how many words are unlinked on
@@ -81,17 +87,42 @@ pub fn gap_of(lists: &Lists<'_>, key: Key) -> Option<Gap>
     }
 }
 
-/// The groups of the region of a key: each alternative of it stands in exactly one.
-pub fn groups_of(alloc: Global, lists: &Lists<'_>, gap: Gap) -> Result<Groups, NoMemory>
-    requires { (key : _) × IsGapOf lists.now key gap }
-    ensures { IfOk result (λ groups. (key : _) → IsGapOf lists.entry.now key gap → (groups.gap ≡ gap) × AreGroups lists.entry.now key groups) }
+/// How a region begins, with so many unlinked words to the left of the word that cuts it. No memory.
+pub fn origin_of(lists: &Lists<'_>, gap: &Gap, nulls: u32) -> Origin
+    requires gap { (key : _) × IsGapOf lists.now key gap.now }
+    requires few { nulls ≤ gap.now.nulls }
+    ensures begins { BeginsWith lists.entry.now result gap.now }
+    ensures nulls { result.nulls ≡ nulls }
 {
-    lists.are_numbered();
-    let mut items = Vec::new(alloc);
-    for word in gap.left + 1..gap.right {
-        push_groups(lists, &gap, word, &mut items)?;
+    Origin {
+        left: gap.left,
+        llist: gap.llist,
+        nulls,
+        last: last_that_leads(lists, gap),
     }
-    Ok(Groups { gap, items })
+}
+
+// The last connector of the right list, where the left one is empty.
+fn last_that_leads(lists: &Lists<'_>, gap: &Gap) -> Option<Connector>
+    requires { gap.now.rlist ≤ length lists.now.lists }
+    ensures { gap.now.llist ≡ 0 → last_of (list_of lists.entry.now.lists gap.now.rlist) ≡ result }
+{
+    if gap.llist != 0 {
+        return None;
+    }
+    match lists.end(gap.rlist) {
+        None => None,
+        Some(end) => Some(end.last),
+    }
+}
+
+/// The words before this one can cut a region with so many unlinked words to their left: the others of its unlinked words have room
+/// behind them. No memory.
+pub fn end_with(gap: &Gap, nulls: u32) -> u32
+    requires { nulls ≤ gap.now.nulls }
+    ensures { result ≡ end_of gap.now nulls }
+{
+    gap.right.saturating_sub(gap.nulls - nulls)
 }
 
 /// The groups of a region at one of its words: each alternative that cuts it there stands in exactly one.
@@ -128,47 +159,48 @@ fn push_groups(
     let count = lists.count(word);
     let mut from = lists.first(gap.lead.side, gap.lead.class, word);
     while from < count {
-        let left = lists.sides(word, from).left;
-        let to = run_end(lists, gap.lead, word, from, left);
-        groups.push(Group {
-            word,
-            left,
-            from,
-            to,
-        })?;
-        from = to;
+        let group = group_at(lists, gap, word, from);
+        groups.push(group)?;
+        from = group.to;
     }
     Ok(())
 }
 
-/// How the alternatives of a group begin, each way once, and no other.
+/// How the alternatives of a group begin that leave so many words unlinked on the left, each way once, and no other.
 pub fn beginnings(
     alloc: Global,
     lists: &Lists<'_>,
     gap: &Gap,
     group: &Group,
+    nulls: u32,
 ) -> Result<Beginnings, NoMemory>
     requires gap { IsKnownGap lists.now gap.now }
     requires group { IsGroup lists.now gap.now group.now }
-    ensures { IfOk result (λ begins. AreBeginnings lists.entry.now gap.now group.now begins.items) }
+    ensures { IfOk result (λ begins. AreBeginnings lists.entry.now gap.now group.now nulls begins.items) }
 {
     lists.are_numbered();
     let mut begins = Beginnings::new(alloc);
+    let room = has_room(gap, group.word, nulls);
+    if !room {
+        return Ok(begins);
+    }
     let found = has_right(lists, gap, group);
     if !found {
         return Ok(begins);
     }
     let ways = ways_between(alloc, lists, gap.llist, group.left, gap.llist == 0)?;
     let lefts = ways.as_slice();
-    if lefts.is_empty() {
-        return Ok(begins);
-    }
-    let least = gap.nulls.saturating_sub(gap.right - group.word - 1);
-    let most = gap.nulls.min(group.word - gap.left - 1);
-    for nulls in least..most + 1 {
-        push_beginnings(nulls, lefts, &mut begins)?;
-    }
+    push_beginnings(nulls, lefts, &mut begins)?;
     Ok(begins)
+}
+
+// Whether so many words can be unlinked to the left of a word, and the others of the region to its right.
+fn has_room(gap: &Gap, word: u32, nulls: u32) -> bool
+    requires after { gap.now.left < word }
+    requires before { word < gap.now.right }
+    ensures { IsTrue result ↔ HasRoomFor gap.now word nulls }
+{
+    nulls <= gap.nulls && nulls < word - gap.left && gap.nulls - nulls < gap.right - word
 }
 
 fn push_beginnings(nulls: u32, lefts: &[Way], begins: &mut Beginnings) -> Result<(), NoMemory>

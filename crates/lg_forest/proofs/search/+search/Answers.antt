@@ -1,4 +1,4 @@
-use Rattle.std.proofs.Common.{◌≢◌, inl, inr, refl, [], ◌≡◌, ◌↔◌, ◌+◌, ◌∙◌, true≢false, Option, subst, sym, ap, Some, IsTrue, IfOk, OnOk, IfSome, length, take, slice_get, get_or, Contains, map, arith, rules}
+use Rattle.std.proofs.Common.{inl, inr, refl, [], ◌≡◌, ◌↔◌, ◌+◌, ◌<◌, ◌≤◌, ◌∙◌, true≢false, Option, subst, sym, ap, Some, IsTrue, IfOk, OnOk, IfSome, length, take, slice_get, get_or, Contains, map, arith, rules}
 use Rattle.std.proofs.lemmas.Option.{slice_get-get_or}
 use Rattle.lg_region.specs.Keys.{kept}
 use Rattle.lg_region.specs.Small.{full}
@@ -9,12 +9,12 @@ use Rattle.lg_region.specs.declared.key.Key.{Key}
 use Rattle.lg_region.specs.declared.alternative.Alt.TheVariants.{Split as At}
 use Rattle.lg_forest.proofs.Asked.{live_decides, not_there, asked_added, asked_as, asked_more, asked_all, asked_left, asked_both, ok_as, on_ok_as, last_kept, alt_at, exact}
 use Rattle.lg_forest.proofs.Flags.{Flags, kept_live, flags_long, flags_more, all_flags}
-use Rattle.lg_forest.specs.Halves.{AddsLive, IsEnding}
+use Rattle.lg_forest.specs.Halves.{AddsLive}
 use Rattle.lg_forest.proofs.Among as part
 use Rattle.lg_forest.proofs.Among.{Among, In}
 use Rattle.lg_region.specs.declared.alternative.Alt.{Alt}
-use Rattle.lg_region.specs.Alike.{BeginsWith}
-use Rattle.lg_region.specs.Openings.{left_of}
+use Rattle.lg_region.specs.Alike.{end_of}
+use Rattle.lg_region.specs.Openings.{LeavesLeft, left_of}
 use Rattle.lg_region.specs.declared.opening.Beginning.{Beginning}
 use Rattle.lg_forest.specs.Opened.{AsksLeft, IsAny, IsMemory, IsOpening, StandsAt, StartsSo}
 use Rattle.lg_region.specs.Ways.{AddsExactly}
@@ -22,6 +22,7 @@ use Rattle.lg_forest.proofs.Once.{contains_at}
 use Rattle.lg_forest.proofs.search.+search.Goals as goal
 use Rattle.lg_forest.proofs.search.+search.Goals.{explore_beginning-then-branch+in_ok-push, explore_beginning-else-branch, open_group-then-branch+in_ok-push, open_group-else-branch, open-in-Some, open-in-None}
 use Rattle.lg_forest.proofs.Opening.{memory_added, no_beginning, none_starts, opening_kept, opening_new, opening_some, same_begins, word_opened, words_all, words_first, words_next}
+use Rattle.lg_forest.proofs.Levels.{LeavesFewer, fewer_apart, fewer_next, fewer_none, levels_asked, levels_live}
 use Rattle.lg_forest.proofs.Starting.{IsOfGroup, OfFirst, SoFar, opening_asked, opening_live, start_asked, group_asked, group_started, group_there, groups_apart, groups_started, left_asked, lefts_as, lefts_then, start_dropped, start_kept, at_word, word_started}
 
 same_key : (k m : Key) → ◌≡◌ {A = Option Key} (Some k) (Some m) → k ≡ m
@@ -157,21 +158,61 @@ explore-explore_gap-requires g t c κs within =
     let ticked = c.tick.ensures in
     (search rules, (search rules, (c.requires.decided, (c.requires.key, (c.in-Some.ensures.gap, (c.requires.table, (c.requires.known, omega arith)))))))
 
+pub explore_gap-loop-nulls-init : goal.explore_gap-loop-nulls-init
+explore_gap-loop-nulls-init g t c = record {
+  asked = part.asked_start c.args.lists.now _ c.args.table.now c.requires.table (λ k (a, alt, m, o). fewer_none a m);
+  live = subst (λ z. AddsLive c.args.lists.now c.args.key (LeavesFewer 0) [] z) (sym c.new-live.ensures.items) (part.adds_none [] _ (λ a (alt, m, l). fewer_none a m));
+  left = record { known = c.requires.known; fewer = omega arith };
+  steps = omega arith;
+  later = omega arith;
+}
+
 pub explore_gap-explore_opening-requires : goal.explore_gap-explore_opening-requires
 explore_gap-explore_opening-requires g t c κs within =
-    let is = c.requires.gap in
-    let some : c.args.gap.llist ≢ 0 = c.if-gap-ne0.true in
-    let begins : BeginsWith c.args.lists.now c.args.gap.left c.args.gap.llist c.args.gap = record { left_is = refl; llist_is = refl; some = some; all_linked = c.if-gap-eq0.true; lead = is.lead some; known = is.known } in
+    let test = c.loop-nulls-test.true in
+    let few : c.loop-nulls.nulls ≤ c.args.gap.now.nulls = omega arith in
+    let steps = c.loop-nulls.invariant.steps in
+    let fewer = c.loop-nulls.invariant.left.fewer in
     let room = c.requires.room in
-    (search rules, (search rules, (c.requires.decided, (c.requires.key, (is, (begins, (c.requires.table, (c.requires.known, omega arith))))))))
+    (search rules, (search rules, (c.requires.decided, (c.requires.key, (c.requires.gap, (few, (c.loop-nulls.invariant.asked.is_table, (c.loop-nulls.invariant.left.known, omega arith))))))))
 
-pub explore_gap-groups_of-requires : goal.explore_gap-groups_of-requires
-explore_gap-groups_of-requires g t c = (c.args.key, c.requires.gap)
+pub explore_gap-loop-nulls-preserved : goal.explore_gap-loop-nulls-preserved
+explore_gap-loop-nulls-preserved g t c =
+    let n = c.args.lists.now in
+    let i = c.loop-nulls.nulls in
+    let step = fewer_next i (i + 1) refl in
+    let before = c.loop-nulls.invariant.steps in
+    let after = c.in_ok-explore_opening.ensures.steps in
+    let earlier = c.loop-nulls.invariant.later in
+    let later = c.in_ok-explore_opening.ensures.later in
+    let fewer = c.loop-nulls.invariant.left.fewer in
+    let fewest = c.in_ok-explore_opening.ensures.left.fewer in
+    record {
+      asked = part.asked_parts n c.args.key (LeavesFewer i) (LeavesLeft i) (LeavesFewer (i + 1)) step c.args.table.now c.loop-nulls.table c.explore_opening.new.table c.loop-nulls.invariant.asked c.in_ok-explore_opening.ensures.asked;
+      live = part.live_parts n c.args.key (LeavesFewer i) (LeavesLeft i) (LeavesFewer (i + 1)) step [] c.loop-nulls.live.items c.explore_opening.new.live.items (fewer_apart i) c.loop-nulls.invariant.live c.in_ok-explore_opening.ensures.live;
+      left = record { known = c.in_ok-explore_opening.ensures.left.known; fewer = omega arith };
+      steps = omega arith;
+      later = omega arith;
+    }
 
-pub explore_gap-explore_groups-requires : goal.explore_gap-explore_groups-requires
-explore_gap-explore_groups-requires g t c κs within =
-    let room = c.requires.room in
-    (search rules, (search rules, (c.requires.decided, (c.requires.key, ((c.in_ok-groups.ensures c.args.key c.requires.gap).1, (c.requires.table, (c.requires.known, omega arith)))))))
+pub explore_gap-returns-clause-live : goal.explore_gap-returns-clause-live
+explore_gap-returns-clause-live g t c =
+    let n = c.args.lists.now in
+    let test = c.loop-nulls-test.false in
+    let live = levels_live n c.args.key c.args.gap.now c.requires.gap c.are_numbered.ensures c.regions_begin_alike.ensures c.loop-nulls.nulls (omega arith) c.loop-nulls.live.items c.loop-nulls.invariant.live in
+    ok_as c.of.result (λ list. list ≡ c.deref.result.now) (AreLive n.positions n.lists c.args.key) (λ list e. subst (λ z. AreLive n.positions n.lists c.args.key z) (sym (e ∙ c.deref.ensures.value)) live) c.of.ensures
+
+pub explore_gap-returns-clause-asked : goal.explore_gap-returns-clause-asked
+explore_gap-returns-clause-asked g t c =
+    let test = c.loop-nulls-test.false in
+    part.ok_any c.of.result _ (levels_asked c.args.lists.now c.args.key c.args.gap.now c.requires.gap c.are_numbered.ensures c.regions_begin_alike.ensures c.loop-nulls.nulls (omega arith) c.args.table.now c.loop-nulls.table c.loop-nulls.invariant.asked)
+
+pub explore_gap-of-requires : goal.explore_gap-of-requires
+explore_gap-of-requires g t c = λ a h.
+    let n = c.args.lists.now in
+    let test = c.loop-nulls-test.false in
+    let live = levels_live n c.args.key c.args.gap.now c.requires.gap c.are_numbered.ensures c.regions_begin_alike.ensures c.loop-nulls.nulls (omega arith) c.loop-nulls.live.items c.loop-nulls.invariant.live in
+    c.alternatives_are_small.ensures n.positions n.lists c.args.key a c.keep_limits.ensures c.are_numbered.ensures c.requires.key ((live.exactly a).0 (subst (λ z. Contains z a) c.deref.ensures.value h)).0
 
 pub open_group-loop-index-init : goal.open_group-loop-index-init
 open_group-loop-index-init g t c = record {
@@ -186,7 +227,7 @@ pub open_group-visit-requires : goal.open_group-visit-requires
 open_group-visit-requires g t c κs within =
     let test = c.loop-index-test.true in
     let at = slice_get-get_or c.as_slice-begins.result.now c.loop-index.index no_beginning (omega arith) in
-    let of = (same_begins c.args.lists.now c.args.gap.now c.args.group.now _ _ c.as_slice-begins.ensures c.in_ok-found.ensures).each (get_or c.as_slice-begins.result.now c.loop-index.index no_beginning) (contains_at c.as_slice-begins.result.now c.loop-index.index (get_or c.as_slice-begins.result.now c.loop-index.index no_beginning) at) in
+    let of = (same_begins c.args.lists.now c.args.gap.now c.args.group.now c.args.nulls _ _ c.as_slice-begins.ensures c.in_ok-found.ensures).each (get_or c.as_slice-begins.result.now c.loop-index.index no_beginning) (contains_at c.as_slice-begins.result.now c.loop-index.index (get_or c.as_slice-begins.result.now c.loop-index.index no_beginning) at) in
     let valid = part.left_valid c.args.lists.now c.args.key c.args.gap.now c.args.group.now (get_or c.as_slice-begins.result.now c.loop-index.index no_beginning) c.key-lkey.result c.requires.decided c.requires.key c.requires.is_key c.key-lkey.ensures of in
     let narrow = valid.1 in
     let steps = c.loop-index.invariant.steps in
@@ -214,7 +255,7 @@ open_group-loop-index-preserved g t c =
     record {
       starts = elim c.if-branch.branch [
         | open_group-then-branch+in_ok-push w ↦ subst (λ z. AddsExactly c.args.starts.now.items z (OfFirst n gap group bs (i + 1))) (sym (ap (λ v. v.items) w.starts-is))
-            (start_kept n gap group bs i (i + 1) b (omega arith) at c.args.starts.now.items c.loop-index.starts.items _ (record { group = group; begin = b }) (same_begins c.args.lists.now c.args.gap.now c.args.group.now _ _ c.as_slice-begins.ensures c.in_ok-found.ensures).once refl refl
+            (start_kept n gap group bs i (i + 1) b (omega arith) at c.args.starts.now.items c.loop-index.starts.items _ (record { group = group; begin = b }) (same_begins c.args.lists.now c.args.gap.now c.args.group.now c.args.nulls _ _ c.as_slice-begins.ensures c.in_ok-found.ensures).once refl refl
             (subst (λ z. HasLinkageUnder n.positions n.lists z) key (c.in_ok-visit.ensures.found.0 w.if-branch.true)) w.in_ok-push.ensures.items c.loop-index.invariant.starts)
         | open_group-else-branch w ↦ subst (λ z. AddsExactly c.args.starts.now.items z (OfFirst n gap group bs (i + 1))) (sym (ap (λ v. v.items) w.starts-is))
             (start_dropped n gap group bs i (i + 1) b (omega arith) at c.args.starts.now.items c.loop-index.starts.items (λ l. true≢false (sym (c.in_ok-visit.ensures.found.1 (subst (λ z. HasLinkageUnder n.positions n.lists z) (sym key) l)) ∙ w.if-branch.false)) c.loop-index.invariant.starts)
@@ -229,17 +270,17 @@ pub open_group-returns-clause-starts : goal.open_group-returns-clause-starts
 open_group-returns-clause-starts g t c =
     let bs = c.as_slice-begins.result.now in
     let test = c.loop-index-test.false in
-    group_started c.args.lists.now c.args.key c.args.gap.now c.args.group.now c.requires.is_key bs (same_begins c.args.lists.now c.args.gap.now c.args.group.now _ _ c.as_slice-begins.ensures c.in_ok-found.ensures) c.loop-index.index (omega arith) c.args.starts.now.items c.loop-index.starts.items c.loop-index.invariant.starts
+    group_started c.args.lists.now c.args.key c.args.gap.now c.args.group.now c.args.nulls c.requires.is_key bs (same_begins c.args.lists.now c.args.gap.now c.args.group.now c.args.nulls _ _ c.as_slice-begins.ensures c.in_ok-found.ensures) c.loop-index.index (omega arith) c.args.starts.now.items c.loop-index.starts.items c.loop-index.invariant.starts
 
 pub open_group-returns-clause-asked : goal.open_group-returns-clause-asked
 open_group-returns-clause-asked g t c =
     let bs = c.as_slice-begins.result.now in
     let test = c.loop-index-test.false in
-    group_asked c.args.lists.now c.args.key c.args.gap.now c.args.group.now c.requires.is_key bs (same_begins c.args.lists.now c.args.gap.now c.args.group.now _ _ c.as_slice-begins.ensures c.in_ok-found.ensures) c.loop-index.index (omega arith) c.args.table.now c.loop-index.table c.loop-index.invariant.asked
+    group_asked c.args.lists.now c.args.key c.args.gap.now c.args.group.now c.args.nulls c.requires.is_key bs (same_begins c.args.lists.now c.args.gap.now c.args.group.now c.args.nulls _ _ c.as_slice-begins.ensures c.in_ok-found.ensures) c.loop-index.index (omega arith) c.args.table.now c.loop-index.table c.loop-index.invariant.asked
 
 pub open_word-loop-index-init : goal.open_word-loop-index-init
 open_word-loop-index-init g t c = record {
-  starts = part.adds_none c.args.opening.now.starts.items _ (λ s m. part.among_none (IsOfGroup c.args.lists.now c.args.gap.now) c.in_ok-groups.groups.items s m);
+  starts = part.adds_none c.args.opening.now.starts.items _ (λ s m. part.among_none (IsOfGroup c.args.lists.now c.args.gap.now c.args.nulls) c.in_ok-groups.groups.items s m);
   asked = part.asked_start c.args.lists.now _ c.args.table.now c.requires.table (λ k (a, alt, m, e). part.among_none In c.in_ok-groups.groups.items a m);
   left = record { known = c.requires.known; fewer = omega arith };
   steps = omega arith;
@@ -274,8 +315,8 @@ open_word-loop-index-preserved g t c =
     let fewer = c.loop-index.invariant.left.fewer in
     let fewest = c.in_ok-open_group.ensures.left.fewer in
     record {
-      starts = groups_started n c.args.gap.now gs (groups_apart n c.args.gap.now c.args.word gs c.in_ok-groups.ensures) i (i + 1) c.index.result.now (omega arith) at c.args.opening.now.starts.items c.loop-index.opening.starts.items c.open_group.new.starts.items c.loop-index.invariant.starts c.in_ok-open_group.ensures.starts;
-      asked = lefts_then n c.args.key (Among In gs i) (In c.index.result.now) (Among In gs (i + 1)) step c.args.table.now c.loop-index.table c.open_group.new.table c.loop-index.invariant.asked c.in_ok-open_group.ensures.asked;
+      starts = groups_started n c.args.gap.now c.args.nulls gs (groups_apart n c.args.gap.now c.args.word gs c.in_ok-groups.ensures) i (i + 1) c.index.result.now (omega arith) at c.args.opening.now.starts.items c.loop-index.opening.starts.items c.open_group.new.starts.items c.loop-index.invariant.starts c.in_ok-open_group.ensures.starts;
+      asked = lefts_then n c.args.key c.args.nulls (Among In gs i) (In c.index.result.now) (Among In gs (i + 1)) step c.args.table.now c.loop-index.table c.open_group.new.table c.loop-index.invariant.asked c.in_ok-open_group.ensures.asked;
       left = record { known = c.in_ok-open_group.ensures.left.known; fewer = omega arith };
       steps = omega arith;
       later = omega arith;
@@ -286,7 +327,7 @@ open_word-returns-clause-opens g t c =
     let gs = c.in_ok-groups.groups.items in
     let end : c.len-index-end.result ≡ length gs = c.len-index-end.ensures ∙ c.in_ok-groups.groups.ok.0 in
     let test = c.loop-index-test.false in
-    word_started c.args.lists.now c.args.gap.now c.args.word gs c.in_ok-groups.ensures c.loop-index.index (omega arith) c.args.opening.now (record { done = c.args.word + 1; starts = c.loop-index.opening.starts }) refl c.loop-index.invariant.starts
+    word_started c.args.lists.now c.args.gap.now c.args.nulls c.args.word gs c.in_ok-groups.ensures c.loop-index.index (omega arith) c.args.opening.now (record { done = c.args.word + 1; starts = c.loop-index.opening.starts }) refl c.loop-index.invariant.starts
 
 pub open_word-returns-clause-asked : goal.open_word-returns-clause-asked
 open_word-returns-clause-asked g t c =
@@ -294,23 +335,24 @@ open_word-returns-clause-asked g t c =
     let gs = c.in_ok-groups.groups.items in
     let end : c.len-index-end.result ≡ length gs = c.len-index-end.ensures ∙ c.in_ok-groups.groups.ok.0 in
     let test = c.loop-index-test.false in
-    lefts_as n c.args.key (Among In gs c.loop-index.index) (StandsAt c.args.word)
-    (at_word n c.args.gap.now c.args.word gs c.in_ok-groups.ensures c.loop-index.index (omega arith) c.args.key c.requires.gap.key_is) c.args.table.now c.loop-index.table c.loop-index.invariant.asked
+    lefts_as n c.args.key c.args.nulls (Among In gs c.loop-index.index) (StandsAt c.args.word)
+    (λ a alt. at_word n c.args.gap.now c.args.word gs c.in_ok-groups.ensures c.loop-index.index (omega arith) c.args.key c.requires.gap.key_is a alt.0) c.args.table.now c.loop-index.table c.loop-index.invariant.asked
 
 pub open-loop-word-init : goal.open-loop-word-init
 open-loop-word-init g t c =
     let n = c.args.lists.now in
-    let gap = c.args.gap.now in
-    let opened : IsOpening n c.args.table.now (record { left = gap.left; llist = gap.llist }) c.match-take.opening = elim c.match-take.branch [
-      | open-in-Some w ↦ subst (λ z. IsOpening n c.args.table.now (record { left = gap.left; llist = gap.llist }) z) (sym w.opening-is) (c.requires.known.opened (record { left = gap.left; llist = gap.llist }) w.in-Some.opening w.in-Some.ensures.taken)
-      | open-in-None w ↦ subst (λ z. IsOpening n c.args.table.now (record { left = gap.left; llist = gap.llist }) z) (sym w.opening-is)
-          (opening_new n c.are_numbered.ensures c.regions_begin_alike.ensures gap.left gap.llist c.args.table.now (record { left = gap.left; llist = gap.llist }) _ refl refl refl w.new.ensures.items)
+    let begin = c.requires.alike.left_is in
+    let opened : IsOpening n c.args.table.now c.args.origin.now c.match-take.opening = elim c.match-take.branch [
+      | open-in-Some w ↦ subst (λ z. IsOpening n c.args.table.now c.args.origin.now z) (sym w.opening-is) (c.requires.known.opened c.args.origin.now w.in-Some.opening w.in-Some.ensures.taken)
+      | open-in-None w ↦ subst (λ z. IsOpening n c.args.table.now c.args.origin.now z) (sym w.opening-is)
+          (opening_new n c.are_numbered.ensures c.regions_begin_alike.ensures c.args.origin.now c.args.table.now _ (ap (λ z. z + 1) begin) w.new.ensures.items)
     ] in
+    let behind = opened.behind in
     record {
       done = refl;
-      after = opened.behind;
+      after = omega arith;
       opened = opened;
-      asked = words_first n c.are_numbered.ensures c.regions_begin_alike.ensures c.args.key gap c.requires.gap.key_is c.requires.alike c.match-take.opening c.args.table.now c.requires.table opened;
+      asked = words_first n c.are_numbered.ensures c.regions_begin_alike.ensures c.args.origin.now c.args.key c.args.gap.now c.requires.gap.key_is c.requires.alike c.match-take.opening c.args.table.now c.requires.table opened;
       left = record { known = record { known = c.requires.known.known; opened = λ o x has. c.requires.known.opened o x (c.take.ensures.left o x has) }; fewer = omega arith };
       steps = omega arith;
       later = omega arith;
@@ -321,12 +363,15 @@ open-open_word-requires g t c κs within =
     let steps = c.loop-word.invariant.steps in
     let fewer = c.loop-word.invariant.left.fewer in
     let room = c.requires.room in
-    (search rules, (search rules, (c.requires.decided, (c.requires.key, (c.requires.gap, (c.loop-word.invariant.after, (c.loop-word-test.true, (c.loop-word.invariant.asked.is_table, (c.loop-word.invariant.left.known, omega arith)))))))))
+    let test = c.loop-word-test.true in
+    let end = c.end_with-end.ensures in
+    (search rules, (search rules, (c.requires.decided, (c.requires.key, (c.requires.gap, (c.loop-word.invariant.after, (omega arith, (c.loop-word.invariant.asked.is_table, (c.loop-word.invariant.left.known, omega arith)))))))))
 
 pub open-loop-word-preserved : goal.open-loop-word-preserved
 open-loop-word-preserved g t c =
     let n = c.args.lists.now in
     let gap = c.args.gap.now in
+    let end : c.loop-word.word < end_of gap c.args.origin.now.nulls = (let test = c.loop-word-test.true in let e = c.end_with-end.ensures in omega arith) in
     let before = c.loop-word.invariant.steps in
     let after = c.in_ok-open_word.ensures.steps in
     let earlier = c.loop-word.invariant.later in
@@ -337,9 +382,9 @@ open-loop-word-preserved g t c =
     record {
       done = c.in_ok-open_word.ensures.opens.done;
       after = omega arith;
-      opened = word_opened n c.are_numbered.ensures c.regions_begin_alike.ensures gap.left gap.llist c.args.key gap c.loop-word.word c.requires.gap.key_is c.requires.alike c.loop-word-test.true c.loop-word.table c.open_word.new.table c.loop-word.opening c.open_word.new.opening
+      opened = word_opened n c.are_numbered.ensures c.regions_begin_alike.ensures c.args.origin.now c.args.key gap c.loop-word.word c.requires.gap.key_is c.requires.alike end c.loop-word.table c.open_word.new.table c.loop-word.opening c.open_word.new.opening
           c.loop-word.invariant.done c.in_ok-open_word.ensures.opens c.in_ok-open_word.ensures.asked.kept c.in_ok-open_word.ensures.asked.there c.loop-word.invariant.opened;
-      asked = words_next n c.args.key c.loop-word.word (c.loop-word.word + 1) refl c.args.table.now c.loop-word.table c.open_word.new.table c.loop-word.invariant.asked c.in_ok-open_word.ensures.asked;
+      asked = words_next n c.args.key c.args.origin.now.nulls c.loop-word.word (c.loop-word.word + 1) refl c.args.table.now c.loop-word.table c.open_word.new.table c.loop-word.invariant.asked c.in_ok-open_word.ensures.asked;
       left = record { known = c.in_ok-open_word.ensures.left.known; fewer = omega arith };
       steps = omega arith;
       later = omega arith;
@@ -347,14 +392,35 @@ open-loop-word-preserved g t c =
 
 pub open-returns-clause-asked : goal.open-returns-clause-asked
 open-returns-clause-asked g t c =
-    words_all c.args.lists.now c.are_numbered.ensures c.regions_begin_alike.ensures c.args.key c.args.gap.now c.requires.gap.key_is c.requires.alike c.loop-word.word c.loop-word-test.false c.args.table.now c.loop-word.table c.loop-word.invariant.asked
+    let test = c.loop-word-test.false in
+    let end = c.end_with-end.ensures in
+    words_all c.args.lists.now c.are_numbered.ensures c.regions_begin_alike.ensures c.args.origin.now c.args.key c.args.gap.now c.requires.gap.key_is c.requires.alike c.loop-word.word (omega arith) c.args.table.now c.loop-word.table c.loop-word.invariant.asked
 
-pub explore_start-returns-then-start-gap-clause-live : goal.explore_start-returns-then-start-gap-clause-live
-explore_start-returns-then-start-gap-clause-live g t c =
-    part.adds_none c.args.live.now.items _ (λ a (alt, s, l). none_starts c.args.lists.now c.are_numbered.ensures c.regions_begin_alike.ensures c.args.key c.args.gap.now c.requires.gap.key_is c.requires.alike c.args.start.now c.if-start-gap.true a alt s)
+pub open-returns-clause-done : goal.open-returns-clause-done
+open-returns-clause-done g t c =
+    let test = c.loop-word-test.false in
+    let end = c.end_with-end.ensures in
+    let done = c.loop-word.invariant.done in
+    omega arith
+
+pub explore_start-returns-then-start-end-clause-live : goal.explore_start-returns-then-start-end-clause-live
+explore_start-returns-then-start-end-clause-live g t c =
+    let test = c.if-start-end.true in
+    let end = c.end_with-end.ensures in
+    part.adds_none c.args.live.now.items _
+    (λ a (alt, s, l). none_starts c.args.lists.now c.are_numbered.ensures c.regions_begin_alike.ensures c.args.origin.now c.args.key c.args.gap.now c.requires.gap.key_is c.requires.alike c.args.start.now c.requires.level (omega arith) a alt s)
+
+pub explore_start-returns-then-start-end-clause-asked : goal.explore_start-returns-then-start-end-clause-asked
+explore_start-returns-then-start-end-clause-asked g t c =
+    let test = c.if-start-end.true in
+    let end = c.end_with-end.ensures in
+    part.asked_start c.args.lists.now _ c.args.table.now c.requires.table
+    (λ k (a, alt, s, o). none_starts c.args.lists.now c.are_numbered.ensures c.regions_begin_alike.ensures c.args.origin.now c.args.key c.args.gap.now c.requires.gap.key_is c.requires.alike c.args.start.now c.requires.level (omega arith) a alt s)
 
 pub explore_start-explore_beginning-requires : goal.explore_start-explore_beginning-requires
 explore_start-explore_beginning-requires g t c κs within =
+    let test = c.if-start-end.false in
+    let end = c.end_with-end.ensures in
     let s = c.requires.start (omega arith) in
     let room = c.requires.room in
     (search rules, (search rules, (c.requires.decided, (c.requires.key, (c.requires.gap.key_is, (c.requires.gap.known, (s.group, (s.some, (c.requires.table, (c.requires.known, omega arith))))))))))
@@ -364,9 +430,10 @@ explore_opening-loop-index-init g t c =
     let n = c.args.lists.now in
     let gap = c.args.gap.now in
     let starts = c.in_ok-opening.opening.starts.items in
+    let asked = subst (λ z. Asked n (AsksLeft n c.args.key z IsAny) c.args.table.now c.open.new.table) c.origin_of-origin.ensures.nulls c.in_ok-opening.ensures.asked in
     record {
-      asked = asked_as n (AsksLeft n c.args.key IsAny) (SoFar n c.args.key gap starts 0) c.args.table.now c.open.new.table (λ k h. inl h) (λ k h. elim h [ inl l ↦ l | inr (a, alt, m, o) ↦ absurd (part.among_none (StartsSo gap) starts a m) ]) c.in_ok-opening.ensures.asked;
-      live = subst (λ z. AddsLive n c.args.key (Among (StartsSo gap) starts 0) [] z) (sym c.new-live.ensures.items) (part.adds_none [] _ (λ a (alt, m, l). part.among_none (StartsSo gap) starts a m));
+      asked = asked_as n (AsksLeft n c.args.key c.args.nulls IsAny) (SoFar n c.args.key c.args.nulls gap starts 0) c.args.table.now c.open.new.table (λ k h. inl h) (λ k h. elim h [ inl l ↦ l | inr (a, alt, m, o) ↦ absurd (part.among_none (StartsSo gap) starts a m) ]) asked;
+      live = part.adds_none c.args.live.now.items _ (λ a (alt, m, l). part.among_none (StartsSo gap) starts a m);
       opened = c.in_ok-opening.ensures.opened;
       left = c.in_ok-opening.ensures.left;
       steps = c.in_ok-opening.ensures.steps;
@@ -383,7 +450,7 @@ explore_opening-explore_start-requires g t c κs within =
     let steps = c.loop-index.invariant.steps in
     let fewer = c.loop-index.invariant.left.fewer in
     let room = c.requires.room in
-    (search rules, (search rules, (c.requires.decided, (c.requires.key, (c.requires.gap, (c.requires.alike, ((λ l. c.loop-index.invariant.opened.each c.args.gap.now c.index.result.now c.requires.alike has l), (c.loop-index.invariant.asked.is_table, (c.loop-index.invariant.left.known, omega arith)))))))))
+    (search rules, (search rules, (c.requires.decided, (c.requires.key, (c.requires.gap, (c.origin_of-origin.ensures.begins, ((λ l. c.loop-index.invariant.opened.each c.args.gap.now c.index.result.now c.origin_of-origin.ensures.begins has l), (c.loop-index.invariant.opened.level c.index.result.now has, (c.loop-index.invariant.asked.is_table, (c.loop-index.invariant.left.known, omega arith))))))))))
 
 pub explore_opening-loop-index-preserved : goal.explore_opening-loop-index-preserved
 explore_opening-loop-index-preserved g t c =
@@ -404,8 +471,8 @@ explore_opening-loop-index-preserved g t c =
     let fewer = c.loop-index.invariant.left.fewer in
     let fewest = c.in_ok-explore_start.ensures.left.fewer in
     record {
-      asked = start_asked n c.args.key gap starts.items i (i + 1) s (omega arith) at c.args.table.now c.loop-index.table c.explore_start.new.table c.loop-index.invariant.asked c.in_ok-explore_start.ensures.asked;
-      live = part.live_parts n c.args.key (Among R starts.items i) (R s) (Among R starts.items (i + 1)) step [] c.loop-index.live.items c.explore_start.new.live.items
+      asked = start_asked n c.args.key c.args.nulls gap starts.items i (i + 1) s (omega arith) at c.args.table.now c.loop-index.table c.explore_start.new.table c.loop-index.invariant.asked c.in_ok-explore_start.ensures.asked;
+      live = part.live_parts n c.args.key (Among R starts.items i) (R s) (Among R starts.items (i + 1)) step c.args.live.now.items c.loop-index.live.items c.explore_start.new.live.items
           (part.among_apart R starts.items (λ j k u v a e f p q. c.loop-index.invariant.opened.apart gap j k u v a e f p q) i s at) c.loop-index.invariant.live c.in_ok-explore_start.ensures.live;
       opened = opening_kept n c.loop-index.table c.explore_start.new.table c.in_ok-explore_start.ensures.asked.kept _ c.in_ok-opening.opening c.loop-index.invariant.opened;
       left = record { known = c.in_ok-explore_start.ensures.left.known; fewer = omega arith };
@@ -419,9 +486,10 @@ explore_opening-returns-clause-live g t c =
     let starts = c.in_ok-opening.opening.starts in
     let end : c.len-index-end.result ≡ length starts.items = c.len-index-end.ensures ∙ starts.ok.0 in
     let test = c.loop-index-test.false in
-    let some = opening_some n c.are_numbered.ensures c.regions_begin_alike.ensures c.args.key c.args.gap.now c.requires.gap.key_is c.requires.alike c.in_ok-opening.opening c.loop-index.table c.in_ok-opening.ensures.done c.loop-index.invariant.opened in
-    let live = opening_live n c.args.key c.args.gap.now c.requires.gap.key_is starts.items c.loop-index.index (omega arith) some c.loop-index.live.items c.loop-index.invariant.live in
-    ok_as c.of.result (λ list. list ≡ c.deref.result.now) (AreLive n.positions n.lists c.args.key) (λ list e. subst (λ z. AreLive n.positions n.lists c.args.key z) (sym (e ∙ c.deref.ensures.value)) live) c.of.ensures
+    let opened = c.loop-index.invariant.opened in
+    let level = c.origin_of-origin.ensures.nulls in
+    let some = opening_some n c.are_numbered.ensures c.regions_begin_alike.ensures c.origin_of-origin.result c.args.key c.args.gap.now c.requires.gap.key_is c.origin_of-origin.ensures.begins c.in_ok-opening.opening c.loop-index.table c.in_ok-opening.ensures.done opened in
+    opening_live n c.args.key c.args.nulls c.args.gap.now starts.items c.loop-index.index (omega arith) (λ s has. opened.level s has ∙ level) (λ a alt live. some a (alt.0, subst (λ z. LeavesLeft z a) (sym level) alt.1) live) c.args.live.now.items c.loop-index.live.items c.loop-index.invariant.live
 
 pub explore_opening-returns-clause-asked : goal.explore_opening-returns-clause-asked
 explore_opening-returns-clause-asked g t c =
@@ -429,32 +497,31 @@ explore_opening-returns-clause-asked g t c =
     let starts = c.in_ok-opening.opening.starts in
     let end : c.len-index-end.result ≡ length starts.items = c.len-index-end.ensures ∙ starts.ok.0 in
     let test = c.loop-index-test.false in
-    let some = opening_some n c.are_numbered.ensures c.regions_begin_alike.ensures c.args.key c.args.gap.now c.requires.gap.key_is c.requires.alike c.in_ok-opening.opening c.loop-index.table c.in_ok-opening.ensures.done c.loop-index.invariant.opened in
-    part.ok_any c.of.result _ (opening_asked n c.args.key c.args.gap.now c.requires.gap.key_is starts.items c.loop-index.index (omega arith) some c.args.table.now c.loop-index.table c.loop-index.invariant.asked)
-
-pub explore_opening-of-requires : goal.explore_opening-of-requires
-explore_opening-of-requires g t c = λ a h.
-    let n = c.args.lists.now in
-    let starts = c.in_ok-opening.opening.starts in
-    let end : c.len-index-end.result ≡ length starts.items = c.len-index-end.ensures ∙ starts.ok.0 in
-    let test = c.loop-index-test.false in
-    let some = opening_some n c.are_numbered.ensures c.regions_begin_alike.ensures c.args.key c.args.gap.now c.requires.gap.key_is c.requires.alike c.in_ok-opening.opening c.loop-index.table c.in_ok-opening.ensures.done c.loop-index.invariant.opened in
-    let live = opening_live n c.args.key c.args.gap.now c.requires.gap.key_is starts.items c.loop-index.index (omega arith) some c.loop-index.live.items c.loop-index.invariant.live in
-    c.alternatives_are_small.ensures n.positions n.lists c.args.key a c.keep_limits.ensures c.are_numbered.ensures c.requires.key ((live.exactly a).0 (subst (λ z. Contains z a) c.deref.ensures.value h)).0
+    let opened = c.loop-index.invariant.opened in
+    let level = c.origin_of-origin.ensures.nulls in
+    let some = opening_some n c.are_numbered.ensures c.regions_begin_alike.ensures c.origin_of-origin.result c.args.key c.args.gap.now c.requires.gap.key_is c.origin_of-origin.ensures.begins c.in_ok-opening.opening c.loop-index.table c.in_ok-opening.ensures.done opened in
+    opening_asked n c.args.key c.args.nulls c.args.gap.now starts.items c.loop-index.index (omega arith) (λ s has. opened.level s has ∙ level) (λ a alt live. some a (alt.0, subst (λ z. LeavesLeft z a) (sym level) alt.1) live) c.args.table.now c.loop-index.table c.loop-index.invariant.asked
 
 pub explore_opening-returns-clause-left : goal.explore_opening-returns-clause-left
 explore_opening-returns-clause-left g t c =
-    let left = c.loop-index.invariant.left in
-    part.ok_any c.of.result _ (record {
+    let left = c.loop-index.invariant.left in record {
       known = record {
         known = left.known.known;
         opened = λ o x has. elim (c.in_ok-put.ensures.put o x has) [
           | inl h ↦ left.known.opened o x h
-          | inr (e, f) ↦ subst (λ z. IsOpening c.args.lists.now c.loop-index.table z x) (sym e) (subst (λ z. IsOpening c.args.lists.now c.loop-index.table (record { left = c.args.gap.now.left; llist = c.args.gap.now.llist }) z) (sym f) c.loop-index.invariant.opened)
+          | inr (e, f) ↦ subst (λ z. IsOpening c.args.lists.now c.loop-index.table z x) (sym e) (subst (λ z. IsOpening c.args.lists.now c.loop-index.table c.origin_of-origin.result z) (sym f) c.loop-index.invariant.opened)
         ];
       };
       fewer = left.fewer;
-    })
+    }
+
+pub explore_opening-origin_of-origin-requires-clause-gap : goal.explore_opening-origin_of-origin-requires-clause-gap
+explore_opening-origin_of-origin-requires-clause-gap g t c = (c.args.key, c.requires.gap)
+
+pub explore_opening-open-requires : goal.explore_opening-open-requires
+explore_opening-open-requires g t c κs within =
+    let room = c.requires.room in
+    (search rules, (search rules, (c.requires.decided, (c.requires.key, (c.requires.gap, (c.origin_of-origin.ensures.begins, (c.requires.table, (c.requires.known, omega arith))))))))
 
 pub explore_beginning-visit-requires : goal.explore_beginning-visit-requires
 explore_beginning-visit-requires g t c κs within =
@@ -547,121 +614,3 @@ explore_beginning-returns-clause-asked g t c =
     let ends = part.from_none c.new-alts.result.items alts _ c.new-alts.ensures.items c.in_ok-push_endings.ensures.endings in
     part.all_asked c.args.lists.now c.args.key c.args.gap.now c.args.group.now c.args.begin.now c.key-lkey.result c.requires.is_key c.key-lkey.ensures alts
     (part.ends_all c.args.lists.now c.args.key c.args.gap.now c.args.group.now c.args.begin.now alts c.requires.is_key ends) c.loop-index.index (omega arith) c.requires.begins c.args.table.now c.loop-index.table c.loop-index.invariant.asked
-
-pub explore_group-loop-index-init : goal.explore_group-loop-index-init
-explore_group-loop-index-init g t c = record {
-  asked = part.asked_start c.args.lists.now _ c.args.table.now c.requires.table (λ k (a, alt, m, o). part.among_none (IsEnding c.args.gap.now c.args.group.now) c.as_slice-begins.result.now a m);
-  live = part.adds_none c.args.live.now.items _ (λ a (alt, m, l). part.among_none (IsEnding c.args.gap.now c.args.group.now) c.as_slice-begins.result.now a m);
-  left = record { known = c.requires.known; fewer = omega arith };
-  steps = omega arith;
-  later = omega arith;
-}
-
-pub explore_group-explore_beginning-requires : goal.explore_group-explore_beginning-requires
-explore_group-explore_beginning-requires g t c κs within =
-    let test = c.loop-index-test.true in
-    let at = slice_get-get_or c.as_slice-begins.result.now c.loop-index.index no_beginning (omega arith) in
-    let steps = c.loop-index.invariant.steps in
-    let room = c.requires.room in
-    let fewer = c.loop-index.invariant.left.fewer in
-    (search rules, (search rules, (c.requires.decided, (c.requires.key, (c.requires.is_key, (c.requires.gap, (c.requires.group, ((same_begins c.args.lists.now c.args.gap.now c.args.group.now _ _ c.as_slice-begins.ensures c.in_ok-found.ensures).each (get_or c.as_slice-begins.result.now c.loop-index.index no_beginning) (contains_at c.as_slice-begins.result.now c.loop-index.index (get_or c.as_slice-begins.result.now c.loop-index.index no_beginning) at), (c.loop-index.invariant.asked.is_table, (c.loop-index.invariant.left.known, omega arith))))))))))
-
-pub explore_group-loop-index-preserved : goal.explore_group-loop-index-preserved
-explore_group-loop-index-preserved g t c =
-    let n = c.args.lists.now in
-    let test = c.loop-index-test.true in
-    let at = slice_get-get_or c.as_slice-begins.result.now c.loop-index.index no_beginning (omega arith) in
-    let bs = c.as_slice-begins.result.now in
-    let i = c.loop-index.index in
-    let R = IsEnding c.args.gap.now c.args.group.now in
-    let step = part.among_next R bs i (i + 1) (get_or c.as_slice-begins.result.now c.loop-index.index no_beginning) (omega arith) at in
-    let before = c.loop-index.invariant.steps in
-    let after = c.in_ok-explore_beginning.ensures.steps in
-    let earlier = c.loop-index.invariant.later in
-    let later = c.in_ok-explore_beginning.ensures.later in
-    let fewer = c.loop-index.invariant.left.fewer in
-    let fewest = c.in_ok-explore_beginning.ensures.left.fewer in
-    record {
-      asked = part.asked_parts n c.args.key (Among R bs i) (R (get_or c.as_slice-begins.result.now c.loop-index.index no_beginning)) (Among R bs (i + 1)) step c.args.table.now c.loop-index.table c.explore_beginning.new.table c.loop-index.invariant.asked c.in_ok-explore_beginning.ensures.asked;
-      live = part.live_parts n c.args.key (Among R bs i) (R (get_or c.as_slice-begins.result.now c.loop-index.index no_beginning)) (Among R bs (i + 1)) step c.args.live.now.items c.loop-index.live.items c.explore_beginning.new.live.items
-          (part.among_apart R bs (part.begins_apart c.args.gap.now c.args.group.now bs (same_begins c.args.lists.now c.args.gap.now c.args.group.now _ _ c.as_slice-begins.ensures c.in_ok-found.ensures).once) i (get_or c.as_slice-begins.result.now c.loop-index.index no_beginning) at) c.loop-index.invariant.live c.in_ok-explore_beginning.ensures.live;
-      left = record { known = c.in_ok-explore_beginning.ensures.left.known; fewer = omega arith };
-      steps = omega arith;
-      later = omega arith;
-    }
-
-pub explore_group-returns-clause-live : goal.explore_group-returns-clause-live
-explore_group-returns-clause-live g t c =
-    let bs = c.as_slice-begins.result.now in
-    let test = c.loop-index-test.false in
-    let R = IsEnding c.args.gap.now c.args.group.now in
-    part.live_same c.args.lists.now c.args.key (Among R bs c.loop-index.index) (In c.args.group.now)
-    (part.group_begun c.args.lists.now c.args.key c.args.gap.now c.args.group.now bs c.loop-index.index c.requires.is_key (same_begins c.args.lists.now c.args.gap.now c.args.group.now _ _ c.as_slice-begins.ensures c.in_ok-found.ensures) (omega arith)) c.args.live.now.items c.loop-index.live.items c.loop-index.invariant.live
-
-pub explore_group-returns-clause-asked : goal.explore_group-returns-clause-asked
-explore_group-returns-clause-asked g t c =
-    let bs = c.as_slice-begins.result.now in
-    let test = c.loop-index-test.false in
-    let R = IsEnding c.args.gap.now c.args.group.now in
-    part.asked_same c.args.lists.now c.args.key (Among R bs c.loop-index.index) (In c.args.group.now)
-    (part.group_begun c.args.lists.now c.args.key c.args.gap.now c.args.group.now bs c.loop-index.index c.requires.is_key (same_begins c.args.lists.now c.args.gap.now c.args.group.now _ _ c.as_slice-begins.ensures c.in_ok-found.ensures) (omega arith)) c.args.table.now c.loop-index.table c.loop-index.invariant.asked
-
-pub explore_groups-explore_group-requires : goal.explore_groups-explore_group-requires
-explore_groups-explore_group-requires g t c κs within =
-    let end : c.len-index-end.result ≡ length c.args.groups.now.items.items = c.len-index-end.ensures ∙ c.args.groups.now.items.ok.0 in
-    let test = c.loop-index-test.true in
-    let at = part.at_of c.args.groups.now.items.items c.loop-index.index c.index.result.now (omega arith) c.index.ensures in
-    let steps = c.loop-index.invariant.steps in
-    let room = c.requires.room in
-    let fewer = c.loop-index.invariant.left.fewer in
-    (search rules, (search rules, (c.requires.decided, (c.requires.key, (c.requires.groups.key_is, (c.requires.groups.known, (c.requires.groups.each c.index.result.now (contains_at c.args.groups.now.items.items c.loop-index.index c.index.result.now at), (c.loop-index.invariant.asked.is_table, (c.loop-index.invariant.left.known, omega arith)))))))))
-
-pub explore_groups-loop-index-preserved : goal.explore_groups-loop-index-preserved
-explore_groups-loop-index-preserved g t c =
-    let n = c.args.lists.now in
-    let end : c.len-index-end.result ≡ length c.args.groups.now.items.items = c.len-index-end.ensures ∙ c.args.groups.now.items.ok.0 in
-    let test = c.loop-index-test.true in
-    let at = part.at_of c.args.groups.now.items.items c.loop-index.index c.index.result.now (omega arith) c.index.ensures in
-    let gs = c.args.groups.now.items.items in
-    let i = c.loop-index.index in
-    let step = part.among_next In gs i (i + 1) c.index.result.now (omega arith) at in
-    let before = c.loop-index.invariant.steps in
-    let after = c.in_ok-explore_group.ensures.steps in
-    let earlier = c.loop-index.invariant.later in
-    let later = c.in_ok-explore_group.ensures.later in
-    let fewer = c.loop-index.invariant.left.fewer in
-    let fewest = c.in_ok-explore_group.ensures.left.fewer in
-    record {
-      asked = part.asked_parts n c.args.key (Among In gs i) (In c.index.result.now) (Among In gs (i + 1)) step c.args.table.now c.loop-index.table c.explore_group.new.table c.loop-index.invariant.asked c.in_ok-explore_group.ensures.asked;
-      live = part.live_parts n c.args.key (Among In gs i) (In c.index.result.now) (Among In gs (i + 1)) step [] c.loop-index.live.items c.explore_group.new.live.items
-          (part.among_apart In gs c.requires.groups.apart i c.index.result.now at) c.loop-index.invariant.live c.in_ok-explore_group.ensures.live;
-      left = record { known = c.in_ok-explore_group.ensures.left.known; fewer = omega arith };
-      steps = omega arith;
-      later = omega arith;
-    }
-
-pub explore_groups-returns-clause-live : goal.explore_groups-returns-clause-live
-explore_groups-returns-clause-live g t c =
-    let gs = c.args.groups.now.items.items in
-    let n = c.args.lists.now in
-    let end : c.len-index-end.result ≡ length gs = c.len-index-end.ensures ∙ c.args.groups.now.items.ok.0 in
-    let test = c.loop-index-test.false in
-    let live = part.groups_live n c.args.key c.args.groups.now c.requires.groups c.loop-index.index (omega arith) c.loop-index.live.items c.loop-index.invariant.live in
-    ok_as c.of.result (λ list. list ≡ c.deref.result.now) (AreLive n.positions n.lists c.args.key) (λ list e. subst (λ z. AreLive n.positions n.lists c.args.key z) (sym (e ∙ c.deref.ensures.value)) live) c.of.ensures
-
-pub explore_groups-returns-clause-asked : goal.explore_groups-returns-clause-asked
-explore_groups-returns-clause-asked g t c =
-    let gs = c.args.groups.now.items.items in
-    let n = c.args.lists.now in
-    let end : c.len-index-end.result ≡ length gs = c.len-index-end.ensures ∙ c.args.groups.now.items.ok.0 in
-    let test = c.loop-index-test.false in
-    part.ok_any c.of.result _ (part.groups_asked n c.args.key c.args.groups.now c.requires.groups c.loop-index.index (omega arith) c.args.table.now c.loop-index.table c.loop-index.invariant.asked)
-
-pub explore_groups-of-requires : goal.explore_groups-of-requires
-explore_groups-of-requires g t c = λ a h.
-    let gs = c.args.groups.now.items.items in
-    let n = c.args.lists.now in
-    let end : c.len-index-end.result ≡ length gs = c.len-index-end.ensures ∙ c.args.groups.now.items.ok.0 in
-    let test = c.loop-index-test.false in
-    let live = part.groups_live n c.args.key c.args.groups.now c.requires.groups c.loop-index.index (omega arith) c.loop-index.live.items c.loop-index.invariant.live in
-    c.alternatives_are_small.ensures n.positions n.lists c.args.key a c.keep_limits.ensures c.are_numbered.ensures c.requires.key ((live.exactly a).0 (subst (λ z. Contains z a) c.deref.ensures.value h)).0

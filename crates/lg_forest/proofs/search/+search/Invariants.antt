@@ -4,9 +4,10 @@ use Rattle.lg_region.specs.Small.{full}
 use Rattle.lg_region.specs.Ways.{AddsExactly}
 use Rattle.lg_region.specs.declared.alternative.Alt.{Alt}
 use Rattle.lg_forest.specs.Forests.{IsLive}
-use Rattle.lg_forest.specs.Halves.{AddsLive, AsksAmong, IsEnding}
+use Rattle.lg_forest.specs.Halves.{AddsLive, AsksAmong}
 use Rattle.lg_region.specs.Groups.{StandsBefore}
 use Rattle.lg_forest.specs.Opened.{AsksLeft, IsLeft, IsOpening, StartsSo}
+use Rattle.lg_forest.proofs.Levels.{LeavesFewer}
 use Rattle.lg_forest.proofs.Starting.{IsOfGroup, LeftOfFirst, OfFirst, SoFar}
 use Rattle.lg_forest.specs.Search.{Asked, IsLast, key_width, part_bound, alt_bound, IsCounted}
 use Rattle.lg_forest.proofs.Among.{Among, AsksFor, In}
@@ -41,12 +42,6 @@ decreases-open_word g l = 9 * key_width l.lists.now.positions l.key + 3
 abbrev pub decreases-open_group : goal.decreases-open_group
 decreases-open_group g l = 9 * key_width l.lists.now.positions l.key + 2
 
-abbrev pub decreases-explore_groups : goal.decreases-explore_groups
-decreases-explore_groups g l = 9 * key_width l.lists.now.positions l.key + 5
-
-abbrev pub decreases-explore_group : goal.decreases-explore_group
-decreases-explore_group g l = 9 * key_width l.lists.now.positions l.key + 4
-
 abbrev pub decreases-explore_beginning : goal.decreases-explore_beginning
 decreases-explore_beginning g l = 9 * key_width l.lists.now.positions l.key + 3
 
@@ -70,21 +65,11 @@ invariant-explore_all-loop-index g l = record {
   later : l.fn.steps ≤ l.steps;
 }
 
--- the groups so far
-abbrev pub invariant-explore_groups-loop-index : goal.invariant-explore_groups-loop-index
-invariant-explore_groups-loop-index g l = record {
-  asked : Asked l.lists (AsksAmong l.lists l.key (Among In l.groups.items.items l.index)) l.fn.table l.table;
-  live : AddsLive l.lists l.key (Among In l.groups.items.items l.index) [] l.live.items;
-  left : IsLeft l.lists l.table l.fn.memory l.memory;
-  steps : IsCounted 0 (l.fn.steps + length l.memory.known) l.fn.table (l.steps + length l.fn.memory.known) l.table;
-  later : l.fn.steps ≤ l.steps;
-}
-
--- the beginnings so far
-abbrev pub invariant-explore_group-loop-index : goal.invariant-explore_group-loop-index
-invariant-explore_group-loop-index g l = record {
-  asked : Asked l.lists (AsksAmong l.lists l.key (Among (IsEnding l.gap l.group) l.begins l.index)) l.fn.table l.table;
-  live : AddsLive l.lists l.key (Among (IsEnding l.gap l.group) l.begins l.index) l.fn.live.items l.live.items;
+-- the numbers of unlinked words on the left so far
+abbrev pub invariant-explore_gap-loop-nulls : goal.invariant-explore_gap-loop-nulls
+invariant-explore_gap-loop-nulls g l = record {
+  asked : Asked l.lists (AsksAmong l.lists l.key (LeavesFewer l.nulls)) l.fn.table l.table;
+  live : AddsLive l.lists l.key (LeavesFewer l.nulls) [] l.live.items;
   left : IsLeft l.lists l.table l.fn.memory l.memory;
   steps : IsCounted 0 (l.fn.steps + length l.memory.known) l.fn.table (l.steps + length l.fn.memory.known) l.table;
   later : l.fn.steps ≤ l.steps;
@@ -104,9 +89,9 @@ invariant-explore_beginning-loop-index g l = record {
 -- the starts so far; the opening stands by the table
 abbrev pub invariant-explore_opening-loop-index : goal.invariant-explore_opening-loop-index
 invariant-explore_opening-loop-index g l = record {
-  asked : Asked l.lists (SoFar l.lists l.key l.gap l.opening.starts.items l.index) l.fn.table l.table;
-  live : AddsLive l.lists l.key (Among (StartsSo l.gap) l.opening.starts.items l.index) [] l.live.items;
-  opened : IsOpening l.lists l.table (record { left = l.gap.left; llist = l.gap.llist }) l.opening;
+  asked : Asked l.lists (SoFar l.lists l.key l.nulls l.gap l.opening.starts.items l.index) l.fn.table l.table;
+  live : AddsLive l.lists l.key (Among (StartsSo l.gap) l.opening.starts.items l.index) l.fn.live.items l.live.items;
+  opened : IsOpening l.lists l.table l.origin l.opening;
   left : IsLeft l.lists l.table l.fn.memory l.memory;
   steps : IsCounted 0 (l.fn.steps + length l.memory.known) l.fn.table (l.steps + length l.fn.memory.known) l.table;
   later : l.fn.steps ≤ l.steps;
@@ -117,8 +102,8 @@ abbrev pub invariant-open-loop-word : goal.invariant-open-loop-word
 invariant-open-loop-word g l = record {
   done : l.opening.done ≡ l.word;
   after : l.gap.left < l.word;
-  opened : IsOpening l.lists l.table (record { left = l.gap.left; llist = l.gap.llist }) l.opening;
-  asked : Asked l.lists (AsksLeft l.lists l.key (StandsBefore l.word)) l.fn.table l.table;
+  opened : IsOpening l.lists l.table l.origin l.opening;
+  asked : Asked l.lists (AsksLeft l.lists l.key l.origin.nulls (StandsBefore l.word)) l.fn.table l.table;
   left : IsLeft l.lists l.table l.fn.memory l.memory;
   steps : IsCounted 0 (l.fn.steps + length l.memory.known) l.fn.table (l.steps + length l.fn.memory.known) l.table;
   later : l.fn.steps ≤ l.steps;
@@ -127,8 +112,8 @@ invariant-open-loop-word g l = record {
 -- the groups of the word so far
 abbrev pub invariant-open_word-loop-index : goal.invariant-open_word-loop-index
 invariant-open_word-loop-index g l = record {
-  starts : AddsExactly l.fn.opening.starts.items l.opening.starts.items (Among (IsOfGroup l.lists l.gap) l.groups.items l.index);
-  asked : Asked l.lists (AsksLeft l.lists l.key (Among In l.groups.items l.index)) l.fn.table l.table;
+  starts : AddsExactly l.fn.opening.starts.items l.opening.starts.items (Among (IsOfGroup l.lists l.gap l.nulls) l.groups.items l.index);
+  asked : Asked l.lists (AsksLeft l.lists l.key l.nulls (Among In l.groups.items l.index)) l.fn.table l.table;
   left : IsLeft l.lists l.table l.fn.memory l.memory;
   steps : IsCounted 0 (l.fn.steps + length l.memory.known) l.fn.table (l.steps + length l.fn.memory.known) l.table;
   later : l.fn.steps ≤ l.steps;

@@ -1,4 +1,4 @@
-use Rattle.lg_region.specs.declared.chains.Side.TheVariants.{Left}
+use Rattle.lg_region.specs.declared.chains.Side.TheVariants.{Left, Right}
 use Rattle.lg_region.proofs.Expanding.{led_left}
 use Rattle.lg_region.proofs.expand.lead_of.Goals as goal
 
@@ -8,3 +8,6 @@ returns-else-llist-eq0-clause-led c = λ k l r.
 
 pub returns-else-llist-eq0-clause-left : goal.returns-else-llist-eq0-clause-left
 returns-else-llist-eq0-clause-left c = λ some i. record { side = Left; class = c.class-else-llist-eq0.ensures.value i }
+
+pub returns-then-llist-eq0-clause-right : goal.returns-then-llist-eq0-clause-right
+returns-then-llist-eq0-clause-right c = λ none i. record { side = Right; class = c.class.ensures.value i }

@@ -20,5 +20,7 @@ returns-else-llist-eq0-clause-gap c =
       ends = k.2.ends;
       within = k.2.within;
       some = λ h. elim c.else-llist-eq0.branch [ else-llist-eq0-via-then-llist-eq0+else-rlist-eq0 w ↦ w.if-rlist-eq0.false h.1 | else-llist-eq0-via-else-llist-eq0 w ↦ w.if-llist-eq0.false h.0 ];
+      few = k.2.few;
       lead = c.lead_of-lead.ensures.left;
+      rlead = c.lead_of-lead.ensures.right;
     }

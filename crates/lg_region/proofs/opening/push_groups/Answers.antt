@@ -1,6 +1,6 @@
-use Rattle.std.proofs.Common.{◌≡◌, length, get_or, [], subst, arith}
+use Rattle.std.proofs.Common.{◌≡◌, length, get_or, [], ◌∷◌, ◌++◌, ap, subst, ◌∙◌, arith}
+use Rattle.lg_region.specs.Groups.{IsGroup}
 use Rattle.lg_region.specs.Openings.{GroupsOfWord}
-use Rattle.lg_region.proofs.Expanding.{left_first, run_group}
 use Rattle.lg_region.proofs.Grouped.{groups_none, groups_more}
 use Rattle.lg_region.proofs.Splitting.{led_itself}
 use Rattle.lg_region.proofs.opening.push_groups.Goals as goal
@@ -11,19 +11,15 @@ loop-from-init c = record {
   added = groups_none c.args.lists.now c.args.gap.now c.args.word c.first-from.result c.args.groups.now.items c.requires.known.led c.first-from.ensures;
 }
 
-pub run_end-to-requires-clause-first : goal.run_end-to-requires-clause-first
-run_end-to-requires-clause-first c = left_first c.args.lists.now c.args.gap.now.lead c.args.word c.loop-from.from c.sides-left.result c.sides-left.ensures
-
 pub loop-from-preserved : goal.loop-from-preserved
 loop-from-preserved c =
-    let e = c.count-count.ensures in
-    let l = c.loop-from-test.true in
-    let later = c.run_end-to.ensures.later in
+    let later = c.group_at-group.ensures.later in
+    let g = c.group_at-group.result in
+    let is : g ≡ record { word = c.args.word; left = g.left; from = c.loop-from.from; to = g.to } = λ i. record { word = c.group_at-group.ensures.word i; left = g.left; from = c.group_at-group.ensures.from i; to = g.to } in
     record {
-      led = c.run_end-to.ensures.led;
-      added = groups_more c.args.lists.now c.args.gap.now c.args.word c.sides-left.result.left c.loop-from.from c.run_end-to.result c.args.groups.now.items c.loop-from.groups.items c.push.new.self.items (omega arith)
-          (run_group c.args.lists.now c.args.gap.now c.args.word c.loop-from.from c.run_end-to.result c.sides-left.result c.requires.after c.requires.before (omega arith) c.loop-from.invariant.led c.run_end-to.ensures.led c.sides-left.ensures c.run_end-to.ensures.same)
-          c.loop-from.invariant.added c.in_ok-push.ensures.items;
+      led = c.group_at-group.ensures.led;
+      added = groups_more c.args.lists.now c.args.gap.now c.args.word g.left c.loop-from.from g.to c.args.groups.now.items c.loop-from.groups.items c.push.new.self.items (omega arith)
+          (subst (IsGroup c.args.lists.now c.args.gap.now) is c.group_at-group.ensures.group) c.loop-from.invariant.added (c.in_ok-push.ensures.items ∙ ap (λ h. c.loop-from.groups.items ++ h ∷ []) is);
     }
 
 pub returns : goal.returns
