@@ -1,11 +1,11 @@
 -- Tables that gather the names of entries.
-use Rattle.std.proofs.Common.{◌≡◌, ◌≢◌, ℕ, ◌+◌, ◌<◌, List, [], ◌∷◌, ◌++◌, Bool, true, false, ◌||◌, if◌then◌else◌, map, length, take, drop, get_or, Bor, All, AllPairs, refl, sym, ap, subst, ◌∙◌, arith, append_assoc, take-append-drop, length-append}
+use Rattle.std.proofs.Common.{◌≡◌, ◌≢◌, ℕ, ◌+◌, ◌<◌, List, [], ◌∷◌, ◌++◌, Bool, true, false, ◌||◌, if◌then◌else◌, map, length, get_or, Bor, All, AllPairs, refl, sym, ap, subst, ◌∙◌, arith, append_assoc, length-append, Some}
 use Rattle.std.specs.declared.vec.Vec.{Vec}
 use Rattle.std.specs.List.{IsDistinct, AllByRecursion, list_any, flat_map}
 use Rattle.std.specs.Cmp.Lexicographic.{bytes_decides, nat_list_eq_equiv}
-use Rattle.std.proofs.lemmas.List.{drop_more, get_or_append_left}
+use Rattle.std.proofs.lemmas.List.{get_or_append_left, length-map}
 use Rattle.std.proofs.lemmas.List.Elements.{All-append, All-nil, All-cons}
-use Rattle.std.proofs.lemmas.Grind.{take_at_read}
+use Rattle.std.proofs.Math.Seq.{get_or-append_seam}
 use Rattle.std.proofs.lemmas.Map.Keys.{IsDistinct-head, IsDistinct-tail}
 use Rattle.std.proofs.lemmas.Map.Made.{IsDistinct-from_AllPairs}
 use Rattle.std.specs.Option.{option_map, option_map_or}
@@ -14,7 +14,13 @@ use Rattle.std.specs.Map.Iter.{deref}
 use Rattle.indexmap.specs.IndexMap.{IndexMap, insert_entry, keys, values}
 use Rattle.lg_gram.specs.Trees.{empty, tree_of}
 use Rattle.lg_gram.specs.declared.entry.Entry.{Entry}
-use Rattle.lg_dict.specs.Tables.{text_entries, text_keys, same_text, tree_at}
+use Rattle.lg_gram.specs.declared.expr.Expr.{Expr}
+use Rattle.lg_gram.specs.Formulas.{LevelFits, prices_are_small}
+use Rattle.lg_gram.specs.Fits.{Fits}
+use Rattle.lg_dict.specs.declared.tables.Macro.{Macro}
+use Rattle.lg_dict.specs.Dictionary.{AreEntries, words_with_formulas, macros_with_formulas}
+use Rattle.lg_dict.specs.Gathered.{AreGathered}
+use Rattle.lg_dict.specs.Tables.{text_entries, text_keys, same_text, tree_at, macro_at, with_trees, with_macros, IsMacro}
 use Rattle.lg_dict.proofs.Lookups.{key_eq, shown_as}
 
 map-append : {X Y : Type 0} (f : X → Y) (xs ys : List X) → map f (xs ++ ys) ≡ map f xs ++ map f ys
@@ -37,10 +43,6 @@ append-none : {X : Type 0} (xs : List X) → xs ++ [] ≡ xs
 append-none [] = refl
 append-none (x ∷ xs) = ap (λ l. x ∷ l) (append-none xs)
 
-flat_map-more : {X Y : Type 0} (f : X → List Y) (xs : List X) (i : ℕ) (d : X) → i < length xs → flat_map f (take (i + 1) xs) ≡ flat_map f (take i xs) ++ f (get_or xs i d)
-flat_map-more f xs i d within =
-    ap (flat_map f) ((take_at_read xs i d within).1) ∙ flat_map-append f (take i xs) (get_or xs i d ∷ []) ∙ ap (λ l. flat_map f (take i xs) ++ l) (append-none (f (get_or xs i d)))
-
 both_false : (a b : Bool) → (a || b) ≡ false → (a ≡ false) × (b ≡ false)
 both_false true b e = absurd (let h : true ≡ false = e in cc)
 both_false false b e = (refl, e)
@@ -62,12 +64,12 @@ AllPairs-front R xs ys h i j d below within =
     (subst (λ y. R (get_or (xs ++ ys) i d) y) (get_or_append_left xs ys d j within) (h i j d below (omega (arith, length-append xs ys))))
 
 -- the names of an entry differ from each other and from those before it
-pub distinct_upto : {E : Type 0} (names : E → List (List ℕ)) (es : List E) (i : ℕ) (d : E) → i < length es → AllPairs (λ a b. a ≢ b) (flat_map names es)
-    → IsDistinct same_text (flat_map names (take i es) ++ names (get_or es i d))
-distinct_upto names es i d within apart =
-    let cut : flat_map names es ≡ flat_map names (take (i + 1) es) ++ flat_map names (drop (i + 1) es) = ap (flat_map names) (sym (take-append-drop (i + 1) es)) ∙ flat_map-append names (take (i + 1) es) (drop (i + 1) es) in
-    IsDistinct-from_AllPairs bytes_decides _
-    (subst (AllPairs (λ a b. a ≢ b)) (flat_map-more names es i d within) (AllPairs-front (λ a b. a ≢ b) _ _ (subst (AllPairs (λ a b. a ≢ b)) cut apart)))
+pub distinct_upto : {E : Type 0} (names : E → List (List ℕ)) (done : List E) (e : E) (rest : List E) → AllPairs (λ a b. a ≢ b) (flat_map names (done ++ e ∷ rest))
+    → IsDistinct same_text (flat_map names done ++ names e)
+distinct_upto names done e rest apart =
+    let cut : flat_map names (done ++ e ∷ rest) ≡ (flat_map names done ++ names e) ++ flat_map names rest =
+    flat_map-append names done (e ∷ rest) ∙ sym (append_assoc (flat_map names done) (names e) (flat_map names rest)) in
+    IsDistinct-from_AllPairs bytes_decides _ (AllPairs-front (λ a b. a ≢ b) _ _ (subst (AllPairs (λ a b. a ≢ b)) cut apart))
 
 abbrev as_texts : {A V : Type 0} → List (Vec ℕ A × V) → List (List ℕ × V)
 as_texts es = map (λ e. (e.0.items, e.1)) es
@@ -100,34 +102,21 @@ module _ {A V S : Type 0} where
   values-entries : (table : IndexMap (Vec ℕ A) V S) → values table ≡ seconds (text_entries table)
   values-entries table = sym (map-map (λ (e : List ℕ × V). e.1) (λ (e : Vec ℕ A × V). (e.0.items, e.1)) table.entries)
 
-  keys_named : (old : IndexMap (Vec ℕ A) V S) (names : List (List ℕ)) (value : V)
-      → firsts (text_entries old ++ with_value value names) ≡ text_keys old ++ names
-  keys_named old names value =
-      map-append (λ (e : List ℕ × V). e.0) (text_entries old) (with_value value names)
-      ∙ ap (λ l. l ++ firsts (with_value value names)) (sym (text_keys-entries old))
-      ∙ ap (λ l. text_keys old ++ l) (map-map (λ (e : List ℕ × V). e.0) (λ (name : List ℕ). (name, value)) names ∙ map-same names)
-
-  -- one more name with the value
-  pub named-more : (old before after : IndexMap (Vec ℕ A) V S) (names : List (List ℕ)) (value : V) (i : ℕ) (d : List ℕ) (key : Vec ℕ A) → i < length names
-      → IsDistinct same_text (text_keys old ++ names) → text_entries before ≡ text_entries old ++ map (λ name. (name, value)) (take i names)
-      → key.items ≡ get_or names i d → after.entries ≡ insert_entry key_eq before.entries key value
-      → text_entries after ≡ text_entries old ++ map (λ name. (name, value)) (take (i + 1) names)
-  named-more old before after names value i d key within distinct so_far is step =
-      let name = get_or names i d in
-      let cut : names ≡ take i names ++ name ∷ drop (i + 1) names = sym (take-append-drop i names) ∙ ap (λ l. take i names ++ l) (drop_more names i d within) in
-      let apart : IsDistinct same_text ((text_keys old ++ take i names) ++ name ∷ drop (i + 1) names) =
-      subst (IsDistinct same_text) (ap (λ l. text_keys old ++ l) cut ∙ sym (append_assoc (text_keys old) (take i names) (name ∷ drop (i + 1) names))) distinct in
-      let keys : text_keys before ≡ text_keys old ++ take i names = text_keys-entries before ∙ ap firsts so_far ∙ keys_named old (take i names) value in
-      let absent : list_any (same_text key.items) (text_keys before) ≡ false =
-      ap (λ k. list_any (same_text k) (text_keys before)) is ∙ ap (list_any (same_text name)) keys ∙ distinct_front (text_keys old ++ take i names) name (drop (i + 1) names) apart in
-      ap as_texts step
-      ∙ inserted before.entries key value absent
-      ∙ ap (λ l. l ++ (key.items, value) ∷ []) so_far
-      ∙ append_assoc (text_entries old) (map (λ name. (name, value)) (take i names)) ((key.items, value) ∷ [])
-      ∙ ap (λ l. text_entries old ++ l)
-      (ap (λ k. map (λ name. (name, value)) (take i names) ++ (k, value) ∷ []) is
-      ∙ sym (map-append (λ (name : List ℕ). (name, value)) (take i names) (name ∷ []))
-      ∙ ap (with_value value) (sym ((take_at_read names i d within).1)))
+  -- one of the names goes into the table, and the rest are left
+  pub named-more : (before after : IndexMap (Vec ℕ A) V S) (value : V) (key : Vec ℕ A) (names rest : List (List ℕ)) → names ≡ key.items ∷ rest
+      → after.entries ≡ insert_entry key_eq before.entries key value → IsDistinct same_text (text_keys before ++ names)
+      → IsDistinct same_text (text_keys after ++ rest) × (text_entries after ++ with_value value rest ≡ text_entries before ++ with_value value names)
+  named-more before after value key names rest is step distinct =
+      let apart : IsDistinct same_text (text_keys before ++ key.items ∷ rest) = subst (λ l. IsDistinct same_text (text_keys before ++ l)) is distinct in
+      let grown : text_entries after ≡ text_entries before ++ (key.items, value) ∷ [] =
+      ap as_texts step ∙ inserted before.entries key value (distinct_front (text_keys before) key.items rest apart) in
+      let keys : text_keys after ≡ text_keys before ++ key.items ∷ [] =
+      text_keys-entries after ∙ ap firsts grown ∙ map-append (λ (e : List ℕ × V). e.0) (text_entries before) ((key.items, value) ∷ []) ∙ ap (λ l. l ++ key.items ∷ []) (sym (text_keys-entries before)) in (
+        subst (IsDistinct same_text) (sym (append_assoc (text_keys before) (key.items ∷ []) rest) ∙ ap (λ l. l ++ rest) (sym keys)) apart,
+        ap (λ l. l ++ with_value value rest) grown
+            ∙ append_assoc (text_entries before) ((key.items, value) ∷ []) (with_value value rest)
+            ∙ ap (λ l. text_entries before ++ with_value value l) (sym is),
+      )
 
   -- a fact of each value stays where the new value has it
   pub All-values-more : (P : V → Type 0) (old new : IndexMap (Vec ℕ A) V S) (names : List (List ℕ)) (value : V) → text_entries new ≡ text_entries old ++ map (λ name. (name, value)) names
@@ -160,22 +149,101 @@ module _ {E X : Type 0} (names : E → List (List ℕ)) (show : E → X) where
         ∙ names_gathered es
 
     -- the names of one more entry
-    pub gathered-more : (old new : IndexMap (Vec ℕ A) V S) (es : List E) (i : ℕ) (d : E) (value : V) → i < length es
-        → shown_as g (text_entries old) ≡ gathered names show (take i es)
-        → text_entries new ≡ text_entries old ++ map (λ name. (name, value)) (names (get_or es i d)) → g value ≡ show (get_or es i d)
-        → shown_as g (text_entries new) ≡ gathered names show (take (i + 1) es)
-    gathered-more old new es i d value within so_far grown shows =
+    pub gathered-more : (old new : IndexMap (Vec ℕ A) V S) (done : List E) (e : E) (value : V) → shown_as g (text_entries old) ≡ gathered names show done
+        → text_entries new ≡ text_entries old ++ with_value value (names e) → g value ≡ show e → shown_as g (text_entries new) ≡ gathered names show (done ++ e ∷ [])
+    gathered-more old new done e value so_far grown shows =
         ap (shown_as g) grown
-        ∙ map-append (λ (e : List ℕ × V). (e.0, g e.1)) (text_entries old) (with_value value (names (get_or es i d)))
-        ∙ ap (λ l. l ++ shown_as g (with_value value (names (get_or es i d)))) so_far
-        ∙ ap (λ l. gathered names show (take i es) ++ l) (map-map (λ (e : List ℕ × V). (e.0, g e.1)) (λ (name : List ℕ). (name, value)) (names (get_or es i d)))
-        ∙ ap (λ x. gathered names show (take i es) ++ with_value x (names (get_or es i d))) shows
-        ∙ sym (flat_map-more (λ e. map (λ name. (name, show e)) (names e)) es i d within)
+        ∙ map-append (λ (p : List ℕ × V). (p.0, g p.1)) (text_entries old) (with_value value (names e))
+        ∙ ap (λ l. l ++ shown_as g (with_value value (names e))) so_far
+        ∙ ap (λ l. gathered names show done ++ l) (map-map (λ (p : List ℕ × V). (p.0, g p.1)) (λ (name : List ℕ). (name, value)) (names e) ∙ ap (λ x. with_value x (names e)) shows)
+        ∙ sym (flat_map-append (λ e. with_value (show e) (names e)) done (e ∷ []) ∙ ap (λ l. gathered names show done ++ l) (append-none (with_value (show e) (names e))))
+
+abbrev pub formulas_of : List Entry → List Expr
+formulas_of es = map (λ e. e.formula) es
 
 -- what stands at the number of an entry
-pub tree_at-map : (es : List Entry) (i : ℕ) (d : Entry) → i < length es → tree_at (map (λ e. e.formula) es) i ≡ tree_of (get_or es i d).formula
-tree_at-map es i d within =
-    ap (λ o. option_map_or tree_of o empty) (slice_get-map (λ (e : Entry). e.formula) es i ∙ ap (option_map (λ (e : Entry). e.formula)) (slice_get-get_or es i d within))
+tree_there : (done : List Entry) (e : Entry) (rest : List Entry) → tree_at (formulas_of (done ++ e ∷ rest)) (length done) ≡ tree_of e.formula
+tree_there done e rest =
+    let within : length done < length (done ++ e ∷ rest) = omega (arith, length-append done (e ∷ rest)) in
+    ap (λ o. option_map_or tree_of o empty)
+    (slice_get-map (λ (e : Entry). e.formula) (done ++ e ∷ rest) (length done)
+    ∙ ap (option_map (λ (e : Entry). e.formula)) (slice_get-get_or (done ++ e ∷ rest) (length done) e within ∙ ap Some (get_or-append_seam done e rest e)))
+
+-- what the first entries come to: each number is that of one of all formulas
+pub record HasGathered {A S : Type 0} (entries done : List Entry) (formulas : List Expr) (words : IndexMap (Vec ℕ A) ℕ S) (macros : IndexMap (Vec ℕ A) Macro S) : Type 0 where
+  pub formulas_are : formulas ≡ formulas_of done
+  pub words_are : with_trees (formulas_of entries) (text_entries words) ≡ words_with_formulas done
+  pub within : All (λ number. number < length (formulas_of entries)) (values words)
+  pub macros_are : with_macros (formulas_of entries) (text_entries macros) ≡ macros_with_formulas done
+  pub fit : All (IsMacro (formulas_of entries)) (values macros)
+
+pub nothing_gathered : {A S : Type 0} (entries : List Entry) (formulas : List Expr) (words : IndexMap (Vec ℕ A) ℕ S) (macros : IndexMap (Vec ℕ A) Macro S)
+    → formulas ≡ [] → words.entries ≡ [] → macros.entries ≡ [] → HasGathered entries [] formulas words macros
+nothing_gathered entries formulas words macros none no_words no_macros = record {
+  formulas_are = none;
+  words_are = ap (λ es. with_trees (formulas_of entries) (as_texts es)) no_words;
+  within = subst (All (λ number. number < length (formulas_of entries))) (sym (ap (map (λ e. e.1)) no_words)) (All-nil _);
+  macros_are = ap (λ es. with_macros (formulas_of entries) (as_texts es)) no_macros;
+  fit = subst (All (IsMacro (formulas_of entries))) (sym (ap (map (λ e. e.1)) no_macros)) (All-nil _);
+}
+
+module _ {A S : Type 0} (done : List Entry) (e : Entry) (rest : List Entry) (formulas : List Expr) (words : IndexMap (Vec ℕ A) ℕ S) (macros : IndexMap (Vec ℕ A) Macro S)
+    (are : AreEntries (done ++ e ∷ rest)) (so_far : HasGathered (done ++ e ∷ rest) done formulas words macros) where
+  abbrev all : List Expr
+  all = formulas_of (done ++ e ∷ rest)
+
+  -- the words of the next entry are not there yet, and neither are its macros
+  pub words_apart : IsDistinct same_text (text_keys words ++ e.words)
+  words_apart =
+      subst (λ l. IsDistinct same_text (l ++ e.words)) (sym (text_keys-gathered (λ (e : Entry). e.words) (λ (e : Entry). tree_of e.formula) (tree_at all) words done so_far.words_are))
+      (distinct_upto (λ (e : Entry). e.words) done e rest are.words)
+
+  pub macros_apart : IsDistinct same_text (text_keys macros ++ e.macros)
+  macros_apart =
+      subst (λ l. IsDistinct same_text (l ++ e.macros))
+      (sym (text_keys-gathered (λ (e : Entry). e.macros) (λ (e : Entry). (tree_of e.formula, e.level)) (macro_at all) macros done so_far.macros_are))
+      (distinct_upto (λ (e : Entry). e.macros) done e rest are.macros)
+
+  number_is : length formulas ≡ length done
+  number_is = ap length so_far.formulas_are ∙ length-map done (λ (e : Entry). e.formula)
+
+  -- one entry more, by its number
+  pub entry-more : (more : List Expr) (words_then : IndexMap (Vec ℕ A) ℕ S) (macros_then : IndexMap (Vec ℕ A) Macro S) (number : ℕ) → number ≡ length formulas → more ≡ formulas ++ e.formula ∷ []
+      → text_entries words_then ≡ text_entries words ++ map (λ name. (name, number)) e.words
+      → text_entries macros_then ≡ text_entries macros ++ map (λ name. (name, record { formula = number; level = e.level })) e.macros
+      → prices_are_small (tree_of e.formula) ≡ true → HasGathered (done ++ e ∷ rest) (done ++ e ∷ []) more words_then macros_then
+  entry-more more words_then macros_then number is pushed words_grown macros_grown small =
+      let found : Macro = record { formula = number; level = e.level } in
+      let within : number < length all = omega (arith, is, number_is, length-map (done ++ e ∷ rest) (λ (e : Entry). e.formula), length-append done (e ∷ rest)) in
+      let tree : tree_at all number ≡ tree_of e.formula = ap (tree_at all) (is ∙ number_is) ∙ tree_there done e rest in
+      let level : LevelFits e.level (tree_of e.formula) =
+      subst (λ x. LevelFits x.level (tree_of x.formula)) (get_or-append_seam done e rest e) (are.levels (length done) e (omega (arith, length-append done (e ∷ rest)))) in
+      let fits : Fits e.level (tree_at all number) = subst (Fits e.level) (sym tree) (record { level_fits = level; prices = small }) in
+      record {
+        formulas_are = pushed ∙ ap (λ l. l ++ e.formula ∷ []) so_far.formulas_are ∙ sym (map-append (λ (e : Entry). e.formula) done (e ∷ []));
+        words_are = gathered-more (λ (e : Entry). e.words) (λ (e : Entry). tree_of e.formula) (tree_at all) words words_then done e number so_far.words_are words_grown tree;
+        within = All-values-more (λ number. number < length all) words words_then e.words number words_grown within so_far.within;
+        macros_are = gathered-more (λ (e : Entry). e.macros) (λ (e : Entry). (tree_of e.formula, e.level)) (macro_at all) macros macros_then done e found so_far.macros_are macros_grown (λ j. (tree j, e.level));
+        fit = All-values-more (IsMacro all) macros macros_then e.macros found macros_grown (record { within = within; fits = fits }) so_far.fit;
+      }
+
+pub none_left : {X : Type 0} (xs : List X) → length xs ≡ 0 → xs ≡ []
+none_left [] none = refl
+none_left (x ∷ xs) none = absurd (omega (arith, none))
+
+-- once no entry is left
+pub all_gathered : {A S : Type 0} (entries done rest : List Entry) (formulas : List Expr) (words : IndexMap (Vec ℕ A) ℕ S) (macros : IndexMap (Vec ℕ A) Macro S) → entries ≡ done ++ rest → rest ≡ []
+    → HasGathered entries done formulas words macros → AreGathered entries formulas words macros
+all_gathered entries done rest formulas words macros are none has =
+    let all : done ≡ entries = sym (append-none done) ∙ ap (λ l. done ++ l) (sym none) ∙ sym are in
+    let same : formulas ≡ formulas_of entries = has.formulas_are ∙ ap formulas_of all in
+    record {
+      formulas_are = same;
+      words_are = ap (λ fs. with_trees fs (text_entries words)) same ∙ has.words_are ∙ ap words_with_formulas all;
+      within = subst (λ (fs : List Expr). All (λ number. number < length fs) (values words)) (sym same) has.within;
+      macros_are = ap (λ fs. with_macros fs (text_entries macros)) same ∙ has.macros_are ∙ ap macros_with_formulas all;
+      fit = subst (λ (fs : List Expr). All (IsMacro fs) (values macros)) (sym same) has.fit;
+    }
 
 -- the keys that an iterator showed, as their bytes
 pub keys_read : {A V S : Type 0} (table : IndexMap (Vec ℕ A) V S) (shown : List (Bor (Vec ℕ A))) → map deref shown ≡ keys table → map (λ key. key.now.items) shown ≡ text_keys table

@@ -4,6 +4,7 @@ pub mod Dictionary
 pub mod Lengths
 pub mod Stored
 pub mod Tables
+pub mod Gathered
 pub mod Layout
 pub mod Changed
 pub mod Viewed

@@ -13,7 +13,7 @@ ghost use Rattle.lg_dict.specs.declared.tables.By.TheVariants.{Stem, First};
 use crate::lengths::Lengths;
 use crate::salted::Salted;
 use crate::tables::{
-    By, Macro, Table, lengths_of, list_table, longest_word, macro_table, numbers_under, word_table,
+    By, Gathered, Macro, Table, gather, lengths_of, list_table, longest_word, numbers_under,
 };
 use lg_base::NoMemory;
 use lg_gram::{Entry, Formula};
@@ -59,9 +59,11 @@ impl Dict {
         ensures { IfOk result (λ dict. dict ≡ dictionary_of entries.items) }
     {
         let salted = Salted::by(entries.as_slice());
-        let words = word_table(alloc, salted, &entries)?;
-        let macros = macro_table(alloc, salted, &entries)?;
-        let formulas = formulas_of(alloc, entries)?;
+        let Gathered {
+            formulas,
+            words,
+            macros,
+        } = gather(alloc, salted, entries)?;
         let stems = list_table(alloc, By::Stem, &words)?;
         let firsts = list_table(alloc, By::First, &words)?;
         let longest = longest_word(&words);
@@ -150,14 +152,4 @@ impl Dict {
     {
         (&self.words, numbers_under(&self.firsts, first))
     }
-}
-
-fn formulas_of(alloc: Global, entries: Vec<Entry>) -> Result<Vec<Formula>, NoMemory>
-    ensures { IfOk result (λ formulas. formulas.items ≡ map (λ e. e.formula) entries.items) }
-{
-    let formulas = entries
-        .into_iter()
-        .map(|entry| entry.formula)
-        .collect(alloc)?;
-    Ok(formulas)
 }

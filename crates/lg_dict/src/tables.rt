@@ -2,18 +2,18 @@
 ghost use Rattle.std.specs.Prelude.{◌≡◌, ◌≢◌, ◌<◌, ◌≤◌, ◌++◌, [], ◌∷◌, ℕ, List, map, length, All, AllPairs, Contains, IsSome, IfOk, OnOk, OnErr, nat_eq, if◌then◌else◌};
 ghost use Rattle.std.specs.List.{IsDistinct};
 ghost use Rattle.std.specs.Option.{option_map};
-ghost use Rattle.indexmap.specs.IndexMap.{values};
-ghost use Rattle.lg_dict.specs.Dictionary.{words_in, macros_in, words_with_formulas, macros_with_formulas, AreEntries, IsLongest};
+ghost use Rattle.lg_dict.specs.Dictionary.{AreEntries, IsLongest};
+ghost use Rattle.lg_dict.specs.Gathered.{AreGathered};
 ghost use Rattle.lg_dict.specs.Lengths.{HasLengths};
-ghost use Rattle.lg_dict.specs.Tables.{text_entries, text_keys, text_at, at_text, numbers_at, texts_at, Lists, same_text, other_stem, key_of, is_under, with_trees, with_macros, IsMacro};
+ghost use Rattle.lg_dict.specs.Tables.{text_entries, text_keys, text_at, at_text, numbers_at, texts_at, Lists, same_text, other_stem, key_of, is_under};
 
 use crate::compound::compound_first;
 use crate::lengths::Lengths;
 use crate::salted::Salted;
 use crate::subscript::stem;
 use indexmap::IndexMap;
-use lg_base::{NoMemory, Text, copied};
-use lg_gram::Entry;
+use lg_base::{NoMemory, Text, Texts, copied};
+use lg_gram::{Entry, Formula};
 use std::alloc::Global;
 
 /// A table whose keys are words from outside.
@@ -35,59 +35,50 @@ pub struct Macro {
     pub level: u32,
 }
 
-/// The number of its entry for each word.
-pub(crate) fn word_table(
-    alloc: Global,
-    salted: Salted,
-    entries: &[Entry],
-) -> Result<Table<usize>, NoMemory>
-    requires { AreEntries entries.now }
-    ensures kept { IfOk result (λ table. with_trees (map (λ e. e.formula) entries.now) (text_entries table) ≡ words_with_formulas entries.now) }
-    ensures within { IfOk result (λ table. All (λ number. number < length entries.now) (values table)) }
-{
-    let mut table = IndexMap::with_capacity_and_hasher(alloc, entries.len(), salted)?;
-    for (number, entry) in entries.iter().enumerate() {
-        add_names(alloc, &mut table, entry.words.items(), number)?;
-    }
-    Ok(table)
+/// What entries come to: their formulas, and tables of the numbers of these.
+pub(crate) struct Gathered {
+    pub(crate) formulas: Vec<Formula>,
+    pub(crate) words: Table<usize>,
+    pub(crate) macros: Table<Macro>,
 }
 
-/// The number of its entry, and the entry's level, for each macro.
-pub(crate) fn macro_table(
+/// Takes entries apart: each word and each macro gets the number of its entry. The names move into the tables, and none is copied.
+pub(crate) fn gather(
     alloc: Global,
     salted: Salted,
-    entries: &[Entry],
-) -> Result<Table<Macro>, NoMemory>
-    requires { AreEntries entries.now }
-    ensures kept { IfOk result (λ table. with_macros (map (λ e. e.formula) entries.now) (text_entries table) ≡ macros_with_formulas entries.now) }
-    ensures fit { IfOk result (λ table. All (IsMacro (map (λ e. e.formula) entries.now)) (values table)) }
+    entries: Vec<Entry>,
+) -> Result<Gathered, NoMemory>
+    requires { AreEntries entries.items }
+    ensures { IfOk result (λ g. AreGathered entries.items g.formulas.items g.words g.macros) }
 {
-    let mut table = IndexMap::with_hasher(alloc, salted);
-    for (number, entry) in entries.iter().enumerate() {
+    let mut formulas = Vec::with_capacity(alloc, entries.len())?;
+    let mut words = IndexMap::with_capacity_and_hasher(alloc, entries.len(), salted)?;
+    let mut macros = IndexMap::with_hasher(alloc, salted);
+    for entry in entries {
         // the call tells that the formula is within the limits
         let _expr = entry.formula.expr();
         let found = Macro {
-            formula: number,
+            formula: formulas.len(),
             level: entry.level,
         };
-        add_names(alloc, &mut table, entry.macros.items(), found)?;
+        add_names(&mut words, entry.words, found.formula)?;
+        add_names(&mut macros, entry.macros, found)?;
+        formulas.push(entry.formula)?;
     }
-    Ok(table)
+    Ok(Gathered {
+        formulas,
+        words,
+        macros,
+    })
 }
 
 // Gives each name the value. None of the names is there yet.
-fn add_names<V: Copy>(
-    alloc: Global,
-    table: &mut Table<V>,
-    names: &[Text],
-    value: V,
-) -> Result<(), NoMemory>
-    requires { IsDistinct same_text (text_keys table.old ++ names.now) }
-    ensures { OnOk result (text_entries table.new ≡ text_entries table.old ++ map (λ name. (name, value)) names.now) }
+fn add_names<V: Copy>(table: &mut Table<V>, names: Texts, value: V) -> Result<(), NoMemory>
+    requires { IsDistinct same_text (text_keys table.old ++ names) }
+    ensures { OnOk result (text_entries table.new ≡ text_entries table.old ++ map (λ name. (name, value)) names) }
 {
-    for name in names {
-        let key = copied(alloc, name.bytes())?;
-        table.insert(key, value)?;
+    for name in names.into_items() {
+        table.insert(name.into_bytes(), value)?;
     }
     Ok(())
 }
