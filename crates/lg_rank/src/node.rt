@@ -170,8 +170,8 @@ pub fn candidate<'a>(nothing: &'a Part, nodes: &'a [Node], k: usize, row: Row) -
     requires table { IsTable (value_of nothing.now) nodes.now }
     requires holds { Holds (value_of nothing.now) nodes.now k row }
     ensures value { made_by result ≡ value_at (value_of nothing.now) nodes.now k row }
-    ensures sound { IsCandidate (length nothing.now.choices.items) result }
-    ensures positions { positions_of result ≡ length nothing.now.choices.items }
+    ensures sound { IsCandidate (length (value_of nothing.now).choices) result }
+    ensures positions { positions_of result ≡ length (value_of nothing.now).choices }
 {
     let way = way_of(nothing, nodes, k, row.way);
     let left = part_of(nothing, nodes, way.left, row.next);
