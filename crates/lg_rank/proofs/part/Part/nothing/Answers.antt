@@ -1,6 +1,5 @@
-use Rattle.std.proofs.Common.{ℕ, ap, pos, ◌≡◌, ◌∙◌, []}
+use Rattle.std.proofs.Common.{ap, pos, ◌∙◌}
 use Rattle.lg_rank.specs.Trees.{choices_from, links_of}
-use Rattle.lg_rank.specs.Values.{Value}
 use Rattle.lg_rank.specs.declared.tree.Tree.{Tree}
 use Rattle.lg_rank.proofs.Spelling.{zeros}
 use Rattle.lg_rank.proofs.part.Part.nothing.Goals as goal
