@@ -1,5 +1,5 @@
 -- What a dictionary has with changes laid over it.
-use Rattle.std.proofs.Common.{◌≡◌, ◌⊎◌, inl, inr, ◌↔◌, ℕ, ◌+◌, ◌<◌, ◌≤◌, List, [], ◌∷◌, ◌++◌, Bool, true, false, cond, ◌||◌, if◌then◌else◌, map, length, nat_eq, is_some, Option, Some, None, IsSome, IfSome, Vec, Contains, All, refl, sym, ap, subst, ◌∙◌, true≢false, arith}
+use Rattle.std.proofs.Common.{◌≡◌, ◌⊎◌, inl, inr, ◌↔◌, ℕ, ◌≤◌, List, [], ◌∷◌, Bool, true, false, cond, ◌||◌, if◌then◌else◌, map, length, nat_eq, is_some, Option, Some, None, IsSome, IfSome, Vec, Contains, All, refl, sym, ap, subst, ◌∙◌, true≢false, arith}
 use lib.Pointwise.{pointwise}
 use mathlib.Core.Logic.{⊎_elim}
 use Rattle.std.proofs.lemmas.Bool.{cases_Bool}
@@ -25,7 +25,7 @@ use Rattle.lg_dict.specs.declared.tables.By.{By}
 use Rattle.lg_dict.specs.declared.tables.By.TheVariants.{Stem, First}
 use Rattle.indexmap.specs.IndexMap.{IndexMap}
 use Rattle.lg_dict.proofs.Lookups.{under_itself, not_own_stem, stem_under}
-use Rattle.lg_dict.proofs.Words.{text_is, text_is_itself, Contains-among}
+use Rattle.lg_dict.proofs.Words.{text_is, Contains-among}
 
 -- ---- one key
 

@@ -1,12 +1,12 @@
 -- Where the parts of a word are cut.
-use Rattle.std.proofs.Common.{◌≡◌, ◌≢◌, ℕ, ◌+◌, ◌<◌, List, [], ◌∷◌, ◌++◌, Bool, true, false, ◌&&◌, cond, if◌then◌else◌, length, take, drop, get_or, slice_get, Option, Some, None, All, refl, sym, ap, subst, ◌∙◌, ◌==◌, arith, take-append-drop}
+use Rattle.std.proofs.Common.{◌≡◌, ◌≢◌, ℕ, ◌+◌, ◌<◌, List, [], ◌∷◌, ◌++◌, Bool, true, false, ◌&&◌, cond, if◌then◌else◌, length, take, drop, get_or, slice_get, Option, Some, None, All, refl, sym, ap, ◌∙◌, take-append-drop}
 use borrow.Author.Tests.{eqb-true}
 use Rattle.std.proofs.Math.Bool.{and-false}
 use Rattle.std.proofs.lemmas.List.{drop_more}
 use Rattle.std.proofs.lemmas.List.Splits.{slice_split_none, slice_split_at}
 use Rattle.std.proofs.lemmas.Option.{get_or_from_slice_get, slice_get_within}
 use Rattle.std.specs.List.{list_all, slice_split, onto_first}
-use Rattle.lg_dict.specs.Compounds.{is_underscore, is_filled, parts_of, are_several, is_compound, first_in, compound_first}
+use Rattle.lg_dict.specs.Compounds.{is_underscore, is_filled, parts_of, are_several, first_in, compound_first}
 use Rattle.lg_dict.specs.Subscripts.{stem_of}
 
 -- no byte is an underscore

@@ -1,19 +1,14 @@
 -- The longest word, and that a text longer than it is none.
-use Rattle.std.proofs.Common.{◌≡◌, ◌↔◌, ℕ, ◌<◌, ◌≤◌, List, [], ◌∷◌, ◌++◌, Bool, true, false, if◌then◌else◌, cond, length, take, max, Contains, IsSome, Option, Some, None, inl, inr, true≢false, refl, sym, ap, subst, ◌∙◌, arith}
+use Rattle.std.proofs.Common.{◌≡◌, ◌↔◌, ℕ, ◌<◌, ◌≤◌, List, [], ◌∷◌, ◌++◌, cond, length, max, Contains, IsSome, Option, Some, None, inl, inr, refl, sym, ap, subst, ◌∙◌, arith}
 use mathlib.Core.Logic.{⊎_elim}
 use Rattle.std.proofs.lemmas.Bool.{cases_lt, cases_order}
-use Rattle.std.proofs.lemmas.List.{length-take}
 use Rattle.std.proofs.lemmas.List.Elements.{Contains-append_left, Contains-append_right, Contains-push_cases}
-use Rattle.std.specs.List.{before_last}
-use Rattle.std.specs.List.Sorted.{IsStrictlySortedBy}
 use Rattle.std.specs.declared.cmp.Ordering.TheVariants.{Less, Equal, Greater}
 use Rattle.std.specs.Ordering.{nat_cmp, ord_max, is_lt}
 use Rattle.std.specs.Cmp.{nat_cmp_is}
-use Rattle.std.specs.Cmp.Lexicographic.{slice_cmp}
 use Rattle.std.specs.FinMap.{get}
 use Rattle.lg_gram.specs.Trees.{Tree}
-use Rattle.lg_dict.specs.Dictionary.{Dictionary, IsWordOf, AreWordsOf, IsLongest, IsLongestWord, NoWordIsLonger}
-use Rattle.lg_dict.specs.Subscripts.{is_point, has_subscript}
+use Rattle.lg_dict.specs.Dictionary.{Dictionary, IsLongest, IsLongestWord, NoWordIsLonger}
 use Rattle.lg_dict.specs.Tables.{text_keys}
 use Rattle.lg_dict.specs.Layout.{shown, IsKept}
 use Rattle.lg_dict.specs.declared.dict.Dict.TheInside.{Inside}

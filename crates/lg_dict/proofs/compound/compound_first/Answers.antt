@@ -1,7 +1,6 @@
-use Rattle.std.proofs.Common.{◌≡◌, Some, true, false, take, All, ◌≢◌, slice_get, ap, sym, subst, ◌∙◌}
+use Rattle.std.proofs.Common.{Some, take, slice_get, ap, sym, subst, ◌∙◌}
 use Rattle.std.specs.List.{list_all, slice_split}
 use Rattle.lg_dict.specs.Compounds.{is_underscore, is_filled}
-use Rattle.lg_dict.specs.Subscripts.{stem_of}
 use Rattle.lg_dict.proofs.Compounds.{HasNone, compound_first-at, compound_first-unfilled, compound_first-whole}
 use Rattle.lg_dict.proofs.compound.compound_first.Goals as goal
 use Rattle.lg_dict.proofs.compound.compound_first.Goals.{in_default-via-in-Some+else-are_filled, in_default-via-in_default}

@@ -1,5 +1,4 @@
 use Rattle.std.proofs.Common.{Some, ap, sym, ◌∙◌}
-use Rattle.lg_dict.specs.Subscripts.{stem_of}
 use Rattle.lg_dict.specs.Tables.{same_text}
 use Rattle.lg_dict.proofs.Lookups.{own_stem, not_own_stem}
 use Rattle.lg_dict.proofs.tables.other_stem.Goals as goal

@@ -1,4 +1,4 @@
-use Rattle.std.proofs.Common.{◌≡◌, ◌<◌, ◌++◌, ◌∷◌, [], All, length, get_or, IsSome, Some, refl, sym, ap, subst, ◌∙◌, arith, length-append, option_to_list, cond, if◌then◌else◌, take_all}
+use Rattle.std.proofs.Common.{◌≡◌, ◌<◌, ◌++◌, ◌∷◌, [], All, length, get_or, IsSome, Some, refl, sym, ap, subst, ◌∙◌, arith, length-append, option_to_list, if◌then◌else◌, take_all}
 use Rattle.std.specs.List.{list_any}
 use Rattle.lg_dict.specs.Changed.{word_by, change_at, IsTree}
 use Rattle.lg_dict.specs.Tables.{at_text, same_text}

@@ -1,8 +1,7 @@
-use Rattle.std.proofs.Common.{◌≡◌, ◌+◌, ℕ, List, All, Some, length, take, is_some, if◌then◌else◌}
-use Rattle.std.specs.List.{list_any}
+use Rattle.std.proofs.Common.{◌≡◌, ◌+◌, ℕ, List, All, length, take, is_some}
 use Rattle.lg_gram.specs.Trees.{Tree}
-use Rattle.lg_dict.specs.Changed.{word_by, change_at, IsTree, HasGiven}
-use Rattle.lg_dict.specs.Tables.{at_text, same_text}
+use Rattle.lg_dict.specs.Changed.{IsTree, HasGiven}
+use Rattle.lg_dict.specs.Tables.{at_text}
 use Rattle.lg_dict.proofs.changes.Changes.set_all.Given as goal
 
 abbrev pub invariant-loop-word : goal.invariant-loop-word

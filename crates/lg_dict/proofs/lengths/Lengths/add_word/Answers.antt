@@ -1,4 +1,4 @@
-use Rattle.std.proofs.Common.{◌≡◌, true, length, ap, subst, ◌∙◌}
+use Rattle.std.proofs.Common.{◌≡◌, true, length, subst}
 use Rattle.std.proofs.lemmas.Result.{on_ok_weaker}
 use Rattle.lg_dict.specs.Lengths.{has_length}
 use Rattle.lg_dict.proofs.lengths.Lengths.add_word.Goals as goal

@@ -1,6 +1,5 @@
 use Rattle.std.proofs.Common.{◌≡◌, ◌↔◌, ◌++◌, List, ℕ, map, filter, Bor, Contains, IsSome, true, ap, sym, subst, ◌∙◌}
 use Rattle.std.specs.FinMap.{get}
-use Rattle.lg_dict.specs.Dictionary.{IsCompoundOf}
 use Rattle.lg_dict.specs.Tables.{text_at, text_keys, texts_at, is_under}
 use Rattle.lg_dict.specs.declared.tables.By.TheVariants.{First}
 use Rattle.lg_dict.proofs.Viewed.{is_word, listed_are, compounds_are}
