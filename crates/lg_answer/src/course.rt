@@ -1,5 +1,5 @@
 //! The candidates of a problem one by one, those with fewer unlinked words first.
-ghost use Rattle.std.specs.Prelude.{◌≡◌, ◌+◌, ◌<◌, ◌^◌, ◌||◌, true, List, length, IfOk, OnOk, IfSome};
+ghost use Rattle.std.specs.Prelude.{◌≡◌, ◌+◌, ◌<◌, ◌^◌, ◌||◌, true, List, length, IfOk, OnOk, OnErr, IfSome};
 ghost use Rattle.lg_gram.specs.Linkages.{Linkage as Seen, linkage_cmp};
 ghost use Rattle.lg_gram.specs.Rules.{Good};
 ghost use Rattle.lg_region.specs.Parts.{UnderWhole};
@@ -122,6 +122,7 @@ impl Course {
         requires decided { self.old.decided ≡ true }
         ensures passed { (know : SeenKnowledge) (front : List Seen) → HasCome know self.old front → IfOk result (HasPassed know self.new front) }
         ensures same { OnOk result (IsSameCourse self.old self.new) }
+        ensures unchanged { OnErr result (self.new ≡ self.old) }
     {
         let there = self.pass_of_level(alloc)?;
         Ok(there)
@@ -132,6 +133,7 @@ impl Course {
         requires room { self.old.position < 2 ^ 62 }
         ensures next { (gs : List Seen) → IsFront linkage_cmp (UnderWhole self.old.problem self.old.level) gs → self.old.before + length gs ≡ self.old.position → IfOk result (IsThere (IsNext linkage_cmp (UnderWhole self.old.problem self.old.level) gs)) }
         ensures moved { IfOk result (λ there. self.new ≡ record self.old { position = self.old.position + passed_over there }) }
+        ensures unchanged { OnErr result (self.new ≡ self.old) }
     {
         self.search.pass(alloc)
     }
