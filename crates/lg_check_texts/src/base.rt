@@ -134,6 +134,8 @@ fn values(rt: HostRuntime) -> Result<(), Fail> {
     assert_eq!(rt; steps.count(), 1);
     let text = Text::of(alloc, b"run.v")?;
     assert_eq!(rt; text.bytes(), b"run.v".as_slice());
+    let bytes = Text::of(alloc, b"run.v")?.into_bytes();
+    assert_eq!(rt; bytes.as_slice(), b"run.v".as_slice());
     let texts = Texts::of(vec![in alloc; text]?);
     assert_eq!(rt; texts.items().len(), 1);
     assert_eq!(rt; texts.into_items().len(), 1);
