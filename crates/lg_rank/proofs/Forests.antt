@@ -18,7 +18,7 @@ use Rattle.lg_rank.proofs.Places.{set_here, set_other, set_long, map_set}
 
 makes_has : (z : Value) (forest : List (List Way)) (k : ℕ) (v : Value) → Makes (setting z forest k) (length (ways_of forest k)) v → Has z forest (Some k) v
 makes_has z forest k v m =
-    made (Some k) v k m.alt (way_at forest k m.alt) m.y m.x refl (slice_get-get_or (ways_of forest k) m.alt no_way m.alt_in) m.right m.left m.is
+    made (Some k) v k m.alt (way_at forest k m.alt) m.x m.y refl (slice_get-get_or (ways_of forest k) m.alt no_way m.alt_in) m.left m.right m.is
 
 pub has_makes : (z : Value) (forest : List (List Way)) (o : Option ℕ) (v : Value) (k : ℕ) → Has z forest o v → o ≡ Some k → Makes (setting z forest k) (length (ways_of forest k)) v
 has_makes z forest o v k (nothing p w e i) h = absurd cc
@@ -29,10 +29,10 @@ has_makes z forest o v k (made q w j p a x y e at l r is) h =
     record {
       alt = p;
       alt_in = slice_get_within (ways_of forest k) p a at';
-      x = y;
-      y = x;
-      left = subst (λ (b : Way). Has z forest b.right y) a_is r;
-      right = subst (λ (b : Way). Has z forest b.left x) a_is l;
+      x = x;
+      y = y;
+      left = subst (λ (b : Way). Has z forest b.left x) a_is l;
+      right = subst (λ (b : Way). Has z forest b.right y) a_is r;
       is = is ∙ ap (λ (b : Way). combine b x y) a_is;
     }
 
@@ -65,8 +65,8 @@ pub parts_front : (z : Value) (nodes : List Node) → IsTable z nodes → (o : O
 parts_front z nodes table None = one_front z (forest_of nodes)
 parts_front z nodes table (Some j) = front_in z nodes j (slice_get nodes j) table refl
 
-pub parts_are : (z : Value) (nodes : List Node) → IsTable z nodes → (k n : ℕ) → PartsAre (setting z (forest_of nodes) k) n (λ p. parts z nodes (way_at (forest_of nodes) k p).right) (λ p. parts z nodes (way_at (forest_of nodes) k p).left)
-parts_are z nodes table k n = record { left = λ p less. parts_front z nodes table (way_at (forest_of nodes) k p).right; right = λ p less. parts_front z nodes table (way_at (forest_of nodes) k p).left }
+pub parts_are : (z : Value) (nodes : List Node) → IsTable z nodes → (k n : ℕ) → PartsAre (setting z (forest_of nodes) k) n (λ p. parts z nodes (way_at (forest_of nodes) k p).left) (λ p. parts z nodes (way_at (forest_of nodes) k p).right)
+parts_are z nodes table k n = record { left = λ p less. parts_front z nodes table (way_at (forest_of nodes) k p).left; right = λ p less. parts_front z nodes table (way_at (forest_of nodes) k p).right }
 
 -- ---- one node that changes
 pub same_node : (nodes : List Node) (k : ℕ) (node new : Node) → slice_get nodes k ≡ Some node → new.ways.items ≡ node.ways.items → forest_of (set nodes k new) ≡ forest_of nodes
@@ -90,8 +90,8 @@ more_parts z old new more (Some j) = more j
 
 pub rows_more : (z : Value) (forest : List (List Way)) (lists lists' : Option ℕ → List Value) (k n : ℕ) (taken : List Value) (rows : List Row) → ((o : Option ℕ) → Extends (lists o) (lists' o)) → RowsOf z forest lists k n taken rows → RowsOf z forest lists' k n taken rows
 rows_more z forest lists lists' k n taken rows more h =
-    merged_placed (setting z forest k) place_of n (λ p. lists (way_at forest k p).right) (λ p. lists (way_at forest k p).left) (λ p. lists' (way_at forest k p).right) (λ p. lists' (way_at forest k p).left) taken z rows
-    (λ p less. more (way_at forest k p).right) (λ p less. more (way_at forest k p).left) h
+    merged_placed (setting z forest k) place_of n (λ p. lists (way_at forest k p).left) (λ p. lists (way_at forest k p).right) (λ p. lists' (way_at forest k p).left) (λ p. lists' (way_at forest k p).right) taken z rows
+    (λ p less. more (way_at forest k p).left) (λ p less. more (way_at forest k p).right) h
 
 node_more : (z : Value) (forest : List (List Way)) (lists lists' : Option ℕ → List Value) (k : ℕ) (node : Node) → ((o : Option ℕ) → Extends (lists o) (lists' o)) → IsNode z forest lists k node → IsNode z forest lists' k node
 node_more z forest lists lists' k node more is = record {
@@ -99,8 +99,8 @@ node_more z forest lists lists' k node more is = record {
   idle = is.idle;
   busy = λ e. rows_more z forest lists lists' k (length (ways_of forest k)) (values_of node) node.rows.items more (is.busy e);
   queue = λ e. queue_same (held_in z forest lists k) (held_in z forest lists' k) node.rows.items (heap_items node.queue)
-      (λ j t at. ap (λ q. q.value) (same_seen (setting z forest k) (length (ways_of forest k)) (λ p. lists (way_at forest k p).right) (λ p. lists (way_at forest k p).left) (λ p. lists' (way_at forest k p).right) (λ p. lists' (way_at forest k p).left) (values_of node) z (place_of t)
-      (λ p less. more (way_at forest k p).right) (λ p less. more (way_at forest k p).left) ((is.busy e).each j t at)))
+      (λ j t at. ap (λ q. q.value) (same_seen (setting z forest k) (length (ways_of forest k)) (λ p. lists (way_at forest k p).left) (λ p. lists (way_at forest k p).right) (λ p. lists' (way_at forest k p).left) (λ p. lists' (way_at forest k p).right) (values_of node) z (place_of t)
+      (λ p less. more (way_at forest k p).left) (λ p less. more (way_at forest k p).right) ((is.busy e).each j t at)))
       (is.queue e);
   front = is.front;
 }

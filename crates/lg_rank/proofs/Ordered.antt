@@ -207,13 +207,13 @@ merge_laws : (positions : List (List Disjunct)) (z : Value) (forest : List (List
 merge_laws positions z forest subjects known k = record {
   total = value_total;
   same = λ v w p q e. same_value v w e;
-  grows_left = λ p x u y less hx hu hy lt. (let c = known.is.ways k p less in right_grows positions z forest subjects known k (subjects k) c.0 (way_at forest k p) y x u (known.is.each k (in_forest forest k p less)) c.1 hy hx hu lt);
-  grows_right = λ p x y u less hx hy hu lt. (let c = known.is.ways k p less in left_grows positions z forest subjects known k (subjects k) c.0 (way_at forest k p) y u x (known.is.each k (in_forest forest k p less)) c.1 hy hu hx lt);
+  grows_left = λ p x u y less hx hu hy lt. (let c = known.is.ways k p less in left_grows positions z forest subjects known k (subjects k) c.0 (way_at forest k p) x u y (known.is.each k (in_forest forest k p less)) c.1 hx hu hy lt);
+  grows_right = λ p x y u less hx hy hu lt. (let c = known.is.ways k p less in right_grows positions z forest subjects known k (subjects k) c.0 (way_at forest k p) x y u (known.is.each k (in_forest forest k p less)) c.1 hx hy hu lt);
   one = λ p q x y u v p_in q_in hx hy hu hv e. (
       let c = known.is.ways k p p_in in
       let d = known.is.ways k q q_in in
-      let s = same_way positions z forest subjects known k p q (subjects k) c.0 d.0 y x v u p_in q_in refl (known.is.each k (in_forest forest k p p_in)) c.1 d.1 hy hx hv hu e in
-      (s.way, s.right, s.left));
+      let s = same_way positions z forest subjects known k p q (subjects k) c.0 d.0 x y u v p_in q_in refl (known.is.each k (in_forest forest k p p_in)) c.1 d.1 hx hy hu hv e in
+      (s.way, s.left, s.right));
 }
 
 -- ---- numbers far from the ends of their types

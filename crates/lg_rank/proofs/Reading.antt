@@ -80,15 +80,15 @@ rows_are : (n : List Node) (k : ℕ) (b : IsBegun n k) → rows_at n k ≡ b.nod
 rows_are n k b = ap rows_in b.here
 
 pub row_is : (z : Value) (n : List Node) (k m : ℕ) (r : Row) → IsTable z n → (b : IsBegun n k) → slice_get (rows_at n k) m ≡ Some r
-    → IsRow (setting z (forest_of n) k) (length (ways_of (forest_of n) k)) (λ p. parts z n (way_at (forest_of n) k p).right) (λ p. parts z n (way_at (forest_of n) k p).left) (values_of b.node) (seen z (forest_of n) (parts z n) k r)
+    → IsRow (setting z (forest_of n) k) (length (ways_of (forest_of n) k)) (λ p. parts z n (way_at (forest_of n) k p).left) (λ p. parts z n (way_at (forest_of n) k p).right) (values_of b.node) (seen z (forest_of n) (parts z n) k r)
 row_is z n k m r table b at = ((table k b.node b.here).busy b.begun).each m r ((λ i. slice_get (sym (rows_are n k b) i) m) ∙ at)
 
-pub row_holds : (z : Value) (n : List Node) (k : ℕ) (made : List Value) (r : Row) → IsRow (setting z (forest_of n) k) (length (ways_of (forest_of n) k)) (λ p. parts z n (way_at (forest_of n) k p).right) (λ p. parts z n (way_at (forest_of n) k p).left) made (seen z (forest_of n) (parts z n) k r) → r.live ≡ true → Holds z n k r
+pub row_holds : (z : Value) (n : List Node) (k : ℕ) (made : List Value) (r : Row) → IsRow (setting z (forest_of n) k) (length (ways_of (forest_of n) k)) (λ p. parts z n (way_at (forest_of n) k p).left) (λ p. parts z n (way_at (forest_of n) k p).right) made (seen z (forest_of n) (parts z n) k r) → r.live ≡ true → Holds z n k r
 row_holds z n k made r is live =
     let w = way_at (forest_of n) k r.way in
-    let ahead : Ahead (setting z (forest_of n) k) (parts z n w.right) made r.way r.next is.y (Some (value_at z n k r)) =
-    subst (λ (t : Bool). Ahead (setting z (forest_of n) k) (parts z n w.right) made r.way r.next is.y (held t (value_at z n k r))) live is.ahead in
-    record { way_in = is.alt_in; right = slice_get_within (parts z n w.right) r.next ahead.0 ahead.1; left = slice_get_within (parts z n w.left) r.at is.y is.y_at }
+    let ahead : Ahead (setting z (forest_of n) k) (parts z n w.left) made r.way r.next is.y (Some (value_at z n k r)) =
+    subst (λ (t : Bool). Ahead (setting z (forest_of n) k) (parts z n w.left) made r.way r.next is.y (held t (value_at z n k r))) live is.ahead in
+    record { way_in = is.alt_in; left = slice_get_within (parts z n w.left) r.next ahead.0 ahead.1; right = slice_get_within (parts z n w.right) r.at is.y is.y_at }
 
 pub live_holds : (z : Value) (n : List Node) (k m : ℕ) (r : Row) → IsTable z n → IsBegun n k → slice_get (rows_at n k) m ≡ Some r → r.live ≡ true → Holds z n k r
 live_holds z n k m r table b at live = row_holds z n k (values_of b.node) r (row_is z n k m r table b at) live
@@ -116,8 +116,8 @@ pub held_grown : (z : Value) (g : ℕ) (m n : List Node) (k j : ℕ) (r : Row) �
 held_grown z g m n k j r table b grown at =
     let f = forest_of m in
     let more = more_parts z m n grown.more in
-    let same = same_seen (setting z f k) (length (ways_of f k)) (λ p. parts z m (way_at f k p).right) (λ p. parts z m (way_at f k p).left) (λ p. parts z n (way_at f k p).right) (λ p. parts z n (way_at f k p).left) (values_of b.node) z (place_of r)
-    (λ p less. more (way_at f k p).right) (λ p less. more (way_at f k p).left) (row_is z m k j r table b at) in
+    let same = same_seen (setting z f k) (length (ways_of f k)) (λ p. parts z m (way_at f k p).left) (λ p. parts z m (way_at f k p).right) (λ p. parts z n (way_at f k p).left) (λ p. parts z n (way_at f k p).right) (values_of b.node) z (place_of r)
+    (λ p less. more (way_at f k p).left) (λ p less. more (way_at f k p).right) (row_is z m k j r table b at) in
     ap (λ t. t.value) same ∙ ap (λ (t : List (List Way)). (seen z t (parts z n) k r).value) (sym grown.forest)
 
 -- ---- the value at a place is that of the list

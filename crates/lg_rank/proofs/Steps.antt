@@ -42,21 +42,21 @@ row_made p j i b = record { way = p; at = j; next = i; live = b }
 
 -- ---- a node that begins
 first_row : (z : Value) (n : List Node) (k p : ℕ) (w : Way) (j : ℕ) (b : Row) → w ≡ way_at (forest_of n) k p → IsFirst z n p w j b
-    → Begins (setting z (forest_of n) k) (seen z (forest_of n) (parts z n) k) (parts z n (way_at (forest_of n) k p).right) (parts z n (way_at (forest_of n) k p).left) p j b
+    → Begins (setting z (forest_of n) k) (seen z (forest_of n) (parts z n) k) (parts z n (way_at (forest_of n) k p).left) (parts z n (way_at (forest_of n) k p).right) p j b
 first_row z n k p w j b is f =
-    let inner = parts z n (way_at (forest_of n) k p).right in
-    let outer = parts z n (way_at (forest_of n) k p).left in
+    let ls = parts z n (way_at (forest_of n) k p).left in
+    let rs = parts z n (way_at (forest_of n) k p).right in
     let b_is : b ≡ row_made p j 0 true = λ i. record { way = f.way i; at = f.at i; next = f.next i; live = f.live i } in
-    let inside : 0 < length inner = subst (λ (t : Way). 0 < length (parts z n t.right)) is f.right in
-    let within : j < length outer = subst (λ (t : Way). j < length (parts z n t.left)) is f.left in
-    subst (λ (t : Row). Begins (setting z (forest_of n) k) (seen z (forest_of n) (parts z n) k) inner outer p j t) (sym b_is) (record {
+    let left : 0 < length ls = subst (λ (t : Way). 0 < length (parts z n t.left)) is f.left in
+    let right : j < length rs = subst (λ (t : Way). j < length (parts z n t.right)) is f.right in
+    subst (λ (t : Row). Begins (setting z (forest_of n) k) (seen z (forest_of n) (parts z n) k) ls rs p j t) (sym b_is) (record {
       alt = refl;
       at = refl;
       next = refl;
-      x = get_or inner 0 z;
-      y = get_or outer j z;
-      x_at = slice_get-get_or inner 0 z inside;
-      y_at = slice_get-get_or outer j z within;
+      x = get_or ls 0 z;
+      y = get_or rs j z;
+      x_at = slice_get-get_or ls 0 z left;
+      y_at = slice_get-get_or rs j z right;
       value = refl;
     })
 
@@ -68,16 +68,16 @@ no_value z n o v nth h = (let j = nth v h in omega (arith, j.1))
 rows_begun : (z : Value) (n : List Node) (k p : ℕ) (w : Way) (rows : List Row) (first : Option Row) → w ≡ way_at (forest_of n) k p → RowsOf z (forest_of n) (parts z n) k p [] rows → IsFirstOf z n p w 0 first → RowsOf z (forest_of n) (parts z n) k (suc p) [] (rows ++ row_list first)
 rows_begun z n k p w rows None is h f =
     subst (λ (t : List Row). RowsOf z (forest_of n) (parts z n) k (suc p) [] t) (sym (append_none rows))
-    (merged_passed (setting z (forest_of n) k) (seen z (forest_of n) (parts z n) k) p (λ q. parts z n (way_at (forest_of n) k q).right) (λ q. parts z n (way_at (forest_of n) k q).left) rows h
+    (merged_passed (setting z (forest_of n) k) (seen z (forest_of n) (parts z n) k) p (λ q. parts z n (way_at (forest_of n) k q).left) (λ q. parts z n (way_at (forest_of n) k q).right) rows h
     (elim f [
-      | inl a ↦ inl (λ x hx. no_value z n (way_at (forest_of n) k p).right x (subst (λ (t : Way). IsNth z n t.right 0 false) is a) hx)
-      | inr a ↦ inr (λ y hy. no_value z n (way_at (forest_of n) k p).left y (subst (λ (t : Way). IsNth z n t.left 0 false) is a) hy)
+      | inl a ↦ inl (λ x hx. no_value z n (way_at (forest_of n) k p).left x (subst (λ (t : Way). IsNth z n t.left 0 false) is a) hx)
+      | inr a ↦ inr (λ y hy. no_value z n (way_at (forest_of n) k p).right y (subst (λ (t : Way). IsNth z n t.right 0 false) is a) hy)
     ]))
 rows_begun z n k p w rows (Some b) is h f =
-    merged_begun (setting z (forest_of n) k) (seen z (forest_of n) (parts z n) k) p (λ q. parts z n (way_at (forest_of n) k q).right) (λ q. parts z n (way_at (forest_of n) k q).left) rows b h (first_row z n k p w 0 b is f)
+    merged_begun (setting z (forest_of n) k) (seen z (forest_of n) (parts z n) k) p (λ q. parts z n (way_at (forest_of n) k q).left) (λ q. parts z n (way_at (forest_of n) k q).right) rows b h (first_row z n k p w 0 b is f)
 
 pub begin_none : (z : Value) (n : List Node) (k : ℕ) → RowsOf z (forest_of n) (parts z n) k 0 [] []
-begin_none z n k = merged_none (setting z (forest_of n) k) (seen z (forest_of n) (parts z n) k) (λ q. parts z n (way_at (forest_of n) k q).right) (λ q. parts z n (way_at (forest_of n) k q).left)
+begin_none z n k = merged_none (setting z (forest_of n) k) (seen z (forest_of n) (parts z n) k) (λ q. parts z n (way_at (forest_of n) k q).left) (λ q. parts z n (way_at (forest_of n) k q).right)
 
 pub begin_holds : (z : Value) (n : List Node) (k i : ℕ) (rows : List Row) (d : Row) → RowsOf z (forest_of n) (parts z n) k (length (ways_of (forest_of n) k)) [] rows → i < length rows → (get_or rows i d).live ≡ true → Holds z n k (get_or rows i d)
 begin_holds z n k i rows d all less live = row_holds z n k [] (get_or rows i d) (all.each i (get_or rows i d) (slice_get-get_or rows i d less)) live
@@ -112,7 +112,7 @@ ready_front z n k taken rows (w ∷ rest) forest table all waits =
     let first : IsFirstAt (w ∷ rest) w.place = record { first = w; here = refl; place = refl } in
     let a = first_makes (held_by z n k) rows (w ∷ rest) w.place waits.waits first in
     makes_front z (forest_of n) k (taken ++ value_of w.part ∷ [])
-    (front_more (setting z (forest_of n) k) (seen z (forest_of n) (parts z n) k) size (forest.laws k) (λ p. parts z n (way_at (forest_of n) k p).right) (λ p. parts z n (way_at (forest_of n) k p).left) taken rows all (parts_are z n table k size) w.place a.row (value_of w.part)
+    (front_more (setting z (forest_of n) k) (seen z (forest_of n) (parts z n) k) size (forest.laws k) (λ p. parts z n (way_at (forest_of n) k p).left) (λ p. parts z n (way_at (forest_of n) k p).right) taken rows all (parts_are z n table k size) w.place a.row (value_of w.part)
     (record { here = a.here; live = a.value; least = first_least (held_by z n k) rows (w ∷ rest) w.place (forest.laws k).total waits first }))
 
 -- a node whose parts and queue have not changed
@@ -174,13 +174,13 @@ least_first z n k m total table b f =
     let a = first_makes (held_by z n k) (rows_at n k) (queue_at n k) m q.waits f in
     record { row = a.row; here = a.here; value = value_of f.first.part; live = a.value; least = first_least (held_by z n k) (rows_at n k) (queue_at n k) m total q f }
 
-pub chosen_right : (z : Value) (n slice : List Node) (k : ℕ) (c : Choice) → slice ≡ n → IsTable z n → Chosen z slice k c → c.row.next < length (parts z n c.way.right)
-chosen_right z n slice k c e table h' =
+pub chosen_left : (z : Value) (n slice : List Node) (k : ℕ) (c : Choice) → slice ≡ n → IsTable z n → Chosen z slice k c → c.row.next < length (parts z n c.way.left)
+chosen_left z n slice k c e table h' =
     let h : Chosen z n k c = subst (λ (t : List Node). Chosen z t k c) e h' in
-    subst (λ (w : Way). c.row.next < length (parts z n w.right)) (sym h.way.is) (chosen_least z n k c table h).holds.right
+    subst (λ (w : Way). c.row.next < length (parts z n w.left)) (sym h.way.is) (chosen_least z n k c table h).holds.left
 
-pub chosen_left : (z : Value) (n : List Node) (k : ℕ) (c : Choice) → IsTable z n → Chosen z n k c → c.row.at < length (parts z n c.way.left)
-chosen_left z n k c table h = subst (λ (w : Way). c.row.at < length (parts z n w.left)) (sym h.way.is) (chosen_least z n k c table h).holds.left
+pub chosen_right : (z : Value) (n : List Node) (k : ℕ) (c : Choice) → IsTable z n → Chosen z n k c → c.row.at < length (parts z n c.way.right)
+chosen_right z n k c table h = subst (λ (w : Way). c.row.at < length (parts z n w.right)) (sym h.way.is) (chosen_least z n k c table h).holds.right
 
 least_along : (f g : Row → Option Value) (rows : List Row) (m : ℕ) → ((j : ℕ) (t : Row) → slice_get rows j ≡ Some t → f t ≡ g t) → IsLeastRow f rows m → IsLeastRow g rows m
 least_along f g rows m same b = record { row = b.row; here = b.here; value = b.value; live = sym (same m b.row b.here) ∙ b.live; least = λ k t v p e. b.least k t v p (same k t p ∙ e) }
@@ -201,10 +201,10 @@ nth_grown z b m n o i true g less = (let a = slice_get-get_or (parts z m o) i z 
 nth_grown z b m n o i false g nth = λ x h. (let j = nth x (subst (λ (f : List (List Way)). Has z f o x) g.forest h) in (j.0, j.1, more_parts z m n g.more o j.0 x j.2))
 
 pub goes_on_grown : (z : Value) (b : ℕ) (m n : List Node) (w : Way) (r after : Row) → Grown b m n → GoesOn z m w r after → GoesOn z n w r after
-goes_on_grown z b m n w r after g h = record { way = h.way; at = h.at; next = h.next; live = nth_grown z b m n w.right (suc r.next) after.live g h.live }
+goes_on_grown z b m n w r after g h = record { way = h.way; at = h.at; next = h.next; live = nth_grown z b m n w.left (suc r.next) after.live g h.live }
 
-pub first_made : (z : Value) (b : ℕ) (m n : List Node) (p : ℕ) (w : Way) (j : ℕ) → Grown b m n → IsNth z m w.right 0 true → IsNth z n w.left j true → IsFirst z n p w j (row_made p j 0 true)
-first_made z b m n p w j g right left = record { way = refl; at = refl; next = refl; live = refl; right = nth_grown z b m n w.right 0 true g right; left = left }
+pub first_made : (z : Value) (b : ℕ) (m n : List Node) (p : ℕ) (w : Way) (j : ℕ) → Grown b m n → IsNth z m w.left 0 true → IsNth z n w.right j true → IsFirst z n p w j (row_made p j 0 true)
+first_made z b m n p w j g left right = record { way = refl; at = refl; next = refl; live = refl; left = nth_grown z b m n w.left 0 true g left; right = right }
 
 -- ---- what the rows that go on or begin make
 pub after_holds : (z : Value) (n : List Node) (k : ℕ) (c : Choice) (after : Row) → IsTable z n → Chosen z n k c → GoesOn z n c.way c.row after → after.live ≡ true → Holds z n k after
@@ -214,7 +214,7 @@ after_holds z n k c after table chosen goes' live =
     let goes : GoesOn z n w r after = subst (λ (v : Way). GoesOn z n v r after) chosen.way.is goes' in
     let h = (chosen_least z n k c table chosen).holds in
     let is : row_made r.way r.at (suc r.next) after.live ≡ after = λ i. record { way = sym goes.way i; at = sym goes.at i; next = sym goes.next i; live = after.live } in
-    subst (λ (t : Row). Holds z n k t) is (record { way_in = h.way_in; right = subst (λ (b : Bool). IsNth z n w.right (suc r.next) b) live goes.live; left = h.left })
+    subst (λ (t : Row). Holds z n k t) is (record { way_in = h.way_in; left = subst (λ (b : Bool). IsNth z n w.left (suc r.next) b) live goes.live; right = h.right })
 
 pub first_holds : (z : Value) (n : List Node) (k : ℕ) (c : Choice) (first : Option Row) (b : Row) → IsTable z n → Chosen z n k c → Begin z n c.way c.row first → first ≡ Some b → Holds z n k b
 first_holds z n k c first b table chosen begin' e =
@@ -226,17 +226,17 @@ first_holds z n k c first b table chosen begin' e =
       | inl now ↦
           let f : IsFirst z n r.way w (suc r.at) b = subst (λ (o : Option Row). IsFirstOf z n r.way w (suc r.at) o) e (begin.now now) in
           let is : row_made r.way (suc r.at) 0 b.live ≡ b = λ i. record { way = sym f.way i; at = sym f.at i; next = sym f.next i; live = b.live } in
-          subst (λ (t : Row). Holds z n k t) is (record { way_in = h.way_in; right = f.right; left = f.left })
+          subst (λ (t : Row). Holds z n k t) is (record { way_in = h.way_in; left = f.left; right = f.right })
       | inr later ↦ absurd (let q = begin.later later in let g : ◌≡◌ {A = Option Row} None (Some b) = sym q ∙ e in cc)
     ]
 
 -- ---- the value is taken
-follows : (z : Value) (n : List Node) (k p i : ℕ) (y : Value) (outer : List Value) (j : ℕ) (b : Bool) → slice_get outer j ≡ Some y → IsNth z n (way_at (forest_of n) k p).right i b
-    → Following (setting z (forest_of n) k) (parts z n (way_at (forest_of n) k p).right) p i y (held b (combine (way_at (forest_of n) k p) (get_or outer j z) (get_or (parts z n (way_at (forest_of n) k p).right) i z)))
-follows z n k p i y outer j false at nth = nth
-follows z n k p i y outer j true at less =
-    let inner = parts z n (way_at (forest_of n) k p).right in
-    (get_or inner i z, slice_get-get_or inner i z less, ap (λ (v : Value). combine (way_at (forest_of n) k p) v (get_or inner i z)) (get_or_from_slice_get outer j y z at))
+follows : (z : Value) (n : List Node) (k p i : ℕ) (y : Value) (rs : List Value) (j : ℕ) (b : Bool) → slice_get rs j ≡ Some y → IsNth z n (way_at (forest_of n) k p).left i b
+    → Following (setting z (forest_of n) k) (parts z n (way_at (forest_of n) k p).left) p i y (held b (combine (way_at (forest_of n) k p) (get_or (parts z n (way_at (forest_of n) k p).left) i z) (get_or rs j z)))
+follows z n k p i y rs j false at nth = nth
+follows z n k p i y rs j true at less =
+    let ls = parts z n (way_at (forest_of n) k p).left in
+    (get_or ls i z, slice_get-get_or ls i z less, ap (λ (v : Value). combine (way_at (forest_of n) k p) (get_or ls i z) v) (get_or_from_slice_get rs j y z at))
 
 -- what stands when node k is to make one more value
 pub record Ready (z : Value) (n : List Node) (k : ℕ) (c : Choice) (after : Row) (first : Option Row) : Type 0 where
@@ -247,7 +247,7 @@ pub record Ready (z : Value) (n : List Node) (k : ℕ) (c : Choice) (after : Row
   pub begin : Begin z n c.way c.row first
 
 turn : (z : Value) (n : List Node) (k : ℕ) (c : Choice) (after : Row) (first : Option Row) → (t : Ready z n k c after first) → (rows : List Row) → rows ≡ rows_at n k
-    → Turn (setting z (forest_of n) k) (seen z (forest_of n) (parts z n) k) (λ p. parts z n (way_at (forest_of n) k p).right) (λ p. parts z n (way_at (forest_of n) k p).left) rows c.place c.row (value_at z n k c.row) after first
+    → Turn (setting z (forest_of n) k) (seen z (forest_of n) (parts z n) k) (λ p. parts z n (way_at (forest_of n) k p).left) (λ p. parts z n (way_at (forest_of n) k p).right) rows c.place c.row (value_at z n k c.row) after first
 turn z n k c after first t rows rows_is =
     let r = c.row in
     let w = way_at (forest_of n) k r.way in
@@ -256,9 +256,9 @@ turn z n k c after first t rows rows_is =
     let goes : GoesOn z n w r after = subst (λ (v : Way). GoesOn z n v r after) t.chosen.way.is t.goes_on in
     let begin : Begin z n w r first = subst (λ (v : Way). Begin z n v r first) t.chosen.way.is t.begin in
     let after_is : after ≡ row_made r.way r.at (suc r.next) after.live = λ i. record { way = goes.way i; at = goes.at i; next = goes.next i; live = after.live } in
-    let inner : ℕ → List Value = λ p. parts z n (way_at (forest_of n) k p).right in
-    let outer : ℕ → List Value = λ p. parts z n (way_at (forest_of n) k p).left in
-    let hx = (parts_front z n t.table w.right).sound r.next (get_or (inner r.way) r.next z) (slice_get-get_or (inner r.way) r.next z l.holds.right) in
+    let lefts : ℕ → List Value = λ p. parts z n (way_at (forest_of n) k p).left in
+    let rights : ℕ → List Value = λ p. parts z n (way_at (forest_of n) k p).right in
+    let hx = (parts_front z n t.table w.left).sound r.next (get_or (lefts r.way) r.next z) (slice_get-get_or (lefts r.way) r.next z l.holds.left) in
     record {
       least = record {
         here = (λ i. slice_get (rows_is i) c.place) ∙ t.chosen.row;
@@ -268,25 +268,25 @@ turn z n k c after first t rows rows_is =
       alt = goes.way;
       at = goes.at;
       next = goes.next;
-      value = λ y at. subst (λ (q : Row). Following s (inner r.way) r.way (suc r.next) y (seen z (forest_of n) (parts z n) k q).value) (sym after_is) (follows z n k r.way (suc r.next) y (outer r.way) r.at after.live at goes.live);
+      value = λ y at. subst (λ (q : Row). Following s (lefts r.way) r.way (suc r.next) y (seen z (forest_of n) (parts z n) k q).value) (sym after_is) (follows z n k r.way (suc r.next) y (rights r.way) r.at after.live at goes.live);
       begins = λ b e. begins_of z n k w r first b refl begin e;
-      ends = λ e now y hy. ends_of z n k w r first (get_or (inner r.way) r.next z) begin hx e now y hy;
+      ends = λ e now y hy. ends_of z n k w r first (get_or (lefts r.way) r.next z) begin hx e now y hy;
     }
   where
     begins_of : (z : Value) (n : List Node) (k : ℕ) (w : Way) (r : Row) (first : Option Row) (b : Row) → w ≡ way_at (forest_of n) k r.way → Begin z n w r first → first ≡ Some b
-        → (r.next ≡ 0) × Begins (setting z (forest_of n) k) (seen z (forest_of n) (parts z n) k) (parts z n (way_at (forest_of n) k r.way).right) (parts z n (way_at (forest_of n) k r.way).left) r.way (suc r.at) b
+        → (r.next ≡ 0) × Begins (setting z (forest_of n) k) (seen z (forest_of n) (parts z n) k) (parts z n (way_at (forest_of n) k r.way).left) (parts z n (way_at (forest_of n) k r.way).right) r.way (suc r.at) b
     begins_of z n k w r first b is begin e =
         elim (same_or r.next 0) [
           | inl now ↦ (now, first_row z n k r.way w (suc r.at) b is (subst (λ (o : Option Row). IsFirstOf z n r.way w (suc r.at) o) e (begin.now now)))
           | inr later ↦ absurd (let q = begin.later later in let f : ◌≡◌ {A = Option Row} None (Some b) = sym q ∙ e in cc)
         ]
 
-    ends_of : (z : Value) (n : List Node) (k : ℕ) (w : Way) (r : Row) (first : Option Row) (x : Value) → Begin z n w r first → Has z (forest_of n) w.right x → first ≡ None → r.next ≡ 0
-        → (y : Value) → Has z (forest_of n) w.left y → (j : ℕ) × (j ≤ r.at) × (slice_get (parts z n w.left) j ≡ Some y)
+    ends_of : (z : Value) (n : List Node) (k : ℕ) (w : Way) (r : Row) (first : Option Row) (x : Value) → Begin z n w r first → Has z (forest_of n) w.left x → first ≡ None → r.next ≡ 0
+        → (y : Value) → Has z (forest_of n) w.right y → (j : ℕ) × (j ≤ r.at) × (slice_get (parts z n w.right) j ≡ Some y)
     ends_of z n k w r first x begin hx e now y hy =
         let f : IsFirstOf z n r.way w (suc r.at) None = subst (λ (o : Option Row). IsFirstOf z n r.way w (suc r.at) o) e (begin.now now) in
         elim f [
-          | inl none ↦ absurd (no_value z n w.right x none hx)
+          | inl none ↦ absurd (no_value z n w.left x none hx)
           | inr none ↦ (let j = none y hy in (j.0, (let less = j.1 in omega arith), j.2))
         ]
 
@@ -323,7 +323,7 @@ took z n k c after first again opened node new t here goes opens puts =
     let more : Extends (ready_of node) (ready_of new) = λ i x p. (λ j. slice_get (ready j) i) ∙ append_old (values_of node ++ v ∷ []) (least_part (heap_items new.queue)) i x ((λ j. slice_get (sym before j) i) ∙ p) in
     let waiting : IsQueue (held_by z n k) new.rows.items (heap_items new.queue) = record { heap = puts.queue.heap queue.heap; waits = waits } in
     let next : RowsOf z (forest_of n) (parts z n) k size (values_of node ++ v ∷ []) new.rows.items =
-    merged_more (setting z (forest_of n) k) (seen z (forest_of n) (parts z n) k) size (t.forest.laws k) (λ p. parts z n (way_at (forest_of n) k p).right) (λ p. parts z n (way_at (forest_of n) k p).left) (values_of node) node.rows.items (is.busy begun) (parts_are z n t.table k size)
+    merged_more (setting z (forest_of n) k) (seen z (forest_of n) (parts z n) k) size (t.forest.laws k) (λ p. parts z n (way_at (forest_of n) k p).left) (λ p. parts z n (way_at (forest_of n) k p).right) (values_of node) node.rows.items (is.busy begun) (parts_are z n t.table k size)
     c.place c.row v after first new.rows.items (turn z n k c after first t node.rows.items (sym rows)) puts.rows in
     let new_is : IsNode z (forest_of n) (parts z n) k new = record {
       ways = puts.ways ∙ is.ways;
@@ -362,7 +362,7 @@ pub all_made : (z : Value) (n : List Node) (k : ℕ) → IsForest z (forest_of n
 all_made z n k forest table b empty v h =
     let size = length (ways_of (forest_of n) k) in
     let none : (j : ℕ) (t : Row) → slice_get b.node.rows.items j ≡ Some t → held_by z n k t ≡ None = none_made (held_by z n k) b.node.rows.items (heap_items b.node.queue) (sym (ap queue_in b.here) ∙ empty) ((table k b.node b.here).queue b.begun).waits in
-    let i = finished (setting z (forest_of n) k) (seen z (forest_of n) (parts z n) k) size (forest.laws k) (λ p. parts z n (way_at (forest_of n) k p).right) (λ p. parts z n (way_at (forest_of n) k p).left) (values_of b.node) b.node.rows.items ((table k b.node b.here).busy b.begun) (parts_are z n table k size) none v (has_makes z (forest_of n) (Some k) v k h refl) in
+    let i = finished (setting z (forest_of n) k) (seen z (forest_of n) (parts z n) k) size (forest.laws k) (λ p. parts z n (way_at (forest_of n) k p).left) (λ p. parts z n (way_at (forest_of n) k p).right) (values_of b.node) b.node.rows.items ((table k b.node b.here).busy b.begun) (parts_are z n table k size) none v (has_makes z (forest_of n) (Some k) v k h refl) in
     subst (λ (o : Option Node). IsIn (made_in o) v) (sym b.here) i
 
 -- what was made can be read
@@ -410,12 +410,12 @@ nth_ready z n slice last k i made count e f forest table begun made_is le count_
     nth_last z n k i (nat_lt i count) forest table begun (omega arith) (λ a. let h = lt_yes i count a in omega arith) (λ a. let h = lt_no i count a in omega arith)
 
 -- ---- what the small functions come to
-pub candidate_sound : (z : Value) (n : List Node) (k : ℕ) (r : Row) (w : Way) (x y : Value) → IsForest z (forest_of n) → IsTable z n → Holds z n k r → IsWayOf n k r.way w → slice_get (parts z n w.left) r.at ≡ Some x → slice_get (parts z n w.right) r.next ≡ Some y
+pub candidate_sound : (z : Value) (n : List Node) (k : ℕ) (r : Row) (w : Way) (x y : Value) → IsForest z (forest_of n) → IsTable z n → Holds z n k r → IsWayOf n k r.way w → slice_get (parts z n w.left) r.next ≡ Some x → slice_get (parts z n w.right) r.at ≡ Some y
     → IsSmallWay (length z.choices) w × IsSmall (length z.choices) x × IsSmall (length z.choices) y
 candidate_sound z n k r w x y forest table h way p q = (
   subst (λ (v : Way). IsSmallWay (length z.choices) v) (sym way.is) (forest.small_ways k r.way h.way_in),
-  forest.small w.left x ((parts_front z n table w.left).sound r.at x p),
-  forest.small w.right y ((parts_front z n table w.right).sound r.next y q),
+  forest.small w.left x ((parts_front z n table w.left).sound r.next x p),
+  forest.small w.right y ((parts_front z n table w.right).sound r.at y q),
 )
 
 -- the least row makes something

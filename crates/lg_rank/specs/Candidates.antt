@@ -14,7 +14,7 @@ pub record IsCandidate (n : ℕ) (c : Candidate) : Type 0 where
 
 -- the number of positions
 abbrev pub positions_of : Candidate → ℕ
-positions_of c = length (value_of c.left.now).choices
+positions_of c = length c.left.now.choices.items
 
 abbrev pub IsSound : Candidate → Type 0
 IsSound c = IsCandidate (positions_of c) c

@@ -1,7 +1,6 @@
 pub mod Joins
 pub mod Fronts
 pub mod Merges
-pub mod Trees
 pub mod Values
 pub mod Candidates
 pub mod Nodes

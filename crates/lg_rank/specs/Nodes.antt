@@ -18,14 +18,13 @@ ways_of forest k = slice_index_or forest k []
 abbrev pub way_at : List (List Way) → ℕ → ℕ → Way
 way_at forest k p = slice_index_or (ways_of forest k) p no_way
 
--- The values of a node by rows: a row goes through those of the right part, and there is one for each of the left part.
 abbrev pub setting : Value → List (List Way) → ℕ → Setting
 setting z forest k = record {
   V = Value;
   cmp = value_cmp;
-  HasL = λ p. Has z forest (way_at forest k p).right;
-  HasR = λ p. Has z forest (way_at forest k p).left;
-  combine = λ p x y. combine (way_at forest k p) y x;
+  HasL = λ p. Has z forest (way_at forest k p).left;
+  HasR = λ p. Has z forest (way_at forest k p).right;
+  combine = λ p. combine (way_at forest k p);
 }
 
 -- Parts are lower nodes, no number passes the end of its type, and the values of each node follow the order of their parts, each

@@ -50,11 +50,11 @@ place_of r = record { alt = r.way; at = r.at; next = r.next; live = r.live }
 
 -- a row of node k with the value that its places lead to
 abbrev pub seen : Value → List (List Way) → (Option ℕ → List Value) → ℕ → Row → Seen Value
-seen z forest lists k r = seen_by (setting z forest k) z (λ p. lists (way_at forest k p).right) (λ p. lists (way_at forest k p).left) (place_of r)
+seen z forest lists k r = seen_by (setting z forest k) z (λ p. lists (way_at forest k p).left) (λ p. lists (way_at forest k p).right) (place_of r)
 
 -- the rows of the first n ways of node k
 abbrev pub RowsOf : Value → List (List Way) → (Option ℕ → List Value) → ℕ → ℕ → List Value → List Row → Type 0
-RowsOf z forest lists k n made rows = Merged (setting z forest k) (seen z forest lists k) n (λ p. lists (way_at forest k p).right) (λ p. lists (way_at forest k p).left) made rows
+RowsOf z forest lists k n made rows = Merged (setting z forest k) (seen z forest lists k) n (λ p. lists (way_at forest k p).left) (λ p. lists (way_at forest k p).right) made rows
 
 -- the value that a row of node k makes next, or none where it is spent
 abbrev pub held_in : Value → List (List Way) → (Option ℕ → List Value) → ℕ → Row → Option Value
@@ -106,20 +106,20 @@ pub record GoesOn (z : Value) (nodes : List Node) (w : Way) (r after : Row) : Ty
   pub way : after.way ≡ r.way
   pub at : after.at ≡ r.at
   pub next : after.next ≡ suc r.next
-  pub live : IsNth z nodes w.right (suc r.next) after.live
+  pub live : IsNth z nodes w.left (suc r.next) after.live
 
--- the first row of the left part's value at j
+-- the first row of the right part's value at j
 pub record IsFirst (z : Value) (nodes : List Node) (p : ℕ) (w : Way) (j : ℕ) (b : Row) : Type 0 where
   pub way : b.way ≡ p
   pub at : b.at ≡ j
   pub next : b.next ≡ 0
   pub live : b.live ≡ true
-  pub left : j < length (parts z nodes w.left)
-  pub right : 0 < length (parts z nodes w.right)
+  pub left : 0 < length (parts z nodes w.left)
+  pub right : j < length (parts z nodes w.right)
 
 -- that row, or none where a part has no such value
 abbrev pub IsFirstOf : Value → List Node → ℕ → Way → ℕ → Option Row → Type 0
-IsFirstOf z nodes p w j None = IsNth z nodes w.right 0 false ⊎ IsNth z nodes w.left j false
+IsFirstOf z nodes p w j None = IsNth z nodes w.left 0 false ⊎ IsNth z nodes w.right j false
 IsFirstOf z nodes p w j (Some b) = IsFirst z nodes p w j b
 
 -- the row that begins when r is taken: none where r was begun before
@@ -170,11 +170,11 @@ pub record Chosen (z : Value) (nodes : List Node) (k : ℕ) (c : Choice) : Type 
 -- a row whose places are there, and lead to v
 pub record Holds (z : Value) (nodes : List Node) (k : ℕ) (r : Row) : Type 0 where
   pub way_in : r.way < length (ways_of (forest_of nodes) k)
-  pub left : r.at < length (parts z nodes (way_at (forest_of nodes) k r.way).left)
-  pub right : r.next < length (parts z nodes (way_at (forest_of nodes) k r.way).right)
+  pub left : r.next < length (parts z nodes (way_at (forest_of nodes) k r.way).left)
+  pub right : r.at < length (parts z nodes (way_at (forest_of nodes) k r.way).right)
 
 abbrev pub value_at : Value → List Node → ℕ → Row → Value
-value_at z nodes k r = let w = way_at (forest_of nodes) k r.way in combine w (slice_index_or (parts z nodes w.left) r.at z) (slice_index_or (parts z nodes w.right) r.next z)
+value_at z nodes k r = let w = way_at (forest_of nodes) k r.way in combine w (slice_index_or (parts z nodes w.left) r.next z) (slice_index_or (parts z nodes w.right) r.at z)
 
 -- one more made part, row and waiting row find room
 pub record HasRoom (node : Node) : Type 0 where

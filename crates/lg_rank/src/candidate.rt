@@ -2,14 +2,11 @@
 ghost use Rattle.std.specs.Prelude.{◌≡◌, IfOk};
 ghost use Rattle.lg_rank.specs.Values.{value_of};
 ghost use Rattle.lg_rank.specs.Candidates.{made_by, IsSound};
-ghost use Rattle.lg_rank.specs.Trees.{choices_from, links_of};
 
-use crate::part::{Part, Way};
-use crate::ready::Ready;
-use crate::tree::Tree;
+use crate::part::{Part, Way, push_links};
+use crate::small::SmallLink;
 use lg_base::NoMemory;
 use std::alloc::Global;
-use std::sync::Arc;
 
 /// A way with a part on its left and a part on its right.
 #[derive(Clone, Copy)]
@@ -35,47 +32,40 @@ impl Candidate<'_> {
         self.way.span + (self.left.span + self.right.span)
     }
 
-    // What is linked: the word with the trees of the two parts.
-    fn tree(&self, alloc: Global) -> Result<Arc<Tree>, NoMemory>
+    fn choices(&self, alloc: Global) -> Result<Vec<u32>, NoMemory>
         requires { IsSound self.now }
-        ensures choices { IfOk result (λ tree. choices_from tree.value 0 self.now.left.now.positions ≡ (made_by self.now).choices) }
-        ensures links { IfOk result (λ tree. links_of tree.value ≡ (made_by self.now).links) }
+        ensures { IfOk result (λ choices. choices.items ≡ (made_by self.now).choices) }
     {
-        let left = Arc::try_clone(&self.left.tree)?;
-        let right = Arc::try_clone(&self.right.tree)?;
-        let word = Tree::Word {
-            word: self.way.word,
-            choice: self.way.choice,
-            near: self.way.near,
-            far: self.way.far,
-            left,
-            right,
-        };
-        let tree = Arc::new(alloc, word)?;
-        Ok(tree)
+        let mut choices = Vec::with_capacity(alloc, self.left.choices.len())?;
+        choices.extend_from_slice(&self.left.choices[..self.way.word])?;
+        choices.push(self.way.choice)?;
+        choices.extend_from_slice(&self.right.choices[self.way.word + 1..])?;
+        Ok(choices)
     }
 
-    // The part.
-    fn part(&self, alloc: Global) -> Result<Part, NoMemory>
+    fn links(&self, alloc: Global) -> Result<Vec<SmallLink>, NoMemory>
+        ensures { IfOk result (λ links. links.items ≡ (made_by self.now).links) }
+    {
+        let joints = self.way.near.is_some() as usize + self.way.far.is_some() as usize;
+        let parts = self.left.links.len() + self.right.links.len();
+        let mut links = Vec::with_capacity(alloc, parts.saturating_add(joints))?;
+        push_links(&mut links, self.left.links.as_slice(), self.way.near)?;
+        push_links(&mut links, self.right.links.as_slice(), self.way.far)?;
+        Ok(links)
+    }
+
+    /// The part.
+    pub fn make(&self, alloc: Global) -> Result<Part, NoMemory>
         requires { IsSound self.now }
         ensures { IfOk result (λ part. value_of part ≡ made_by self.now) }
     {
-        let tree = self.tree(alloc)?;
+        let choices = self.choices(alloc)?;
+        let links = self.links(alloc)?;
         Ok(Part {
             cost: self.cost(),
             span: self.span(),
-            positions: self.left.positions,
-            tree,
+            choices,
+            links,
         })
-    }
-
-    /// The part, spelled.
-    pub fn make(&self, alloc: Global) -> Result<Ready, NoMemory>
-        requires { IsSound self.now }
-        ensures { IfOk result (λ ready. value_of ready ≡ made_by self.now) }
-    {
-        let part = self.part(alloc)?;
-        let ready = Ready::of(alloc, part)?;
-        Ok(ready)
     }
 }

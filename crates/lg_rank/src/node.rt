@@ -18,8 +18,8 @@ use lg_base::NoMemory;
 use std::alloc::Global;
 use std::collections::BinaryHeap;
 
-/// The parts that one way makes with one left part, one after another: those with the right parts from `next` on are not taken
-/// yet. The row is live where there is a right part at `next`.
+/// The parts that one way makes with one right part, one after another: those with the left parts from `next` on are not taken
+/// yet. The row is live where there is a left part at `next`.
 #[derive(Clone, Copy, Debug)]
 pub struct Row {
     pub way: usize,
@@ -170,12 +170,12 @@ pub fn candidate<'a>(nothing: &'a Part, nodes: &'a [Node], k: usize, row: Row) -
     requires table { IsTable (value_of nothing.now) nodes.now }
     requires holds { Holds (value_of nothing.now) nodes.now k row }
     ensures value { made_by result ≡ value_at (value_of nothing.now) nodes.now k row }
-    ensures sound { IsCandidate (length (value_of nothing.now).choices) result }
-    ensures positions { positions_of result ≡ length (value_of nothing.now).choices }
+    ensures sound { IsCandidate (length nothing.now.choices.items) result }
+    ensures positions { positions_of result ≡ length nothing.now.choices.items }
 {
     let way = way_of(nothing, nodes, k, row.way);
-    let left = part_of(nothing, nodes, way.left, row.at);
-    let right = part_of(nothing, nodes, way.right, row.next);
+    let left = part_of(nothing, nodes, way.left, row.next);
+    let right = part_of(nothing, nodes, way.right, row.at);
     Candidate { way, left, right }
 }
 

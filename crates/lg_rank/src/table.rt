@@ -79,7 +79,7 @@ impl Table {
         }
     }
 
-    // The first row of the left part's value at `at`, of way `p` of node `k`.
+    // The first row of the right part's value at `at`, of way `p` of node `k`.
     #[cycle(merge)]
     fn first_row(
         &mut self,
@@ -99,10 +99,10 @@ impl Table {
         ensures grown { Grown k self.old.nodes.items self.new.nodes.items }
         ensures value { IfOk result (λ r. IsFirstOf (value_of nothing.now) self.new.nodes.items p way at r) }
     {
-        if !self.part(alloc, nothing, way.right, 0)? {
+        if !self.part(alloc, nothing, way.left, 0)? {
             return Ok(None);
         }
-        if !self.part(alloc, nothing, way.left, at)? {
+        if !self.part(alloc, nothing, way.right, at)? {
             return Ok(None);
         }
         Ok(Some(Row {
@@ -124,16 +124,16 @@ impl Table {
         row: Row,
     ) -> Result<Row, NoMemory>
         requires within { k < length self.old.nodes.items }
-        requires right_below { end_of way.right ≤ k }
-        requires made { row.next < length (parts (value_of nothing.now) self.old.nodes.items way.right) }
+        requires left_below { end_of way.left ≤ k }
+        requires made { row.next < length (parts (value_of nothing.now) self.old.nodes.items way.left) }
         requires forest { IsForest (value_of nothing.now) (forest_of self.old.nodes.items) }
         requires table { IsTable (value_of nothing.now) self.old.nodes.items }
         ensures table { IsTable (value_of nothing.now) self.new.nodes.items }
         ensures grown { Grown k self.old.nodes.items self.new.nodes.items }
         ensures value { IfOk result (λ r. GoesOn (value_of nothing.now) self.new.nodes.items way row r) }
     {
-        let next = next_place(nothing, self.nodes.as_slice(), way.right, row.next);
-        let live = self.part(alloc, nothing, way.right, next)?;
+        let next = next_place(nothing, self.nodes.as_slice(), way.left, row.next);
+        let live = self.part(alloc, nothing, way.left, next)?;
         Ok(Row {
             way: row.way,
             at: row.at,
@@ -200,7 +200,7 @@ impl Table {
         requires within { k < length self.old.nodes.items }
         requires left_below { end_of way.left ≤ k }
         requires right_below { end_of way.right ≤ k }
-        requires made { row.at < length (parts (value_of nothing.now) self.old.nodes.items way.left) }
+        requires made { row.at < length (parts (value_of nothing.now) self.old.nodes.items way.right) }
         requires forest { IsForest (value_of nothing.now) (forest_of self.old.nodes.items) }
         requires table { IsTable (value_of nothing.now) self.old.nodes.items }
         ensures table { IsTable (value_of nothing.now) self.new.nodes.items }
@@ -210,7 +210,7 @@ impl Table {
         if row.next != 0 {
             return Ok(None);
         }
-        let at = next_place(nothing, self.nodes.as_slice(), way.left, row.at);
+        let at = next_place(nothing, self.nodes.as_slice(), way.right, row.at);
         self.first_row(alloc, nothing, k, row.way, way, at)
     }
 }

@@ -64,9 +64,7 @@ pub fn linkage_of(alloc: Global, problem: &Problem, part: &Part) -> Result<Linka
     requires { (g : Seen) × IsPacked problem.now g (value_of part.now) × IsLinkage g × (length g.chosen ≡ length problem.now) }
     ensures { (g : Seen) → IsPacked problem.now g (value_of part.now) → length g.chosen ≡ length problem.now → IfOk result (λ linkage. linkage ≡ g) }
 {
-    let codes = part.choices(alloc)?;
-    let choices = choices_of(alloc, problem, codes.as_slice())?;
-    let small = part.links(alloc)?;
-    let links = links_of(alloc, small.as_slice())?;
+    let choices = choices_of(alloc, problem, part.choices.as_slice())?;
+    let links = links_of(alloc, part.links.as_slice())?;
     Ok(Linkage::of(Chosen::of(choices), Links::of(links)).unwrap())
 }

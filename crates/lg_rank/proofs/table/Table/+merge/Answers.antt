@@ -14,7 +14,7 @@ pub advance-choose-requires-clause-table : goal.advance-choose-requires-clause-t
 advance-choose-requires-clause-table t c = subst (λ (n : List Node). IsTable (value_of c.args.nothing.now) n) (sym c.as_slice.ensures.value) c.requires.table
 
 pub advance-following-requires : goal.advance-following-requires
-advance-following-requires t c = (search rules, (c.requires.within, (c.in-Some.ensures.way.right, (chosen_right (value_of c.args.nothing.now) c.args.self.now.nodes.items c.as_slice.result.now c.args.k c.in-Some.choice c.as_slice.ensures.value c.requires.table c.in-Some.ensures, (c.requires.forest, c.requires.table)))))
+advance-following-requires t c = (search rules, (c.requires.within, (c.in-Some.ensures.way.left, (chosen_left (value_of c.args.nothing.now) c.args.self.now.nodes.items c.as_slice.result.now c.args.k c.in-Some.choice c.as_slice.ensures.value c.requires.table c.in-Some.ensures, (c.requires.forest, c.requires.table)))))
 
 pub advance-returns-in_err-after-clause-begun : goal.advance-returns-in_err-after-clause-begun
 advance-returns-in_err-after-clause-begun t c = begun_more c.args.k c.args.k c.args.self.now.nodes.items c.following.new.self.nodes.items (omega arith) c.following.ensures.grown c.requires.begun
@@ -94,7 +94,7 @@ advance-beginning-requires t c =
           (
             c.in-Some.ensures.way.right,
             (
-              chosen_left (value_of c.args.nothing.now) c.following.new.self.nodes.items c.args.k c.in-Some.choice c.following.ensures.table h,
+              chosen_right (value_of c.args.nothing.now) c.following.new.self.nodes.items c.args.k c.in-Some.choice c.following.ensures.table h,
               (forest_more (value_of c.args.nothing.now) c.args.k c.args.self.now.nodes.items c.following.new.self.nodes.items c.following.ensures.grown c.requires.forest, c.following.ensures.table),
             ),
           ),
@@ -116,5 +116,5 @@ pub first_row-returns-clause-value : goal.first_row-returns-clause-value
 first_row-returns-clause-value t c =
     let z = value_of c.args.nothing.now in
     first_made z _ c.part.new.self.nodes.items c.part-2.new.self.nodes.items c.args.p c.args.way c.args.at c.part-2.ensures.grown
-    (subst (λ (b : Bool). IsNth z c.part.new.self.nodes.items c.args.way.right 0 b) c.if-not-branch.false c.in_ok-part.ensures.value)
-    (subst (λ (b : Bool). IsNth z c.part-2.new.self.nodes.items c.args.way.left c.args.at b) c.if-not-branch-2.false c.in_ok-part-2.ensures.value)
+    (subst (λ (b : Bool). IsNth z c.part.new.self.nodes.items c.args.way.left 0 b) c.if-not-branch.false c.in_ok-part.ensures.value)
+    (subst (λ (b : Bool). IsNth z c.part-2.new.self.nodes.items c.args.way.right c.args.at b) c.if-not-branch-2.false c.in_ok-part-2.ensures.value)
