@@ -10,8 +10,9 @@ const NOTHING: u64 = 1 << 63;
 
 /// SipHash that takes bytes which come one by one as words of eight.
 ///
-/// The hash of a name is made of its length and then of each byte in a call of its own, and such a call of SipHash does more
-/// than this one. At the end what is held is a word too, and tells how many bytes it has: different names make different words.
+/// A name's length is handed over first and then each of its bytes in a call of its own, for which SipHash has much to do. Here
+/// eight of them are held until they are a word. What is held at the end is a word too, which tells how many bytes it has: so
+/// different names are different words.
 #[derive(Clone, Copy)]
 pub struct NameHasher {
     words: DefaultHasher,
@@ -20,7 +21,7 @@ pub struct NameHasher {
 }
 
 impl NameHasher {
-    /// One that reads on where this one is. No memory.
+    /// One that goes on where this one is. No memory.
     pub(crate) fn of(words: DefaultHasher) -> NameHasher
         ensures { result ≡ hashing.reading words }
     {
@@ -30,7 +31,7 @@ impl NameHasher {
         }
     }
 
-    // One byte more. The 1 is lowest but seven bits where seven bytes are held, and the eighth makes a word.
+    // One byte more. Where seven are held, the 1 stands in the lowest byte, and this one makes them a word.
     fn take(&mut self, byte: u8)
         ensures { self.new ≡ hashing.after_byte self.old byte }
     {

@@ -1,10 +1,10 @@
 //! What gives each table of names its hasher.
 
-use crate::name_hasher::NameHasher;
-use std::hash::{BuildHasher, DefaultHasher, Hasher};
-
 ghost use Rattle.std.specs.Prelude.{◌≡◌};
 ghost use Rattle.lg_names.specs.Hashing.{salted_after};
+
+use crate::name_hasher::NameHasher;
+use std::hash::{BuildHasher, DefaultHasher, Hasher};
 
 /// SipHash that has read one number before, the same for each name of a table.
 ///
