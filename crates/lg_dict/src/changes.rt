@@ -11,11 +11,11 @@ ghost use Rattle.lg_dict.specs.Tables.{at_text, same_text};
 
 use crate::dict::Dict;
 use crate::lengths::Lengths;
-use crate::salted::Salted;
 use crate::tables::{By, Table, list_text};
 use indexmap::IndexMap;
 use lg_base::{NoMemory, Text, copied};
 use lg_gram::Formula;
+use lg_names::Salted;
 use std::alloc::Global;
 
 /// What is changed at a word.

@@ -11,12 +11,13 @@ ghost use Rattle.lg_dict.specs.Tables.{text_at, text_keys, is_under};
 ghost use Rattle.lg_dict.specs.declared.tables.By.TheVariants.{Stem, First};
 
 use crate::lengths::Lengths;
-use crate::salted::Salted;
+use crate::salted::salted_by;
 use crate::tables::{
     By, Gathered, Macro, Table, gather, lengths_of, list_table, longest_word, numbers_under,
 };
 use lg_base::NoMemory;
 use lg_gram::{Entry, Formula};
+use lg_names::Salted;
 use std::alloc::Global;
 use std::marker::Model;
 
@@ -58,7 +59,7 @@ impl Dict {
         requires { AreEntries entries.items }
         ensures { IfOk result (λ dict. dict ≡ dictionary_of entries.items) }
     {
-        let salted = Salted::by(entries.as_slice());
+        let salted = salted_by(entries.as_slice());
         let Gathered {
             formulas,
             words,

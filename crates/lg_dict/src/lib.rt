@@ -5,7 +5,7 @@ pub mod changes;
 pub mod compound;
 pub mod dict;
 pub mod lengths;
-pub mod salted;
+mod salted;
 pub mod subscript;
 pub mod tables;
 pub mod view;

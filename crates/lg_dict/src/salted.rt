@@ -2,41 +2,18 @@
 
 use lg_base::Text;
 use lg_gram::Entry;
-use std::hash::{BuildHasher, DefaultHasher, Hasher};
+use lg_names::Salted;
+use std::hash::{DefaultHasher, Hasher};
 
-/// SipHash that has read the hash of all names of a dictionary before.
-///
-/// A table looks at some twenty bits of a hash, so that words of equal bits could be searched for one by one if each word had a
-/// hash of its own. Here a hash depends on all names, and one other name gives each of them another hash; names that changes give
-/// later have no part in it. A dictionary's hashes are the same each time.
-#[derive(Clone, Copy)]
-pub struct Salted {
-    start: DefaultHasher,
-}
-
-impl BuildHasher for Salted {
-    type Hasher = DefaultHasher;
-
-    ghost build_hasher = { λ salted. salted.start };
-
-    fn build_hasher(&self) -> DefaultHasher {
-        self.start
+/// By the words and macros of these entries. One other name gives each name another hash; names that changes give later have no
+/// part in it. No memory.
+pub(crate) fn salted_by(entries: &[Entry]) -> Salted {
+    let mut read = DefaultHasher::new();
+    for entry in entries {
+        read_names(&mut read, entry.words.items());
+        read_names(&mut read, entry.macros.items());
     }
-}
-
-impl Salted {
-    /// By the words and macros of these entries. No memory.
-    pub(crate) fn by(entries: &[Entry]) -> Salted {
-        let mut read = DefaultHasher::new();
-        for entry in entries {
-            read_names(&mut read, entry.words.items());
-            read_names(&mut read, entry.macros.items());
-        }
-        // a hasher that has read one whole word goes on word by word, and one that has read names byte by byte
-        let mut start = DefaultHasher::new();
-        start.write_u64(read.finish());
-        Salted { start }
-    }
+    Salted::after(read.finish())
 }
 
 // Reads names, each with its length.

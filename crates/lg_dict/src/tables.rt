@@ -9,11 +9,11 @@ ghost use Rattle.lg_dict.specs.Tables.{text_entries, text_keys, text_at, at_text
 
 use crate::compound::compound_first;
 use crate::lengths::Lengths;
-use crate::salted::Salted;
 use crate::subscript::stem;
 use indexmap::IndexMap;
 use lg_base::{NoMemory, Text, Texts, copied};
 use lg_gram::{Entry, Formula};
+use lg_names::Salted;
 use std::alloc::Global;
 
 /// A table whose keys are words from outside.

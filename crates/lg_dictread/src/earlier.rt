@@ -15,7 +15,7 @@ ghost use Rattle.lg_dictread.specs.Reading.{entry_formula, formula_at, number_of
 
 use crate::define::{Names, Tables};
 use crate::formula::FormulaRead;
-use crate::salted::Salted;
+use crate::salted::salted_by;
 use crate::table::{Table, add};
 use indexmap::IndexMap;
 use lg_base::{NoMemory, Text, Texts};
@@ -71,7 +71,7 @@ impl Earlier {
         ensures kept { IsKept result }
         ensures entries { result.entries.items ≡ [] }
     {
-        let salted = Salted::by(text);
+        let salted = salted_by(text);
         Earlier {
             tables: Tables {
                 words: IndexMap::with_hasher(alloc, salted),

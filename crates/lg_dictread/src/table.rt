@@ -5,9 +5,9 @@ ghost use Rattle.std.specs.Map.{lookup};
 ghost use Rattle.lg_dictread.specs.Definitions.{same_text};
 ghost use Rattle.lg_dictread.specs.Tables.{text_entries};
 
-use crate::salted::Salted;
 use indexmap::IndexMap;
 use lg_base::{NoMemory, copied};
+use lg_names::Salted;
 use std::alloc::Global;
 
 /// A table of names from outside, in the order in which they were added.
