@@ -1,9 +1,8 @@
 //! Connectors, and which of them may be linked.
-ghost use Rattle.std.specs.Prelude.{◌≡◌, ◌<◌, ◌≤◌, ◌↔◌, ◌++◌, [], false, IsTrue, Some, None, if◌then◌else◌, max, length, take, slice_index_or};
+ghost use Rattle.std.specs.Prelude.{◌≡◌, ◌<◌, ◌≤◌, ◌↔◌, ◌++◌, ◌∷◌, [], false, IsTrue, Some, None, if◌then◌else◌, max, length, take, slice_index_or};
 ghost use Rattle.std.specs.Cmp.Lexicographic.{pointwise};
 ghost use Rattle.std.specs.Cmp.{partial_equiv_from_equiv};
 ghost use Rattle.std.specs.Cmp.Rules.{comparing, hashing};
-ghost use Rattle.std.specs.Hash as fed;
 ghost use Rattle.std.proofs.Common.{rules};
 ghost use Rattle.lg_gram.specs.Names.{is_written, trimmed, IsName, STAR, joint_text, joint_fits};
 ghost use Rattle.lg_gram.specs.Connectors.{Match, Agree, name_of, label_of, connector_cmp, connector_eq, either, merged};
@@ -51,13 +50,12 @@ impl Eq for Connector {
 }
 
 impl Hash for Connector {
-    ghost hash_input = { λ c. fed.bool c.multi ++ fed.bool c.right ++ fed.slice fed.u8 c.caps ++ fed.slice fed.u8 c.subs };
+    // The name alone: few connectors of a sentence differ in the rest.
+    ghost hash_input = { λ c. (c.caps ++ c.subs) ∷ [] };
 
     ghost respects_eq = { Prim.search (hashing, rules) };
 
     fn hash<H: Hasher>(&self, state: &mut H) {
-        self.multi.hash(state);
-        self.right.hash(state);
         self.name.hash(state);
     }
 }

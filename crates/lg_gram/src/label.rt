@@ -1,9 +1,8 @@
 //! Names of connectors and labels of links.
-ghost use Rattle.std.specs.Prelude.{◌≡◌, ◌+◌, ◌-◌, ◌≤◌, ◌++◌, [], List, ℕ, true, length, replicate, Some, None, if◌then◌else◌};
+ghost use Rattle.std.specs.Prelude.{◌≡◌, ◌+◌, ◌-◌, ◌≤◌, ◌++◌, ◌∷◌, [], List, ℕ, true, length, replicate, Some, None, if◌then◌else◌};
 ghost use Rattle.std.specs.List.{list_all, prefix_len};
 ghost use Rattle.std.specs.Cmp.{partial_equiv_from_equiv};
 ghost use Rattle.std.specs.Cmp.Rules.{comparing, hashing};
-ghost use Rattle.std.specs.Hash as fed;
 ghost use Rattle.std.proofs.Common.{rules};
 ghost use Rattle.lg_gram.specs.Names.{is_capital, is_subscript, is_written, trimmed, IsName, joint_text, joint_fits};
 ghost use Rattle.lg_gram.specs.Stored.{HoldsText};
@@ -65,13 +64,13 @@ impl Eq for Label {
 }
 
 impl Hash for Label {
-    ghost hash_input = { λ n. fed.slice fed.u8 n.caps ++ fed.slice fed.u8 n.subs };
+    // All letters at once: one step of a hasher for most names.
+    ghost hash_input = { λ n. (n.caps ++ n.subs) ∷ [] };
 
     ghost respects_eq = { Prim.search (hashing, rules) };
 
     fn hash<H: Hasher>(&self, state: &mut H) {
-        self.caps().hash(state);
-        self.subs().hash(state);
+        state.write(self.letters());
     }
 }
 
