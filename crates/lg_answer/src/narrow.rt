@@ -29,10 +29,7 @@ pub(crate) fn whole(
     added_are_few();
     let words = exprs_in_use(alloc, view, tokens, idioms)?;
     let positions = expanded(alloc, words.items())?;
-    match Problem::of(positions) {
-        Some(problem) => Ok(problem),
-        None => unreachable!(),
-    }
+    Ok(Problem::of_known(positions))
 }
 
 /// A problem of these tokens that has the good linkages of theirs, with idioms or without. The formulas of the words are pruned before
@@ -53,8 +50,5 @@ pub(crate) fn narrowed(
     let words = exprs_in_use(alloc, view, tokens, idioms)?;
     let live = eprune(alloc, words)?;
     let positions = expanded(alloc, live.items())?;
-    match Problem::of(positions) {
-        Some(problem) => Ok(problem),
-        None => unreachable!(),
-    }
+    Ok(Problem::of_known(positions))
 }

@@ -55,6 +55,14 @@ impl Problem {
         }
     }
 
+    /// The problem of these positions, of which it is known that they are one: no list is looked at. No memory.
+    pub fn of_known(positions: Positions) -> Problem
+        requires { IsProblem positions }
+        ensures { result ≡ positions }
+    {
+        Problem { positions }
+    }
+
     /// The positions.
     pub fn positions(&self) -> &[Disjuncts]
         ensures value { result.now ≡ self.now }

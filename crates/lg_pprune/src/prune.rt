@@ -31,5 +31,5 @@ fn alive(alloc: Global, problem: &Problem) -> Result<Problem, NoMemory>
     settle(alloc, words, &lefts, &rights, &mut members)?;
     let rows = rows_of(alloc, words, &members)?;
     rows_are_problems();
-    Ok(Problem::of(rows).unwrap())
+    Ok(Problem::of_known(rows))
 }

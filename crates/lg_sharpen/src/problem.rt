@@ -69,5 +69,5 @@ fn sharper(alloc: Global, problem: &Problem, nulls: u32) -> Result<Problem, NoMe
     settle(alloc, words, most, &lefts, &rights, &mut members)?;
     let rows = rows_of(alloc, words, &members)?;
     rows_are_problems();
-    Ok(Problem::of(rows).unwrap())
+    Ok(Problem::of_known(rows))
 }

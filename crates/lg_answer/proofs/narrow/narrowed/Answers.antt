@@ -13,18 +13,18 @@ expanded-requires c =
     (narrowed_apart c.in_ok-words.words c.in_ok-live.live c.in_ok-live.ensures
     (in_use_apart c.expressions_have_disjuncts.ensures c.args.view.now c.args.tokens.now c.requires.listed c.args.idioms c.in_ok-words.words c.in_ok-words.ensures))
 
-pub unreachable-requires : goal.unreachable-requires
-unreachable-requires c =
+pub of_known-requires : goal.of_known-requires
+of_known-requires c =
     let words = c.in_ok-words.words in
     let live = c.in_ok-live.live in
     let positions = c.in_ok-positions.positions in
     let made = subst (λ ws. AllZip AreMade ws positions) c.items.ensures c.in_ok-positions.ensures in
-    c.in-None.ensures (made_problem c.choices_are_counted.ensures c.added_are_few.ensures c.args.idioms c.args.view.now c.args.tokens.now words live positions c.requires.listed c.in_ok-words.ensures
-    c.in_ok-live.ensures.same_length (narrowed_of words live c.in_ok-live.ensures) made)
+    made_problem c.choices_are_counted.ensures c.added_are_few.ensures c.args.idioms c.args.view.now c.args.tokens.now words live positions c.requires.listed c.in_ok-words.ensures
+    c.in_ok-live.ensures.same_length (narrowed_of words live c.in_ok-live.ensures) made
 
 pub returns : goal.returns
 returns c =
     let positions = c.in_ok-positions.positions in
     let made = subst (λ ws. AllZip AreMade ws positions) c.items.ensures c.in_ok-positions.ensures in
-    rw c.in-Some.ensures.0 (narrowed_problem c.expressions_have_disjuncts.ensures c.args.view.now c.args.tokens.now c.requires.listed c.args.idioms c.in_ok-words.words c.in_ok-words.ensures
+    rw c.of_known.ensures (narrowed_problem c.expressions_have_disjuncts.ensures c.args.view.now c.args.tokens.now c.requires.listed c.args.idioms c.in_ok-words.words c.in_ok-words.ensures
     c.linkages_are_live.ensures c.in_ok-live.live c.in_ok-live.ensures positions made)

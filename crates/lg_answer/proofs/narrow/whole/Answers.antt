@@ -12,18 +12,18 @@ expanded-requires c =
     subst (All AreApart) (sym c.items.ensures)
     (all_apart c.expressions_have_disjuncts.ensures c.args.view.now c.args.tokens.now c.requires.listed c.args.idioms c.in_ok-words.words c.in_ok-words.ensures)
 
-pub unreachable-requires : goal.unreachable-requires
-unreachable-requires c =
+pub of_known-requires : goal.of_known-requires
+of_known-requires c =
     let words = c.in_ok-words.words in
     let positions = c.in_ok-positions.positions in
     let made = subst (λ ws. AllZip AreMade ws positions) c.items.ensures c.in_ok-positions.ensures in
-    c.in-None.ensures (made_problem c.choices_are_counted.ensures c.added_are_few.ensures c.args.idioms c.args.view.now c.args.tokens.now words words positions c.requires.listed c.in_ok-words.ensures
-    refl (λ i d of. of) made)
+    made_problem c.choices_are_counted.ensures c.added_are_few.ensures c.args.idioms c.args.view.now c.args.tokens.now words words positions c.requires.listed c.in_ok-words.ensures
+    refl (λ i d of. of) made
 
 pub returns : goal.returns
 returns c =
     let words = c.in_ok-words.words in
     let positions = c.in_ok-positions.positions in
     let made = subst (λ ws. AllZip AreMade ws positions) c.items.ensures c.in_ok-positions.ensures in
-    rw c.in-Some.ensures.0 (have_problem c.expressions_have_disjuncts.ensures c.args.view.now c.args.tokens.now c.requires.listed c.args.idioms words c.in_ok-words.ensures positions
+    rw c.of_known.ensures (have_problem c.expressions_have_disjuncts.ensures c.args.view.now c.args.tokens.now c.requires.listed c.args.idioms words c.in_ok-words.ensures positions
     (are_expanded words positions made))

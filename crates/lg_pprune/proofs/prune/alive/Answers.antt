@@ -1,22 +1,19 @@
 use Rattle.std.proofs.Common.{sym, subst}
-use Rattle.std.proofs.lemmas.Bool.{some_since}
-use Rattle.std.proofs.lemmas.Option.{MatchOption-at_some}
 use Rattle.lg_gram.specs.Problems.{IsProblem}
 use Rattle.lg_pprune.specs.Alive.{IsPruned}
 use Rattle.lg_pprune.proofs.Pruned.{finished}
 use Rattle.lg_pprune.proofs.prune.alive.Goals as goal
 
-pub unwrap-requires : goal.unwrap-requires
-unwrap-requires c =
+pub of_known-requires : goal.of_known-requires
+of_known-requires c =
     let ps = c.positions-positions.result.now in
     let p = finished c.rows_are_problems.ensures ps c.members_of.new.lefts.items c.members_of.new.rights.items c.in_ok-members.members.items c.settle.new.members.items c.deref-3.result.now c.in_ok-rows.rows c.in_ok-members.ensures.members c.in_ok-settle.ensures
     (subst (λ z. IsProblem z) (sym c.positions-positions.ensures.value) c.positions-positions.ensures.limits) c.deref-3.ensures.value c.in_ok-rows.ensures in
-    some_since c.of.result _ _ c.of.ensures (λ n. n p.is_problem)
+    p.is_problem
 
 pub returns : goal.returns
 returns c =
     let ps = c.positions-positions.result.now in
     let p = finished c.rows_are_problems.ensures ps c.members_of.new.lefts.items c.members_of.new.rights.items c.in_ok-members.members.items c.settle.new.members.items c.deref-3.result.now c.in_ok-rows.rows c.in_ok-members.ensures.members c.in_ok-settle.ensures
     (subst (λ z. IsProblem z) (sym c.positions-positions.ensures.value) c.positions-positions.ensures.limits) c.deref-3.ensures.value c.in_ok-rows.ensures in
-    let o = MatchOption-at_some _ _ c.unwrap.result c.unwrap.ensures c.of.ensures in
-    subst (λ z. IsPruned c.args.problem.now z) (sym o.0) (subst (λ z. IsPruned z c.in_ok-rows.rows) c.positions-positions.ensures.value p)
+    subst (λ z. IsPruned c.args.problem.now z) (sym c.of_known.ensures) (subst (λ z. IsPruned z c.in_ok-rows.rows) c.positions-positions.ensures.value p)
