@@ -1,29 +1,32 @@
 -- The disjuncts of words with their formulas, in order and each once.
-use Rattle.std.proofs.Common.{◌≡◌, ◌⊎◌, ◌↔◌, ℕ, ◌+◌, ◌<◌, List, [], ◌∷◌, ◌++◌, length, get_or, take, Contains, All, inl, inr, refl, sym, ap, ◌∙◌, subst, true, is_eq, Less, Equal, Greater}
+use Rattle.std.proofs.Common.{◌≡◌, ◌⊎◌, ◌↔◌, ℕ, ◌+◌, ◌<◌, List, [], ◌∷◌, ◌++◌, length, get_or, take, Contains, All, arith, inl, inr, refl, sym, ap, ◌∙◌, subst, true, is_eq, Less, Equal, Greater}
 use Rattle.std.specs.declared.cmp.Ordering.{Ordering}
-use Rattle.std.specs.Ordering.{ordering_reverse, eq_by_cmp}
+use Rattle.std.specs.Cmp.Lexicographic.{slice_cmp}
+use Rattle.std.specs.Ordering.{nat_cmp, ordering_reverse, ordering_then, eq_by_cmp}
 use Rattle.std.specs.List.{AllZip, dedup}
 use Rattle.std.specs.List.Sorted.{IsSorted, IsPermutation, IsStrictlySortedBy}
 use Rattle.std.proofs.lemmas.Cmp.{eq_by_cmp_equiv}
-use Rattle.std.proofs.lemmas.List.{take_more}
+use Rattle.std.proofs.lemmas.List.{take_more, get_or-take, get_or_default, length-take-le}
 use Rattle.std.proofs.lemmas.List.Elements.{All-nil, All-append, All-head, All-tail, All-contains, All-contains_itself, All-weaker, recursion_from_All, Contains-append_left, Contains-append_right, Contains-append_cases}
 use Rattle.std.proofs.lemmas.List.Kept.{Any-dedup, Contains-from_dedup, IsStrictlySortedBy-dedup}
 use Rattle.std.proofs.lemmas.List.Sorted.{Contains-permutation, IsPermutation-sym}
-use Rattle.std.proofs.lemmas.Map.Keys.{sorted_tail}
+use Rattle.std.proofs.lemmas.Map.Keys.{Less-from_sorted, sorted_tail}
 use Rattle.std.proofs.lemmas.Map.Views.{All-after_first}
 use Rattle.lg_base.proofs.Elements.{contains_here, contains_later, contains_cases, contains_none}
+use Rattle.lg_gram.specs.Connectors.{connector_cmp}
 use Rattle.lg_gram.specs.Problems.{FitsProblem}
 use Rattle.lg_gram.specs.Disjuncts.{disjunct_cmp, AreDisjuncts, IsDisjunctOf}
 use Rattle.lg_gram.specs.declared.disjunct.Disjunct.{Disjunct}
 use Rattle.lg_gram.proofs.Exact.{Less≢Equal}
 use Rattle.lg_gram.proofs.Orders.{disjuncts_total}
+use Rattle.lg_pp.proofs.Rising.{rise_append}
 use Rattle.lg_disj.specs.Exist.{HasNames, ExpressionsHaveDisjuncts}
 use Rattle.lg_eprune.specs.Live.{WordTree}
-use Rattle.lg_answer.specs.Steps.{AreNamed, IsOfTrees, AreApart, AreToldApart, AreListedOf, AreExpanded, AreMade}
+use Rattle.lg_answer.specs.Steps.{AreNamed, IsOfTrees, AreApart, AreToldApart, AreListedOf, AreExpanded, AreMade, word_cmp}
 
 -- ---- one word after another
 
-pub listed_none : AreListedOf [] []
+listed_none : AreListedOf [] []
 listed_none = record { exactly = λ d. (λ h. absurd (contains_none d h), λ h. absurd (contains_none h.0 h.1)); fit = All-nil FitsProblem }
 
 -- disjuncts of some words, and of one word more
@@ -43,7 +46,7 @@ listed_more ws w ds es old one d = (
   ],
 )
 
-pub listed_step : (all : List WordTree) (i : ℕ) (w : WordTree) (done es : List Disjunct) → i < length all → w ≡ get_or all i w → AreDisjuncts w.word w.tree es → All FitsProblem es
+listed_step : (all : List WordTree) (i : ℕ) (w : WordTree) (done es : List Disjunct) → i < length all → w ≡ get_or all i w → AreDisjuncts w.word w.tree es → All FitsProblem es
     → AreListedOf (take i all) done → AreListedOf (take (i + 1) all) (done ++ es)
 listed_step all i w done es within read one fit before =
     let longer : take (i + 1) all ≡ take i all ++ w ∷ [] = take_more all i w within ∙ ap (λ v. take i all ++ v ∷ []) (sym read) in
@@ -51,6 +54,46 @@ listed_step all i w done es within read one fit before =
       exactly = listed_more (take i all) w done es before.exactly one;
       fit = All-append FitsProblem done es before.fit fit;
     })
+
+-- ---- words that increase
+
+before_next : (all : List WordTree) (i : ℕ) (w v : WordTree) → i < length all → w ≡ get_or all i w → IsStrictlySortedBy word_cmp all → Contains (take i all) v → slice_cmp nat_cmp v.word w.word ≡ Less
+before_next all i w v within read rise m =
+    let short : m.0 < i = let l = length-take-le i all in let h = m.1 in omega arith in
+    let at : get_or all m.0 w ≡ v = get_or_default all m.0 w v (omega arith) ∙ sym (get_or-take i all m.0 v short) ∙ m.2 in
+    let here : get_or all i w ≡ w = sym read in
+    sym (λ j. slice_cmp nat_cmp (at j).word (here j).word) ∙ Less-from_sorted word_cmp all m.0 i w rise short within
+
+by_words : (x y : Disjunct) (v w : WordTree) → slice_cmp nat_cmp v.word w.word ≡ Less → x.word ≡ v.word → y.word ≡ w.word → disjunct_cmp x y ≡ Less
+by_words x y v w less xv yw =
+    let words : slice_cmp nat_cmp x.word y.word ≡ Less = (λ j. slice_cmp nat_cmp (xv j) (yw j)) ∙ less in
+    ap (λ o. ordering_then o (ordering_then (slice_cmp connector_cmp x.left y.left) (slice_cmp connector_cmp x.right y.right))) words
+
+-- the disjuncts of earlier words come before those of the next
+listed_rise : (all : List WordTree) (i : ℕ) (w : WordTree) (done es : List Disjunct) → i < length all → w ≡ get_or all i w → AreDisjuncts w.word w.tree es → AreListedOf (take i all) done
+    → IsStrictlySortedBy word_cmp all → IsStrictlySortedBy disjunct_cmp done → IsStrictlySortedBy disjunct_cmp (done ++ es)
+listed_rise all i w done es within read one before up rise =
+    rise_append disjunct_cmp done es rise one.rise
+    (All-weaker (Contains done) (λ x. All (λ y. disjunct_cmp x y ≡ Less) es)
+    (λ x m. All-weaker (Contains es) (λ y. disjunct_cmp x y ≡ Less)
+    (λ y n. let of = (before.exactly x).0 m in by_words x y of.0 w (before_next all i w of.0 within read up of.1) of.2.named ((one.exactly y).0 n).named) es (All-contains_itself es))
+    done (All-contains_itself done))
+
+-- the disjuncts of the first words, which increase if the words do
+pub record ListedTo (all : List WordTree) (i : ℕ) (ds : List Disjunct) : Type 0 where
+  pub listed : AreListedOf (take i all) ds
+  pub rise : IsStrictlySortedBy word_cmp all → IsStrictlySortedBy disjunct_cmp ds
+
+pub none_yet : (all : List WordTree) → ListedTo all 0 []
+unfolding IsStrictlySortedBy
+none_yet all = record { listed = listed_none; rise = λ up. tt }
+
+pub one_more : (all : List WordTree) (i : ℕ) (w : WordTree) (done es : List Disjunct) → i < length all → w ≡ get_or all i w → AreDisjuncts w.word w.tree es → All FitsProblem es → ListedTo all i done
+    → ListedTo all (i + 1) (done ++ es)
+one_more all i w done es within read one fit before = record {
+  listed = listed_step all i w done es within read one fit before.listed;
+  rise = λ up. listed_rise all i w done es within read one before.listed up (before.rise up);
+}
 
 -- ---- in order
 

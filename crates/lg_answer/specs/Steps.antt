@@ -3,7 +3,10 @@ use Rattle.std.specs.Prelude.{◌≡◌, ◌↔◌, ◌<◌, ℕ, ◌+◌, List,
 use Rattle.std.specs.List.{AllZip, flat_map, enumerate_from}
 use Rattle.std.specs.FinMap.{get}
 use Rattle.std.specs.List.Sorted.{IsStrictlySortedBy}
+use Rattle.std.specs.declared.cmp.Ordering.{Ordering}
 use Rattle.std.specs.declared.cmp.Ordering.TheVariants.{Equal}
+use Rattle.std.specs.Ordering.{nat_cmp, on}
+use Rattle.std.specs.Cmp.Lexicographic.{slice_cmp}
 use Rattle.lg_gram.specs.Disjuncts.{disjunct_cmp, IsDisjunctOf}
 use Rattle.lg_gram.specs.Problems.{FitsProblem}
 use Rattle.lg_gram.specs.Trees.{Tree}
@@ -89,6 +92,10 @@ AreApart ws = (d e : Disjunct) → IsOfTrees ws d → IsOfTrees ws e → disjunc
 -- the same of disjuncts in a list
 abbrev pub AreToldApart : List Disjunct → Type 0
 AreToldApart ds = (d e : Disjunct) → Contains ds d → Contains ds e → disjunct_cmp d e ≡ Equal → d ≡ e
+
+-- words by their bytes
+abbrev pub word_cmp : WordTree → WordTree → Ordering
+word_cmp = on (λ w. w.word) (slice_cmp nat_cmp)
 
 -- the disjuncts of these words, in any order, within the limits of a problem
 pub record AreListedOf (ws : List WordTree) (ds : List Disjunct) : Type 0 where

@@ -1,16 +1,16 @@
 //! The disjuncts of the words of each position.
-ghost use Rattle.std.specs.Prelude.{◌↔◌, All, IfOk};
+ghost use Rattle.std.specs.Prelude.{◌≡◌, ◌↔◌, All, IfOk, IsTrue};
 ghost use Rattle.std.specs.List.{AllZip, Contains};
 ghost use Rattle.std.specs.List.Sorted.{IsStrictlySortedBy};
+ghost use Rattle.std.specs.declared.cmp.Ordering.TheVariants.{Less};
 ghost use Rattle.lg_gram.specs.Disjuncts.{disjunct_cmp, AreDisjuncts};
 ghost use Rattle.lg_gram.specs.Problems.{FitsProblem};
 ghost use Rattle.lg_gram.specs.declared.disjunct.Disjunct.{Disjunct as Seen};
-ghost use Rattle.lg_answer.specs.Steps.{AreApart, AreToldApart, AreListedOf, AreMade};
+ghost use Rattle.lg_answer.specs.Steps.{AreApart, AreToldApart, AreListedOf, AreMade, word_cmp};
 
 use lg_base::NoMemory;
 use lg_disj::expand;
 use lg_eprune::{WordExpr, WordExprs};
-use lg_gram::order::is_rising;
 use lg_gram::{Disjunct, Disjuncts, Positions};
 use std::alloc::Global;
 use std::cmp::Ordering;
@@ -34,16 +34,35 @@ fn disjuncts_of(alloc: Global, words: &[WordExpr]) -> Result<Disjuncts, NoMemory
     ensures { IfOk result (AreMade words.now) }
 {
     let all = listed(alloc, words)?;
-    if is_rising(&all) {
+    if words_rise(words) {
         return Ok(Disjuncts::of(all));
     }
     let kept = in_order(all)?;
     Ok(Disjuncts::of(kept))
 }
 
-// The disjuncts of one word after another.
+// Whether each word comes before the next, by its bytes.
+fn words_rise(words: &[WordExpr]) -> bool
+    ensures { IsTrue result → IsStrictlySortedBy word_cmp words.now }
+{
+    for i in 1..words.len() {
+        if !is_before(&words[i - 1], &words[i]) {
+            return false;
+        }
+    }
+    true
+}
+
+fn is_before(word: &WordExpr, other: &WordExpr) -> bool
+    ensures { IsTrue result ↔ (word_cmp word.now other.now ≡ Less) }
+{
+    word.word.bytes().cmp(other.word.bytes()) == Ordering::Less
+}
+
+// The disjuncts of one word after another. If the words increase, so do they.
 fn listed(alloc: Global, words: &[WordExpr]) -> Result<Vec<Disjunct>, NoMemory>
-    ensures { IfOk result (λ all. AreListedOf words.now all.items) }
+    ensures all { IfOk result (λ all. AreListedOf words.now all.items) }
+    ensures rise { IsStrictlySortedBy word_cmp words.now → IfOk result (λ all. IsStrictlySortedBy disjunct_cmp all.items) }
 {
     let mut all = Vec::new(alloc);
     for word in words {
