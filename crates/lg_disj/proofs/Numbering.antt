@@ -151,6 +151,9 @@ are_numbered rs rows keys lists ranks read placed old new rest n have one are tw
 pub numbers_total : IsTotalOrder numbers_cmp
 numbers_total = then_total (then_total (on_total (λ k. k.left) nat_cmp_total) (on_total (λ k. k.right) nat_cmp_total)) (on_total (λ k. k.row.cost) int_cmp_total)
 
+pub same_rows : (rs : List ℕ) (rows : List Row) (start : List Numbered) → AreNumbered rs rows start → map (λ k. k.row) start ≡ rows
+same_rows rs rows start are = ap (map (λ k. k.row)) are.is ∙ map-map (λ k. k.row) (renumbered are.ranks) are.placed ∙ are.places.same
+
 -- rows in the order of their numbers are rows in the order of their lists
 pub kept_by_numbers : (rs : List ℕ) (rows : List Row) (start sorted : List Numbered) (kept : List Row) → AreNumbered rs rows start → IsPermutation start sorted →
     IsSorted numbers_cmp sorted → kept ≡ map (λ k. k.row) (dedup (eq_by_cmp lists_numbers_cmp) sorted) → IsKept rs rows kept
@@ -159,7 +162,7 @@ kept_by_numbers rs rows start sorted kept are moved order is =
     let Good = IsRanked are.lists are.ranks are.are rs in
     let ranked : All Good start = subst (All Good) (sym are.is) (are_ranked are.lists are.ranks are.are rs are.placed are.places.places) in
     let good = All-permutation Good start sorted moved ranked in
-    let same : map row start ≡ rows = ap (map row) are.is ∙ map-map row (renumbered are.ranks) are.placed ∙ are.places.same in
+    let same : map row start ≡ rows = same_rows rs rows start are in
     record {
       sorted = map row sorted;
       moved = subst (λ xs. IsPermutation xs (map row sorted)) same (IsPermutation-map row start sorted moved);

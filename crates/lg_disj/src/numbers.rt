@@ -1,7 +1,8 @@
 //! Numbers of the lists of rows, which compare as the lists do.
 ghost use Rattle.std.specs.Prelude.{◌≡◌, map, IfOk};
 ghost use Rattle.std.specs.List.Sorted.{IsSorted, IsPermutation};
-ghost use Rattle.lg_disj.specs.Ranks.{part_or, AreRanksBy, IsRankBy, lent_cmp, StandsAt, Comes, HavePlaces, renumbered, AreNumbered, lists_numbers_cmp, numbers_cmp};
+ghost use Rattle.lg_disj.specs.Ranks.{part_or, AreRanksBy, IsRankBy, lent_cmp, StandsAt, Comes, HavePlaces, renumbered, AreNumbered};
+ghost use Rattle.lg_disj.specs.Ranks.{lists_numbers_cmp, numbers_cmp};
 
 use crate::arena::Row;
 use crate::ranks::rank_at;
