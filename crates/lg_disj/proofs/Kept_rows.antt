@@ -45,7 +45,7 @@ module _ (leaves : List Connector) (ranks : List ℕ) (are : AreRanks leaves ran
   lists_alike (x ∷ xs) [] p q = refl
   lists_alike (x ∷ xs) (y ∷ ys) p q =
       let P : ℕ → Type 0 = λ n. n < length leaves in
-      let first = are.order x y (All-head P x xs p) (All-head P y ys q) in
+      let first = are.order x y _ (All-head P x xs p) (All-head P y ys q) in
       let others = lists_alike xs ys (All-tail P x xs p) (All-tail P y ys q) in
       λ i. ordering_then (first i) (others i)
 

@@ -1,211 +1,171 @@
 -- Numbers of lists compare as the lists do.
-use Rattle.std.proofs.Common.{◌≡◌, ℕ, ◌+◌, ◌<◌, ◌≤◌, Bool, true, false, not, cond, if◌then◌else◌, ◌||◌, true≢false, is_some, is_lt, nat_eq, nat_lt, List, [], ◌∷◌, ◌++◌, length, map, take, get_or, position, Option, None, Some, Bor, inl, inr, refl, sym, ap, ap₂, subst, ◌∙◌, Less, Equal, Greater}
-use Rattle.std.specs.declared.cmp.Ordering.{Ordering}
+use Rattle.std.proofs.Common.{◌≡◌, ℕ, ◌+◌, ◌<◌, ◌≤◌, Bool, true, false, if◌then◌else◌, nat_eq, List, [], ◌∷◌, ◌++◌, length, length-append, map, take, get_or, slice_get, Some, Bor, refl, sym, ap, subst, ◌∙◌, arith}
 use Rattle.std.specs.Bool.{Decides}
-use Rattle.std.specs.Option.{unwrap_or}
-use Rattle.std.specs.Ordering.{nat_cmp, int_cmp, ordering_then, ordering_reverse, on, eq_by_cmp, MatchOrdering}
-use Rattle.std.specs.Cmp.{IsTotalOrder, nat_cmp_is}
+use Rattle.std.specs.Ordering.{nat_cmp, int_cmp, ordering_then, on, eq_by_cmp}
+use Rattle.std.specs.Cmp.{IsTotalOrder}
 use Rattle.std.specs.Cmp.Lexicographic.{slice_cmp, pointwise}
-use Rattle.std.specs.List.{All, Contains, dedup, list_any, position_or_len, prefix_len}
+use Rattle.std.specs.List.{All, dedup, list_any}
 use Rattle.std.specs.List.Sorted.{IsSorted, IsPermutation}
-use Rattle.std.proofs.lemmas.Bool.{false≢true, cases_lt}
+use Rattle.std.proofs.Math.ListN.{get_or-append}
 use Rattle.std.proofs.lemmas.Bool.Decides.{Decides-eqb}
-use Rattle.std.proofs.lemmas.Cmp.{on_total, then_total, ranked, nat_cmp_total, nat_list_cmp_total, int_cmp_total}
-use Rattle.std.proofs.lemmas.List.{length-map, map-append, take_all, take_more}
-use Rattle.std.proofs.lemmas.List.Elements.{All-nil, All-cons, All-append, All-weaker, Contains-append_left}
-use Rattle.std.proofs.lemmas.List.Folds.{list_any_at}
-use Rattle.std.proofs.lemmas.List.MinMax.{ranks_by}
-use Rattle.std.proofs.lemmas.List.Quantifiers.{position-Some}
-use Rattle.std.proofs.lemmas.List.Sorted.{sorted_far, All-permutation, Contains-permutation, IsPermutation-map}
-use Rattle.std.proofs.lemmas.Option.{same_Some}
+use Rattle.std.proofs.lemmas.Cmp.{on_total, then_total, nat_cmp_total, int_cmp_total}
+use Rattle.std.proofs.lemmas.List.{length-map, map-append, take_all, take_at, take_more}
+use Rattle.std.proofs.lemmas.List.Elements.{All-nil, All-cons, All-append, All-map, All-weaker}
+use Rattle.std.proofs.lemmas.List.Sorted.{All-permutation, IsPermutation-map}
+use Rattle.std.proofs.lemmas.Option.{slice_get_within, slice_get-get_or, get_or_from_slice_get}
+use Rattle.std.proofs.lemmas.Simd.{map-map}
 use Rattle.std.proofs.lemmas.Slice.Eq.{slice_eq-Decides}
 use Rattle.indexmap.specs.IndexSet.{insert_key}
-use Rattle.indexmap.proofs.CallerLemmas.{Contains-insert_key}
 use Rattle.lg_disj.specs.declared.arena.Row.{Row}
 use Rattle.lg_disj.specs.declared.numbers.Numbered.{Numbered}
-use Rattle.lg_disj.specs.Ranks.{key_in, ranks_cmp, places_cmp, IsKept, AreLists, IsNumberOf, HasNumbers, AreNumbered, lists_numbers_cmp, numbers_cmp}
-use Rattle.lg_disj.proofs.Told_apart.{both_equal}
+use Rattle.lg_disj.specs.Ranks.{AreRanksBy, lent_cmp, key_in, ranks_cmp, places_cmp, IsKept, StandsAt, Keeps, Comes, HasPlaces, HavePlaces, renumbered, AreNumbered, lists_numbers_cmp, numbers_cmp}
 use Rattle.lg_disj.proofs.Alike.{sorted_map, dedup_map}
 
-abbrev now : Bor (List ℕ) → List ℕ
-now f = f.now
+abbrev list_eq : Bor (List ℕ) → Bor (List ℕ) → Bool
+list_eq f g = pointwise nat_eq f.now g.now
 
-abbrev list_eq : List ℕ → List ℕ → Bool
-list_eq = pointwise nat_eq
-
-same_list : (xs ys : List ℕ) → Decides (list_eq xs ys) (xs ≡ ys)
+same_list : (xs ys : List ℕ) → Decides (pointwise nat_eq xs ys) (xs ≡ ys)
 same_list xs ys = slice_eq-Decides Decides-eqb xs ys _ refl
 
--- the lists of the rows are among these
-pub record HaveLists (ranked : List ℕ) (rows : List Row) (lists : List (List ℕ)) : Type 0 where
-  pub lefts : All (λ row. Contains lists (key_in ranked row).left) rows
-  pub rights : All (λ row. Contains lists (key_in ranked row).right) rows
+kept_behind : (old more : List (Bor (List ℕ))) → Keeps old (old ++ more)
+kept_behind old more n f at =
+    let within = slice_get_within old n f at in
+    slice_get-get_or (old ++ more) n f (omega (arith, within, length-append old more))
+    ∙ ap Some (get_or-append old more f n within ∙ get_or_from_slice_get old n f f at)
 
-pub have_none : (ranked : List ℕ) (rows : List Row) (lists : List (List ℕ)) → HaveLists ranked (take 0 rows) lists
-have_none ranked rows lists = record {
-  lefts = All-nil (λ row. Contains lists (key_in ranked row).left);
-  rights = All-nil (λ row. Contains lists (key_in ranked row).right);
+kept_inserted : (old : List (Bor (List ℕ))) (k : Bor (List ℕ)) (b : Bool) → Keeps old (if b then old else old ++ k ∷ [])
+kept_inserted old k true n f at = at
+kept_inserted old k false n f at = kept_behind old (k ∷ []) n f at
+
+pub is_there : (new : List (Bor (List ℕ))) (k f : Bor (List ℕ)) (place : ℕ) → slice_get new place ≡ Some f → list_eq k f ≡ true → StandsAt new k.now place
+is_there new k f place there same = record { lent = f; there = there; same = sym ((same_list k.now f.now).0 same) }
+
+-- a list came by an insert
+pub came : (old new : List (Bor (List ℕ))) (k f : Bor (List ℕ)) (place : ℕ) → new ≡ insert_key list_eq old k → slice_get new place ≡ Some f → list_eq k f ≡ true →
+    Comes old new k.now place
+came old new k f place is there same = record {
+  kept = subst (Keeps old) (sym is) (kept_inserted old k (list_any (list_eq k) old));
+  stands = is_there new k f place there same;
 }
 
--- a list came to the others, or was there
-pub record Comes (old : List (List ℕ)) (list : List ℕ) (new : List (List ℕ)) : Type 0 where
-  pub kept : (x : List ℕ) → Contains old x → Contains new x
-  pub there : Contains new list
+-- a list that is a known one was there
+pub was_there : (old : List (Bor (List ℕ))) (known list : List ℕ) (place : ℕ) → StandsAt old known place → list ≡ known → Comes old old list place
+was_there old known list place at is = record {
+  kept = λ n f h. h;
+  stands = record { lent = at.lent; there = at.there; same = at.same ∙ sym is };
+}
 
-list_any_map : (p : List ℕ → Bool) (keys : List (Bor (List ℕ))) → list_any (λ k. p k.now) keys ≡ list_any p (map now keys)
-list_any_map p [] = refl
-list_any_map p (k ∷ keys) = ap (λ b. p k.now || b) (list_any_map p keys)
+pub stands_on : (old new : List (Bor (List ℕ))) (list : List ℕ) (place : ℕ) → Keeps old new → StandsAt old list place → StandsAt new list place
+stands_on old new list place kept at = record { lent = at.lent; there = kept place at.lent at.there; same = at.same }
 
-insert_map : (keys : List (Bor (List ℕ))) (k : Bor (List ℕ)) → map now (insert_key (λ x y. list_eq x.now y.now) keys k) ≡ insert_key list_eq (map now keys) k.now
-insert_map keys k = by (list_any (λ x. list_eq k.now x.now) keys) refl
-  where
-    by : (b : Bool) → list_any (λ x. list_eq k.now x.now) keys ≡ b → map now (insert_key (λ x y. list_eq x.now y.now) keys k) ≡ insert_key list_eq (map now keys) k.now
-    by true e =
-        ap (λ b. map now (if b then keys else keys ++ k ∷ [])) e
-        ∙ ap (λ b. if b then map now keys else map now keys ++ k.now ∷ []) (sym e ∙ list_any_map (list_eq k.now) keys)
-    by false e =
-        ap (λ b. map now (if b then keys else keys ++ k ∷ [])) e ∙ map-append now keys (k ∷ [])
-        ∙ ap (λ b. if b then map now keys else map now keys ++ k.now ∷ []) (sym e ∙ list_any_map (list_eq k.now) keys)
+places_on : (rs : List ℕ) (old new : List (Bor (List ℕ))) (k : Numbered) → Keeps old new → HasPlaces rs old k → HasPlaces rs new k
+places_on rs old new k kept h = record {
+  left = stands_on old new (key_in rs k.row).left k.left kept h.left;
+  right = stands_on old new (key_in rs k.row).right k.right kept h.right;
+}
 
-stays : (keys : List (List ℕ)) (k x : List ℕ) (b : Bool) → Contains keys x → Contains (if b then keys else keys ++ k ∷ []) x
-stays keys k x true h = h
-stays keys k x false h = Contains-append_left keys (k ∷ []) x h
+-- the first rows have their places, and the lists of the last one stand where they are known to
+pub record SoFar (rs : List ℕ) (rows : List Row) (i : ℕ) (lists : List (Bor (List ℕ))) (placed : List Numbered) (left_list : List ℕ) (left : ℕ) (right_list : List ℕ) (right : ℕ) : Type 0 where
+  pub same : map (λ k. k.row) placed ≡ take i rows
+  pub places : All (HasPlaces rs lists) placed
+  pub lefts : StandsAt lists left_list left
+  pub rights : StandsAt lists right_list right
 
-pub comes : (old new : List (Bor (List ℕ))) (k : Bor (List ℕ)) → new ≡ insert_key (λ x y. list_eq x.now y.now) old k → Comes (map now old) k.now (map now new)
-comes old new k is =
-    let all = ap (map now) is ∙ insert_map old k in
-    record {
-      kept = λ x h. subst (λ lists. Contains lists x) (sym all) (stays (map now old) k.now x (list_any (list_eq k.now) (map now old)) h);
-      there = subst (λ lists. Contains lists k.now) (sym all) (Contains-insert_key list_eq (λ x y. (same_list x y).0) (map now old) k.now);
-    }
+pub none_so_far : (rs : List ℕ) (rows : List Row) (lists : List (Bor (List ℕ))) (placed : List Numbered) (none : List ℕ) (place : ℕ) → placed ≡ [] → StandsAt lists none place →
+    SoFar rs rows 0 lists placed none place none place
+none_so_far rs rows lists placed none place is at = record {
+  same = ap (map (λ k. k.row)) is;
+  places = subst (All (HasPlaces rs lists)) (sym is) (All-nil (HasPlaces rs lists));
+  lefts = at;
+  rights = at;
+}
 
--- one more row
-pub have_more : (rs : List ℕ) (rows : List Row) (i : ℕ) (row : Row) (l0 l1 l2 : List (List ℕ)) (a b : List ℕ) → i < length rows → row ≡ get_or rows i row →
-    a ≡ (key_in rs row).left → b ≡ (key_in rs row).right → Comes l0 a l1 → Comes l1 b l2 → HaveLists rs (take i rows) l0 → HaveLists rs (take (i + 1) rows) l2
-have_more rs rows i row l0 l1 l2 a b within read left right first second h =
-    let more : take i rows ++ row ∷ [] ≡ take (i + 1) rows = ap (λ x. take i rows ++ x ∷ []) read ∙ sym (take_more rows i row within) in
-    let L : List (List ℕ) → Row → Type 0 = λ lists row. Contains lists (key_in rs row).left in
-    let R : List (List ℕ) → Row → Type 0 = λ lists row. Contains lists (key_in rs row).right in
-    record {
-      lefts = subst (All (L l2)) more (All-append (L l2) (take i rows) (row ∷ [])
-          (All-weaker (L l0) (L l2) (λ row h. second.kept (key_in rs row).left (first.kept (key_in rs row).left h)) (take i rows) h.lefts)
-          (All-cons (L l2) row [] (subst (Contains l2) left (second.kept a first.there)) (All-nil (L l2))));
-      rights = subst (All (R l2)) more (All-append (R l2) (take i rows) (row ∷ [])
-          (All-weaker (R l0) (R l2) (λ row h. second.kept (key_in rs row).right (first.kept (key_in rs row).right h)) (take i rows) h.rights)
-          (All-cons (R l2) row [] (subst (Contains l2) right second.there) (All-nil (R l2))));
-    }
-
--- the lists in order
-pub sorted_lists : (rs : List ℕ) (rows : List Row) (i : ℕ) (old new : List (Bor (List ℕ))) → length rows ≤ i → IsPermutation old new → IsSorted (λ x y. slice_cmp nat_cmp x.now y.now) new →
-    HaveLists rs (take i rows) (map now old) → AreLists rs rows (map now new)
-sorted_lists rs rows i old new whole moved sorted h =
-    let same : take i rows ≡ rows = take_all i rows whole in
-    let over = IsPermutation-map now old new moved in
-    let go : (x : List ℕ) → Contains (map now old) x → Contains (map now new) x = λ x h. Contains-permutation (map now old) (map now new) x over h in
-    record {
-      order = sorted_map now (λ x. Unit {0}) (λ x y. slice_cmp nat_cmp x.now y.now) (slice_cmp nat_cmp) (λ a b p q. refl) new (λ k d within. tt) sorted;
-      lefts = subst (All (λ row. Contains (map now new) (key_in rs row).left)) same
-          (All-weaker (λ row. Contains (map now old) (key_in rs row).left) (λ row. Contains (map now new) (key_in rs row).left) (λ row. go (key_in rs row).left) (take i rows) h.lefts);
-      rights = subst (All (λ row. Contains (map now new) (key_in rs row).right)) same
-          (All-weaker (λ row. Contains (map now old) (key_in rs row).right) (λ row. Contains (map now new) (key_in rs row).right) (λ row. go (key_in rs row).right) (take i rows) h.rights);
-    }
-
-prefix_len_map : (p : List ℕ → Bool) (keys : List (Bor (List ℕ))) → prefix_len (λ k. p k.now) keys ≡ prefix_len p (map now keys)
-prefix_len_map p [] = refl
-prefix_len_map p (k ∷ keys) = ap (λ n. cond (p k.now) (1 + n) 0) (prefix_len_map p keys)
-
-position_map : (p : List ℕ → Bool) (keys : List (Bor (List ℕ))) → position (λ k. p k.now) keys ≡ position p (map now keys)
-position_map p keys =
-    let at : position_or_len (λ k. p k.now) keys ≡ position_or_len p (map now keys) = prefix_len_map (λ x. not (p x)) keys in
-    let long = sym (length-map keys now) in
-    λ i. cond (nat_lt (at i) (long i)) (Some (at i)) None
-
-found : (lists : List (List ℕ)) (list : List ℕ) (r : Option ℕ) → r ≡ position (list_eq list) lists → is_some r ≡ list_any (list_eq list) lists → Contains lists list →
-    position (list_eq list) lists ≡ Some (unwrap_or r 0)
-found lists list None is some (k, within, at) =
-    absurd (true≢false (sym (list_any_at (list_eq list) lists k list within ((same_list list (get_or lists k list)).1 (sym at))) ∙ sym some))
-found lists list (Some n) is some h = sym is
-
-pub number_found : (keys : List (Bor (List ℕ))) (list : List ℕ) (r : Option ℕ) (n : ℕ) → r ≡ position (λ k. list_eq list k.now) keys →
-    is_some r ≡ list_any (λ k. list_eq list k.now) keys → n ≡ unwrap_or r 0 → Contains (map now keys) list → IsNumberOf (map now keys) list n
-number_found keys list r n is some value h =
-    found (map now keys) list r (is ∙ position_map (list_eq list) keys) (some ∙ list_any_map (list_eq list) keys) h ∙ ap Some (sym value)
-
--- one more row has its numbers
-pub numbers_more : (rs : List ℕ) (rows : List Row) (i : ℕ) (row : Row) (lists : List (List ℕ)) (old new : List Numbered) (a b : List ℕ) (m n : ℕ) → i < length rows →
-    row ≡ get_or rows i row → a ≡ (key_in rs row).left → b ≡ (key_in rs row).right → HaveLists rs rows lists →
-    (Contains lists a → IsNumberOf lists a m) → (Contains lists b → IsNumberOf lists b n) → new ≡ old ++ record { left = m; right = n; row = row } ∷ [] →
-    (map (λ k. k.row) old ≡ take i rows) × All (HasNumbers rs lists) old → (map (λ k. k.row) new ≡ take (i + 1) rows) × All (HasNumbers rs lists) new
-numbers_more rs rows i row lists old new a b m n within read left right have first second is (same, all) =
+-- one more row has its places
+pub one_more : (rs : List ℕ) (rows : List Row) (i : ℕ) (row : Row) (l0 l1 l2 : List (Bor (List ℕ))) (old new : List Numbered) (a b p q : List ℕ) (m n x y : ℕ) → i < length rows →
+    row ≡ get_or rows i row → a ≡ (key_in rs row).left → b ≡ (key_in rs row).right → Comes l0 l1 a m → Comes l1 l2 b n →
+    new ≡ old ++ record { left = m; right = n; row = row } ∷ [] → SoFar rs rows i l0 old p x q y → SoFar rs rows (i + 1) l2 new a m b n
+one_more rs rows i row l0 l1 l2 old new a b p q m n x y within read left right first second is h =
     let one : Numbered = record { left = m; right = n; row = row } in
-    let there : (x : Row) → row ≡ x → Contains lists (key_in rs x).left → Contains lists a = λ x e. subst (Contains lists) (ap (λ y. (key_in rs y).left) (sym e) ∙ sym left) in
-    let also : (x : Row) → row ≡ x → Contains lists (key_in rs x).right → Contains lists b = λ x e. subst (Contains lists) (ap (λ y. (key_in rs y).right) (sym e) ∙ sym right) in
-    let numbers : HasNumbers rs lists one = record {
-      left = subst (λ x. IsNumberOf lists x m) left (first (there _ read (have.lefts i row within)));
-      right = subst (λ x. IsNumberOf lists x n) right (second (also _ read (have.rights i row within)));
-    } in (
-      ap (map (λ k. k.row)) is ∙ map-append (λ k. k.row) old (one ∷ []) ∙ ap (λ xs. xs ++ row ∷ []) same
-          ∙ ap (λ x. take i rows ++ x ∷ []) read ∙ sym (take_more rows i row within),
-      subst (All (HasNumbers rs lists)) (sym is) (All-append (HasNumbers rs lists) old (one ∷ []) all (All-cons (HasNumbers rs lists) one [] numbers (All-nil (HasNumbers rs lists)))),
-    )
+    let kept : Keeps l0 l2 = λ k f at. second.kept k f (first.kept k f at) in
+    let there = stands_on l1 l2 a m second.kept first.stands in
+    let has : HasPlaces rs l2 one = record { left = subst (λ z. StandsAt l2 z m) left there; right = subst (λ z. StandsAt l2 z n) right second.stands } in
+    record {
+      same = ap (map (λ k. k.row)) is ∙ map-append (λ k. k.row) old (one ∷ []) ∙ ap (λ xs. xs ++ row ∷ []) h.same
+          ∙ ap (λ z. take i rows ++ z ∷ []) read ∙ sym (take_more rows i row within);
+      places = subst (All (HasPlaces rs l2)) (sym is) (All-append (HasPlaces rs l2) old (one ∷ [])
+          (All-weaker (HasPlaces rs l0) (HasPlaces rs l2) (λ k. places_on rs l0 l2 k kept) old h.places)
+          (All-cons (HasPlaces rs l2) one [] has (All-nil (HasPlaces rs l2))));
+      lefts = there;
+      rights = second.stands;
+    }
 
-pub are_numbered : (rs : List ℕ) (rows : List Row) (i : ℕ) (lists : List (List ℕ)) (ks : List Numbered) → length rows ≤ i → IsSorted (slice_cmp nat_cmp) lists →
-    (map (λ k. k.row) ks ≡ take i rows) × All (HasNumbers rs lists) ks → AreNumbered rs rows ks
-are_numbered rs rows i lists ks whole order (same, all) = record { lists = lists; order = order; same = same ∙ take_all i rows whole; numbers = all }
+pub all_placed : (rs : List ℕ) (rows : List Row) (i : ℕ) (lists : List (Bor (List ℕ))) (placed : List Numbered) (p q : List ℕ) (x y : ℕ) → length rows ≤ i →
+    SoFar rs rows i lists placed p x q y → HavePlaces rs lists rows placed
+all_placed rs rows i lists placed p q x y whole h = record { same = h.same ∙ take_all i rows whole; places = h.places }
 
-one_list : (xs ys : List ℕ) → slice_cmp nat_cmp xs ys ≡ Equal → xs ≡ ys
-one_list [] [] h = refl
-one_list [] (y ∷ ys) h = absurd (let less : Less ≡ Equal = h in cc)
-one_list (x ∷ xs) [] h = absurd (let greater : Greater ≡ Equal = h in cc)
-one_list (x ∷ xs) (y ∷ ys) h =
-    let alike = both_equal (nat_cmp x y) (slice_cmp nat_cmp xs ys) h in
-    let first : x ≡ y = ranked x y Equal (sym alike.0) in
-    let others = one_list xs ys alike.1 in
-    λ i. first i ∷ others i
+module _ (lists : List (Bor (List ℕ))) (ranks : List ℕ) (are : AreRanksBy lent_cmp lists ranks) where
+  ranks_alike : (a b : List ℕ) (m n : ℕ) → StandsAt lists a m → StandsAt lists b n → nat_cmp (get_or ranks m 0) (get_or ranks n 0) ≡ slice_cmp nat_cmp a b
+  ranks_alike a b m n p q =
+      let one = get_or_from_slice_get lists m p.lent p.lent p.there in
+      let other = get_or_from_slice_get lists n q.lent p.lent q.there in
+      are.order m n p.lent (slice_get_within lists m p.lent p.there) (slice_get_within lists n q.lent q.there)
+      ∙ (λ i. slice_cmp nat_cmp ((ap (λ f. f.now) one ∙ p.same) i) ((ap (λ f. f.now) other ∙ q.same) i))
 
-module _ (lists : List (List ℕ)) (sorted : IsSorted (slice_cmp nat_cmp) lists) where
-  stands : (a : List ℕ) (m : ℕ) (d : List ℕ) → IsNumberOf lists a m → (m < length lists) × (get_or lists m d ≡ a)
-  stands a m d is = let at = position-Some (list_eq a) lists m d is in (at.0, sym ((same_list a (get_or lists m d)).0 at.1))
-
-  number_less : (a b : List ℕ) (m n : ℕ) → IsNumberOf lists a m → IsNumberOf lists b n → slice_cmp nat_cmp a b ≡ Less → m < n
-  number_less a b m n p q less = elim (cases_lt m n) [
-    | inl h ↦ h
-    | inr h ↦
-        let one = stands a m [] p in
-        let other = stands b n [] q in
-        let far = sorted_far (λ x y. is_lt (slice_cmp nat_cmp x y)) (ranks_by nat_list_cmp_total (λ g. g)) lists sorted n m [] h one.0 in
-        absurd (false≢true (sym far ∙ ap₂ (λ x y. is_lt (slice_cmp nat_cmp x y)) one.1 other.1 ∙ ap is_lt less))
-  ]
-
-  numbers_match : (a b : List ℕ) (m n : ℕ) → IsNumberOf lists a m → IsNumberOf lists b n → (o : Ordering) → slice_cmp nat_cmp a b ≡ o → MatchOrdering o (m < n) (m ≡ n) (n < m)
-  numbers_match a b m n p q Less e = number_less a b m n p q e
-  numbers_match a b m n p q Equal e = same_Some m n (sym p ∙ ap (λ x. position (list_eq x) lists) (one_list a b e) ∙ q)
-  numbers_match a b m n p q Greater e = number_less b a n m q p (nat_list_cmp_total.antisymm b a ∙ ap ordering_reverse e)
-
-  numbers_alike : (a b : List ℕ) (m n : ℕ) → IsNumberOf lists a m → IsNumberOf lists b n → nat_cmp m n ≡ slice_cmp nat_cmp a b
-  numbers_alike a b m n p q = sym (nat_cmp_is m n (slice_cmp nat_cmp a b) (numbers_match a b m n p q (slice_cmp nat_cmp a b) refl))
-
-  by_lists : (rs : List ℕ) (a b : Numbered) → HasNumbers rs lists a → HasNumbers rs lists b → lists_numbers_cmp a b ≡ on (key_in rs) ranks_cmp a.row b.row
+  by_lists : (rs : List ℕ) (a b : Numbered) → HasPlaces rs lists a → HasPlaces rs lists b → lists_numbers_cmp (renumbered ranks a) (renumbered ranks b) ≡ on (key_in rs) ranks_cmp a.row b.row
   by_lists rs a b p q =
-      let left = numbers_alike (key_in rs a.row).left (key_in rs b.row).left a.left b.left p.left q.left in
-      let right = numbers_alike (key_in rs a.row).right (key_in rs b.row).right a.right b.right p.right q.right in
+      let left = ranks_alike (key_in rs a.row).left (key_in rs b.row).left a.left b.left p.left q.left in
+      let right = ranks_alike (key_in rs a.row).right (key_in rs b.row).right a.right b.right p.right q.right in
       λ i. ordering_then (left i) (right i)
 
-  by_all : (rs : List ℕ) (a b : Numbered) → HasNumbers rs lists a → HasNumbers rs lists b → numbers_cmp a b ≡ on (key_in rs) places_cmp a.row b.row
-  by_all rs a b p q = let same = by_lists rs a b p q in λ i. ordering_then (same i) (int_cmp a.row.cost b.row.cost)
+  -- a row with the ranks of its lists
+  pub record IsRanked (rs : List ℕ) (k : Numbered) : Type 0 where
+    pub from : Numbered
+    pub places : HasPlaces rs lists from
+    pub is : k ≡ renumbered ranks from
+
+  pub by_ranks : (rs : List ℕ) (a b : Numbered) → IsRanked rs a → IsRanked rs b → lists_numbers_cmp a b ≡ on (key_in rs) ranks_cmp a.row b.row
+  by_ranks rs a b p q =
+      (λ i. lists_numbers_cmp (p.is i) (q.is i)) ∙ by_lists rs p.from q.from p.places q.places
+      ∙ (λ i. on (key_in rs) ranks_cmp (sym p.is i).row (sym q.is i).row)
+
+  pub by_all : (rs : List ℕ) (a b : Numbered) → IsRanked rs a → IsRanked rs b → numbers_cmp a b ≡ on (key_in rs) places_cmp a.row b.row
+  by_all rs a b p q = let same = by_ranks rs a b p q in λ i. ordering_then (same i) (int_cmp a.row.cost b.row.cost)
+
+  pub are_ranked : (rs : List ℕ) (placed : List Numbered) → All (HasPlaces rs lists) placed → All (IsRanked rs) (map (renumbered ranks) placed)
+  are_ranked rs placed h = All-map (IsRanked rs) (renumbered ranks) placed (λ k d within. record { from = get_or placed k d; places = h k d within; is = refl })
+
+-- the rows with ranks in place of places
+pub are_numbered : (rs : List ℕ) (rows : List Row) (keys lists : List (Bor (List ℕ))) (ranks read : List ℕ) (placed old new rest : List Numbered) (n : ℕ) → HavePlaces rs keys rows placed →
+    lists ≡ keys → AreRanksBy lent_cmp lists ranks → read ≡ ranks → old ≡ placed → new ≡ map (renumbered read) old → n ≡ length placed → AreNumbered rs rows (take n (new ++ rest))
+are_numbered rs rows keys lists ranks read placed old new rest n have one are two three is long =
+    let all : new ≡ map (renumbered ranks) placed = is ∙ (λ i. map (renumbered (two i)) (three i)) in
+    record {
+      lists = keys;
+      ranks = ranks;
+      are = subst (λ ls. AreRanksBy lent_cmp ls ranks) one are;
+      placed = placed;
+      places = have;
+      is = take_at new rest n (ap length all ∙ length-map placed (renumbered ranks) ∙ sym long) ∙ all;
+    }
 
 pub numbers_total : IsTotalOrder numbers_cmp
 numbers_total = then_total (then_total (on_total (λ k. k.left) nat_cmp_total) (on_total (λ k. k.right) nat_cmp_total)) (on_total (λ k. k.row.cost) int_cmp_total)
+
+pub same_rows : (rs : List ℕ) (rows : List Row) (start : List Numbered) → AreNumbered rs rows start → map (λ k. k.row) start ≡ rows
+same_rows rs rows start are = ap (map (λ k. k.row)) are.is ∙ map-map (λ k. k.row) (renumbered are.ranks) are.placed ∙ are.places.same
 
 -- rows in the order of their numbers are rows in the order of their lists
 pub kept_by_numbers : (rs : List ℕ) (rows : List Row) (start sorted : List Numbered) (kept : List Row) → AreNumbered rs rows start → IsPermutation start sorted →
     IsSorted numbers_cmp sorted → kept ≡ map (λ k. k.row) (dedup (eq_by_cmp lists_numbers_cmp) sorted) → IsKept rs rows kept
 kept_by_numbers rs rows start sorted kept are moved order is =
     let row : Numbered → Row = λ k. k.row in
-    let good = All-permutation (HasNumbers rs are.lists) start sorted moved are.numbers in
+    let Good = IsRanked are.lists are.ranks are.are rs in
+    let ranked : All Good start = subst (All Good) (sym are.is) (are_ranked are.lists are.ranks are.are rs are.placed are.places.places) in
+    let good = All-permutation Good start sorted moved ranked in
+    let same : map row start ≡ rows = same_rows rs rows start are in
     record {
       sorted = map row sorted;
-      moved = subst (λ xs. IsPermutation xs (map row sorted)) are.same (IsPermutation-map row start sorted moved);
-      order = sorted_map row (HasNumbers rs are.lists) numbers_cmp (on (key_in rs) places_cmp) (by_all are.lists are.order rs) sorted good order;
-      is = is ∙ sym (dedup_map row (HasNumbers rs are.lists) lists_numbers_cmp (on (key_in rs) ranks_cmp) (by_lists are.lists are.order rs) sorted good);
+      moved = subst (λ xs. IsPermutation xs (map row sorted)) same (IsPermutation-map row start sorted moved);
+      order = sorted_map row Good numbers_cmp (on (key_in rs) places_cmp) (by_all are.lists are.ranks are.are rs) sorted good order;
+      is = is ∙ sym (dedup_map row Good lists_numbers_cmp (on (key_in rs) ranks_cmp) (by_ranks are.lists are.ranks are.are rs) sorted good);
     }

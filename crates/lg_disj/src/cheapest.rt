@@ -9,7 +9,7 @@ ghost use Rattle.lg_disj.specs.Grown.{IsPlaced, StandFor};
 ghost use Rattle.lg_disj.specs.Ranks.{IsKept};
 
 use crate::arena::{Choices, Row};
-use crate::numbers::{lists_of, rows_of, with_numbers};
+use crate::numbers::{rows_of, with_ranks};
 use crate::ranks::{ranks_at, ranks_of};
 use lg_base::{NoMemory, Text};
 use lg_gram::law::connectors_are_ordered;
@@ -43,8 +43,7 @@ fn kept_rows(alloc: Global, ranked: &[usize], rows: &[Row]) -> Result<Vec<Row>, 
     ensures kept { IfOk result (λ kept. IsKept ranked.now rows.now kept.items) }
     ensures few { IfOk result (λ kept. length kept.items ≤ length rows.now) }
 {
-    let lists = lists_of(alloc, ranked, rows)?;
-    let mut numbered = with_numbers(alloc, ranked, &lists, rows)?;
+    let mut numbered = with_ranks(alloc, ranked, rows)?;
     numbered.sort_by(|a, b| a.compare(b))?;
     numbered.dedup_by(|next, kept| next.compare_lists(kept) == Ordering::Equal);
     rows_of(alloc, &numbered)

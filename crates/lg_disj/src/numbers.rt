@@ -1,9 +1,11 @@
 //! Numbers of the lists of rows, which compare as the lists do.
 ghost use Rattle.std.specs.Prelude.{◌≡◌, map, IfOk};
-ghost use Rattle.std.specs.List.{All, Contains};
-ghost use Rattle.lg_disj.specs.Ranks.{part_or, AreLists, IsNumberOf, AreNumbered, lists_numbers_cmp, numbers_cmp};
+ghost use Rattle.std.specs.List.Sorted.{IsSorted, IsPermutation};
+ghost use Rattle.lg_disj.specs.Ranks.{part_or, AreRanksBy, IsRankBy, lent_cmp, StandsAt, Comes, HavePlaces, renumbered, AreNumbered};
+ghost use Rattle.lg_disj.specs.Ranks.{lists_numbers_cmp, numbers_cmp};
 
 use crate::arena::Row;
+use crate::ranks::rank_at;
 use indexmap::IndexSet;
 use lg_base::NoMemory;
 use std::alloc::Global;
@@ -36,48 +38,106 @@ impl Numbered {
     }
 }
 
-/// The lists of the rows, each once, in order.
-pub(crate) fn lists_of<'a>(
-    alloc: Global,
-    ranked: &'a [usize],
-    rows: &[Row],
-) -> Result<IndexSet<&'a [usize]>, NoMemory>
-    ensures { IfOk result (λ lists. AreLists ranked.now rows.now (map (λ f. f.now) lists.keys)) }
-{
-    let mut lists = IndexSet::new(alloc);
-    for row in rows {
-        lists.insert(part_or(ranked, row.from, row.middle))?;
-        lists.insert(part_or(ranked, row.middle, row.end))?;
-    }
-    lists.sort()?;
-    Ok(lists)
-}
-
-/// The rows with the numbers of their lists: the places of the lists among these.
-pub(crate) fn with_numbers(
+/// The rows with numbers of their lists that compare as the lists do.
+pub(crate) fn with_ranks(
     alloc: Global,
     ranked: &[usize],
-    lists: &IndexSet<&[usize]>,
     rows: &[Row],
 ) -> Result<Vec<Numbered>, NoMemory>
-    requires { AreLists ranked.now rows.now (map (λ f. f.now) lists.now.keys) }
     ensures { IfOk result (λ numbered. AreNumbered ranked.now rows.now numbered.items) }
 {
+    let mut lists = IndexSet::new(alloc);
+    let mut numbered = with_places(alloc, ranked, &mut lists, rows)?;
+    let ranks = ranks_of_lists(alloc, lists.as_slice())?;
+    renumber(&mut numbered, &ranks);
+    Ok(numbered)
+}
+
+// The rows with the places of their lists among the distinct ones, in the order first met. A list that the row before
+// has too is not looked up again.
+fn with_places<'a>(
+    alloc: Global,
+    ranked: &'a [usize],
+    lists: &mut IndexSet<&'a [usize]>,
+    rows: &[Row],
+) -> Result<Vec<Numbered>, NoMemory>
+    ensures { IfOk result (λ numbered. HavePlaces ranked.now lists.new.keys rows.now numbered.items) }
+{
     let mut numbered = Vec::with_capacity(alloc, rows.len())?;
+    let none = part_or(ranked, 0, 0);
+    let (place, _) = lists.insert_full(none)?;
+    let (mut left, mut left_list) = (place, none);
+    let (mut right, mut right_list) = (place, none);
     for row in rows {
+        let list = part_or(ranked, row.from, row.middle);
+        left = place_of(lists, left_list, left, list)?;
+        left_list = list;
+        let list = part_or(ranked, row.middle, row.end);
+        right = place_of(lists, right_list, right, list)?;
+        right_list = list;
         numbered.push(Numbered {
-            left: number_of(lists, part_or(ranked, row.from, row.middle)),
-            right: number_of(lists, part_or(ranked, row.middle, row.end)),
+            left,
+            right,
             row: *row,
         })?;
     }
     Ok(numbered)
 }
 
-fn number_of(lists: &IndexSet<&[usize]>, list: &[usize]) -> usize
-    ensures { Contains (map (λ f. f.now) lists.now.keys) list.now → IsNumberOf (map (λ f. f.now) lists.now.keys) list.now result }
+// The place of a list, where that of another one is known.
+fn place_of<'a>(
+    lists: &mut IndexSet<&'a [usize]>,
+    known: &[usize],
+    place: usize,
+    list: &'a [usize],
+) -> Result<usize, NoMemory>
+    requires known { StandsAt lists.old.keys known.now place }
+    ensures { IfOk result (λ n. Comes lists.old.keys lists.new.keys list.now n) }
 {
-    lists.get_index_of(list).unwrap_or(0)
+    if list == known {
+        return Ok(place);
+    }
+    let (place, _) = lists.insert_full(list)?;
+    Ok(place)
+}
+
+// The rank of each list: how many of them come before it.
+fn ranks_of_lists(alloc: Global, lists: &[&[usize]]) -> Result<Vec<usize>, NoMemory>
+    ensures { IfOk result (λ ranks. AreRanksBy lent_cmp lists.now ranks.items) }
+{
+    let sorted = lists_in_order(alloc, lists)?;
+    let mut ranks = Vec::with_capacity(alloc, lists.len())?;
+    for list in lists {
+        ranks.push(rank_of_list(&sorted, list))?;
+    }
+    Ok(ranks)
+}
+
+fn lists_in_order<'a>(alloc: Global, lists: &[&'a [usize]]) -> Result<Vec<&'a [usize]>, NoMemory>
+    ensures order { IfOk result (λ sorted. IsSorted lent_cmp sorted.items) }
+    ensures moved { IfOk result (λ sorted. IsPermutation lists.now sorted.items) }
+{
+    let mut sorted = Vec::with_capacity(alloc, lists.len())?;
+    sorted.extend_from_slice(lists)?;
+    sorted.sort()?;
+    Ok(sorted)
+}
+
+fn rank_of_list(sorted: &[&[usize]], list: &&[usize]) -> usize
+    requires { IsSorted lent_cmp sorted.now }
+    ensures { IsRankBy lent_cmp sorted.now list.now result }
+{
+    sorted.partition_point(|other| other.cmp(list) == Ordering::Less)
+}
+
+// The ranks in place of the places.
+fn renumber(numbered: &mut [Numbered], ranks: &[usize])
+    ensures { numbered.new ≡ map (renumbered ranks.now) numbered.old }
+{
+    for one in numbered.iter_mut() {
+        one.left = rank_at(ranks, one.left);
+        one.right = rank_at(ranks, one.right);
+    }
 }
 
 fn part_or(ranks: &[usize], from: usize, to: usize) -> &[usize]

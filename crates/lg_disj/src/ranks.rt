@@ -48,7 +48,14 @@ pub(crate) fn ranks_at(
 {
     let mut ranked = Vec::with_capacity(alloc, places.len())?;
     for place in places {
-        ranked.push(ranks.get(*place).copied().unwrap_or(0))?;
+        ranked.push(rank_at(ranks, *place))?;
     }
     Ok(ranked)
+}
+
+/// The rank at a place.
+pub(crate) fn rank_at(ranks: &[usize], place: usize) -> usize
+    ensures { result ≡ get_or ranks.now place 0 }
+{
+    ranks.get(place).copied().unwrap_or(0)
 }

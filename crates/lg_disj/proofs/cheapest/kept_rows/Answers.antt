@@ -7,7 +7,7 @@ use Rattle.std.proofs.lemmas.Result.{IfOk-weaker}
 use Rattle.lg_disj.specs.declared.numbers.Numbered.{Numbered}
 use Rattle.lg_disj.specs.declared.arena.Row.{Row}
 use Rattle.lg_disj.specs.Ranks.{lists_numbers_cmp, numbers_cmp, IsKept}
-use Rattle.lg_disj.proofs.Numbering.{kept_by_numbers, numbers_total}
+use Rattle.lg_disj.proofs.Numbering.{kept_by_numbers, numbers_total, same_rows}
 use Rattle.lg_disj.proofs.cheapest.kept_rows.Goals as goal
 
 abbrev row : Numbered → Row
@@ -34,5 +34,5 @@ returns-clause-few c =
       c.dedup_by.ensures.bound,
       c.in_ok-sort_by.ensures.len,
       length-map c.in_ok-numbered.numbered.items row,
-      ap length c.in_ok-numbered.ensures.same,
+      ap length (same_rows c.args.ranked.now c.args.rows.now c.in_ok-numbered.numbered.items c.in_ok-numbered.ensures),
     )) c.rows_of.ensures
