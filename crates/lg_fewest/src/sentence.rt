@@ -1,0 +1,71 @@
+//! The least number of unlinked words of a sentence.
+ghost use Rattle.std.specs.Prelude.{◌≡◌, ◌↔◌, Some, length, Contains, IfOk, OnOk};
+ghost use Rattle.lg_gram.specs.Levels.{IsFewest};
+ghost use Rattle.lg_fewest.specs.Spans.{HasFirstSum, IsFirstAlt};
+ghost use Rattle.lg_fewest.specs.Least.{AreLeast, Lowers, SumsDecide};
+
+use crate::law::sums_decide;
+use crate::search::least;
+use crate::span::right_of;
+use crate::table::Table;
+use lg_base::{NoMemory, Own, Steps};
+use lg_gram::Problem;
+use lg_region::{Alt, Alts, Key, Lists, expand_key};
+use std::alloc::Global;
+
+/// The least number of unlinked words that a linkage of the problem leaves. The only error is running out of memory.
+pub fn fewest(alloc: Global, problem: &Problem) -> Result<u32, NoMemory>
+    ensures { IfOk result (IsFewest problem.now) }
+{
+    sums_decide();
+    let words = problem.positions().len() as u32;
+    let lists = Lists::of(alloc, problem)?;
+    lists.are_numbered();
+    let firsts = firsts_of(alloc, &lists, words)?;
+    let mut table = Table::new(alloc);
+    let mut fewest = words;
+    for index in 0..firsts.len() {
+        fewest = begin_at(alloc, &lists, &mut table, firsts.get(index), fewest)?;
+    }
+    Ok(fewest)
+}
+
+// The first linked words, with each of their disjuncts.
+fn firsts_of(alloc: Global, lists: &Lists<'_>, words: u32) -> Result<Alts, NoMemory>
+    requires { words ≡ length lists.now.positions }
+    ensures { IfOk result (λ alts. (a : _) → Contains alts a ↔ IsFirstAlt lists.entry.now a) }
+{
+    let key = Key::Whole {
+        nulls: words.saturating_sub(1),
+    };
+    expand_key(alloc, lists, key, &mut Steps::<Own>::start())
+}
+
+// The least of a number and of the sums of a first linked word: the words before it are unlinked.
+fn begin_at(
+    alloc: Global,
+    lists: &Lists<'_>,
+    table: &mut Table,
+    first: Alt,
+    most: u32,
+) -> Result<u32, NoMemory>
+    requires law { SumsDecide lists.now }
+    requires first { IsFirstAlt lists.now first }
+    requires table { AreLeast lists.now table.old }
+    ensures lowers { IfOk result (λ least. Lowers (HasFirstSum lists.entry.now first) (Some most) (Some least)) }
+    ensures table { OnOk result (AreLeast lists.entry.now table.new) }
+{
+    let Alt::Split { word, .. } = first else {
+        return Ok(most);
+    };
+    if word >= most {
+        return Ok(most);
+    }
+    let Some(behind) = right_of(first) else {
+        return Ok(most);
+    };
+    let Some(right) = least(alloc, lists, table, behind)? else {
+        return Ok(most);
+    };
+    Ok(most.min(word + right))
+}
