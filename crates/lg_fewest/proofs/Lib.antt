@@ -1,2 +1,5 @@
+pub mod Leading
 pub mod Sums
 pub mod Lowering
+pub mod Cutting
+pub mod Whole

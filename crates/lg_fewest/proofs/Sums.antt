@@ -19,6 +19,7 @@ use Rattle.lg_region.specs.declared.alternative.Alt.TheVariants.{AllNull, Split 
 use Rattle.lg_fewest.specs.Spans.{HasFirstSum, HasIn, HasSum, HasUnlinked, IsAltIn, IsFirstAlt, key_of, left_span, region_at, right_span, span_in}
 use Rattle.lg_fewest.specs.Least.{IsNarrower, SumsDecide}
 use Rattle.lg_fewest.specs.declared.span.Span.{Span}
+use Rattle.lg_fewest.proofs.Leading.{no_lists}
 
 -- ---- no more words are unlinked than there are
 
@@ -132,17 +133,16 @@ module _ (n : Numbering) where
         let ends_right = is.cut.ends_right in
         let after = is.cut.after in
         let before = is.cut.before in
-        let cut = cut_at n.positions (region_at n s 0) c x y m is.cut (omega arith) (omega arith) e in
-        (regions n.positions (region_at n s m) (valid_at n.positions (region_at n s 0) m v.2 (omega arith))).1 (split (split_at c x y), cut, (left, right))
+        let whole = cut_at n.positions (region_at n s 0) c x y m is.cut (omega arith) (omega arith) e in
+        (regions n.positions (region_at n s m) (valid_at n.positions (region_at n s 0) m v.2 (omega arith))).1 (split (split_at c x y), whole, (left, right))
     cut_of m (At word number to_left to_right (Some lkey) None) is h = absurd is
     cut_of m (At word number to_left to_right None rkey) is h = absurd is
 
-    cuts : ((s.llist ≡ 0) × (s.rlist ≡ 0) → ⊥) → (m : ℕ) → HasUnlinked n s m ↔ ((a : Alt) × IsAltIn n s a × HasSum n a m)
-    cuts some m = (
-      (λ has. let few = region_few n.positions (region_at n s m) has in
-          let b = (regions n.positions (region_at n s m) (valid_at n.positions (region_at n s 0) m v.2 few)).0 has in sum_of some m b.0 b.1 b.2),
-      (λ h. cut_of m h.0 h.1 h.2),
-    )
+    cut : ((s.llist ≡ 0) × (s.rlist ≡ 0) → ⊥) → (m : ℕ) → HasUnlinked n s m → (a : Alt) × IsAltIn n s a × HasSum n a m
+    cut some m has =
+        let few = region_few n.positions (region_at n s m) has in
+        let b = (regions n.positions (region_at n s m) (valid_at n.positions (region_at n s 0) m v.2 few)).0 has in
+        sum_of some m b.0 b.1 b.2
 
     -- nothing can be joined with an empty list
     no_cut : (s.llist ≡ 0) × (s.rlist ≡ 0) → (m : ℕ) (b : Alternative) → IsAlternative n.positions (region_at n s m) b → m ≡ s.right - suc s.left
@@ -235,8 +235,10 @@ decided positions lists valid regions wholes numbers =
     let n : Numbering = record { positions = positions; lists = lists } in
     record {
       few = λ s m has. region_few positions (region_at n s m) has;
+      bare = λ s v none. no_lists n numbers s v none;
       unlinked = λ s v none m. unlinked n valid numbers regions s v none m;
-      cuts = λ s v some m. cuts n valid numbers regions s v some m;
+      cut = λ s v some m has. cut n valid numbers regions s v some m has;
+      joined = λ s v a m is sum. cut_of n valid numbers regions s v m a is sum;
       left = λ s t a v is e. narrow_left n valid numbers regions s v t a is e;
       right = λ s t a v is e. narrow_right n valid numbers regions s v t a is e;
       firsts = λ m. firsts n valid numbers wholes m;
