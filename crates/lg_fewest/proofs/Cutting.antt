@@ -1,5 +1,5 @@
 -- The sums over the cuts of a span, word by word, group by group, and so on.
-use Rattle.std.proofs.Common.{◌≡◌, ◌↔◌, ◌⊎◌, ℕ, zero, suc, ◌+◌, ◌-◌, ◌<◌, ◌≤◌, inl, inr, refl, sym, ap, ◌∙◌, subst, List, [], ◌++◌, length, Option, Some, None, Contains, slice_get, get_or, slice_index_or, arith}
+use Rattle.std.proofs.Common.{◌≡◌, ◌↔◌, ◌⊎◌, ℕ, zero, suc, ◌+◌, ◌-◌, ◌<◌, ◌≤◌, ◌^◌, inl, inr, refl, sym, ap, ◌∙◌, subst, List, [], ◌++◌, length, Option, Some, None, IfSome, MatchOption, Contains, slice_get, get_or, slice_index_or, arith}
 use Rattle.std.proofs.lemmas.Bool.{cases_lt}
 use Rattle.std.proofs.lemmas.Option.{same_Some, slice_get_within, slice_get-get_or, get_or_from_slice_get}
 use Rattle.lg_region.specs.Parts.{Region}
@@ -15,7 +15,7 @@ use Rattle.lg_region.specs.declared.alternative.Alt.TheVariants.{AllNull, Split 
 use Rattle.lg_region.specs.declared.group.Gap.{Gap}
 use Rattle.lg_region.specs.declared.group.Group.{Group}
 use Rattle.lg_region.specs.declared.opening.Beginning.{Beginning}
-use Rattle.lg_fewest.specs.Spans.{HasIn, HasSum, HasUnlinked, IsAltIn, IsCutSum, IsEnding, StandsAt, key_of, left_span, right_span, span_in}
+use Rattle.lg_fewest.specs.Spans.{HasIn, HasSum, HasUnlinked, IsAltIn, IsCutSum, IsEnding, StandsAt, key_of, left_span, right_span, span_before, span_in}
 use Rattle.lg_fewest.specs.Least.{AreLeast, IsLeast, IsNarrower, IsWithin, Lowers, SumsDecide}
 use Rattle.lg_fewest.specs.declared.span.Span.{Span}
 use Rattle.lg_fewest.proofs.Lowering.{least_of, least_zero, lowers_as, lowers_by, lowers_none, lowers_same, lowers_then, within_more}
@@ -89,6 +89,10 @@ module _ (n : Numbering) (s : Span) where
       ))
       l k
 
+-- it stands in the group
+abbrev pub In : Group → Alt → Type 0
+In g a = StandsIn g.word g.from g.to a
+
 -- ---- the cuts of a span with a list
 
 module _ (n : Numbering) (s : Span) (gap : Gap) (is : IsGapOf n (key_of s) gap) where
@@ -156,9 +160,6 @@ module _ (n : Numbering) (s : Span) (gap : Gap) (is : IsGapOf n (key_of s) gap) 
 
   -- ---- group by group
 
-  abbrev pub In : Group → Alt → Type 0
-  In g a = StandsIn g.word g.from g.to a
-
   stands : (word : ℕ) (a : Alt) → IsAltIn n s a → StandsAt word a → StandsIn word 0 (length (slice_index_or n.positions word [])) a
   stands word AllNull alt at = absurd at
   stands word (At w number to_left to_right (Some lkey) (Some rkey)) (c, alt) at =
@@ -197,49 +198,42 @@ module _ (n : Numbering) (s : Span) (gap : Gap) (is : IsGapOf n (key_of s) gap) 
   leaves_none g (At w number to_left to_right (Some lkey) None) alt h = absurd alt
   leaves_none g (At w number to_left to_right None rkey) alt h = absurd alt
 
-  abbrev pub Ends : Group → Beginning → Alt → Type 0
-  Ends g b a = IsEnding gap g b a
-
-  pub begins_all : (g : Group) (bs : List Beginning) → AreBeginnings n gap g 0 bs → (i : ℕ) (old new : Option ℕ) → length bs ≤ i → Lowers (IsCutSum n s (Among (Ends g) bs i)) old new → Lowers (IsCutSum n s (In g)) old new
+  pub begins_all : (g : Group) (bs : List Beginning) → AreBeginnings n gap g 0 bs → (i : ℕ) (old new : Option ℕ) → length bs ≤ i → Lowers (IsCutSum n s (Among (IsEnding gap g) bs i)) old new → Lowers (IsCutSum n s (In g)) old new
   begins_all g bs are i old new end l =
-      sums_as n s (Among (Ends g) bs i) (In g) old new
+      sums_as n s (Among (IsEnding gap g) bs i) (In g) old new
       (λ a alt. (
         λ (j, b, lt, at, h). h.0,
-        λ h. let r = are.some a ((gap_alt a).0 alt, h) (leaves_none g a alt h) in among_all (Ends g) bs i r.0 a end r.1 (h, r.2),
+        λ h. let r = are.some a ((gap_alt a).0 alt, h) (leaves_none g a alt h) in among_all (IsEnding gap g) bs i r.0 a end r.1 (h, r.2),
       ))
       l
 
-  -- the span to the left of those that begin so
-  abbrev pub before_of : Group → Beginning → Span
-  before_of g b = record { left = gap.left; right = g.word; llist = b.way.near; rlist = b.way.far }
-
-  left_is : (g : Group) (b : Beginning) (a : Alt) → BeginsSo gap g b a → left_span a ≡ Some (before_of g b)
+  left_is : (g : Group) (b : Beginning) (a : Alt) → BeginsSo gap g b a → left_span a ≡ Some (span_before gap g b)
   left_is g b AllNull h = absurd h
   left_is g b (At w number to_left to_right lkey rkey) h = ap span_in h.1
 
-  pub begin_narrow : SumsDecide n → IsValidKey n.positions n.lists (key_of s) → (g : Group) (b : Beginning) → (a : Alt) × IsIn n gap g a × BeginsSo gap g b a → IsNarrower n s (before_of g b)
-  begin_narrow law v g b (a, alt, h) = law.left s (before_of g b) a v ((gap_alt a).1 alt.0) (left_is g b a h)
+  pub begin_narrow : SumsDecide n → IsValidKey n.positions n.lists (key_of s) → (g : Group) (b : Beginning) → (a : Alt) × IsIn n gap g a × BeginsSo gap g b a → IsNarrower n s (span_before gap g b)
+  begin_narrow law v g b (a, alt, h) = law.left s (span_before gap g b) a v ((gap_alt a).1 alt.0) (left_is g b a h)
 
-  left_has : (g : Group) (b : Beginning) (a : Alt) (x : ℕ) → BeginsSo gap g b a → HasIn n (left_span a) x → HasUnlinked n (before_of g b) x
+  left_has : (g : Group) (b : Beginning) (a : Alt) (x : ℕ) → BeginsSo gap g b a → HasIn n (left_span a) x → HasUnlinked n (span_before gap g b) x
   left_has g b a x h has = subst (λ z. HasIn n z x) (left_is g b a h) has
 
-  pub begin_dead : (g : Group) (b : Beginning) (most : Option ℕ) → IsLeast (HasUnlinked n (before_of g b)) None → Lowers (IsCutSum n s (Ends g b)) most most
-  begin_dead g b most none = lowers_none (IsCutSum n s (Ends g b)) most (λ m (a, alt, h, (x, y, hx, hy, e)). none x (left_has g b a x h.1 hx))
+  pub begin_dead : (g : Group) (b : Beginning) (most : Option ℕ) → IsLeast (HasUnlinked n (span_before gap g b)) None → Lowers (IsCutSum n s (IsEnding gap g b)) most most
+  begin_dead g b most none = lowers_none (IsCutSum n s (IsEnding gap g b)) most (λ m (a, alt, h, (x, y, hx, hy, e)). none x (left_has g b a x h.1 hx))
 
-  pub begin_over : (g : Group) (b : Beginning) (most : Option ℕ) (left : ℕ) → IsLeast (HasUnlinked n (before_of g b)) (Some left) → IsWithin most left → Lowers (IsCutSum n s (Ends g b)) most most
+  pub begin_over : (g : Group) (b : Beginning) (most : Option ℕ) (left : ℕ) → IsLeast (HasUnlinked n (span_before gap g b)) (Some left) → IsWithin most left → Lowers (IsCutSum n s (IsEnding gap g b)) most most
   begin_over g b most left least over =
-      lowers_same (IsCutSum n s (Ends g b)) most (λ m (a, alt, h, (x, y, hx, hy, e)). let le = least.1 x (left_has g b a x h.1 hx) in within_more most left m (omega arith) over)
+      lowers_same (IsCutSum n s (IsEnding gap g b)) most (λ m (a, alt, h, (x, y, hx, hy, e)). let le = least.1 x (left_has g b a x h.1 hx) in within_more most left m (omega arith) over)
 
   module _ (g : Group) (b : Beginning) (alts : List Alt) (are : AreExactly alts (λ a. IsAltOfRegion n.positions n.lists (region_of_gap n.lists gap) a × StandsIn g.word g.from g.to a × BeginsSo gap g b a)) where
     pub end_in : (i : ℕ) (a : Alt) → slice_get alts i ≡ Some a → IsAltIn n s a
     end_in i a at = (gap_alt a).1 ((are.each a).0 (contains_at alts i a at)).0
 
-    pub end_left : (left : ℕ) → IsLeast (HasUnlinked n (before_of g b)) (Some left) → (i : ℕ) (a : Alt) → slice_get alts i ≡ Some a → IsLeast (HasIn n (left_span a)) (Some left)
+    pub end_left : (left : ℕ) → IsLeast (HasUnlinked n (span_before gap g b)) (Some left) → (i : ℕ) (a : Alt) → slice_get alts i ≡ Some a → IsLeast (HasIn n (left_span a)) (Some left)
     end_left left least i a at = subst (λ z. IsLeast (HasIn n z) (Some left)) (sym (left_is g b a ((are.each a).0 (contains_at alts i a at)).2)) least
 
-    pub ends_all : (i : ℕ) (old new : Option ℕ) → length alts ≤ i → Lowers (IsCutSum n s (Among (λ (u v : Alt). u ≡ v) alts i)) old new → Lowers (IsCutSum n s (Ends g b)) old new
+    pub ends_all : (i : ℕ) (old new : Option ℕ) → length alts ≤ i → Lowers (IsCutSum n s (Among (λ (u v : Alt). u ≡ v) alts i)) old new → Lowers (IsCutSum n s (IsEnding gap g b)) old new
     ends_all i old new end l =
-        sums_as n s (Among (λ (u v : Alt). u ≡ v) alts i) (Ends g b) old new
+        sums_as n s (Among (λ (u v : Alt). u ≡ v) alts i) (IsEnding gap g b) old new
         (λ a alt. (
           λ (j, x, lt, at, r). let t = (are.each a).0 (subst (λ z. Contains alts z) r (contains_at alts j x at)) in (t.1, t.2),
           λ h. among_all (λ (u v : Alt). u ≡ v) alts i a a end ((are.each a).1 ((gap_alt a).0 alt, h.0, h.1)) refl,
@@ -267,3 +261,35 @@ module _ (n : Numbering) (a : Alt) (most : Option ℕ) where
       lowers_by (HasSum n a) most new (x + y) (end_sum t x y e left right)
       (λ m (u, w, hu, hw, sum). let le = left.1 u hu in let re = right.1 w (subst (λ z. HasIn n z w) e hw) in omega arith)
       l
+
+  -- by cases on what was found on the right
+  pub end_by : (t : Span) (x : ℕ) (found new : Option ℕ) → right_span a ≡ Some t → IsLeast (HasIn n (left_span a)) (Some x) → IsLeast (HasUnlinked n t) found
+      → MatchOption found (new ≡ most) (λ y. Lowers (λ m. m ≡ x + y) most new) → Lowers (HasSum n a) most new
+  end_by t x None new e left least same = subst (λ z. Lowers (HasSum n a) most z) (sym same) (end_dead t e least)
+  end_by t x (Some y) new e left least l = end_lowers new t x y e left least l
+
+-- a sum is no more than all words of the span
+pub end_few : (n : Numbering) (s t : Span) (a : Alt) (x : ℕ) (found : Option ℕ) → SumsDecide n → IsValidKey n.positions n.lists (key_of s) → IsAltIn n s a → s.right < 2 ^ 32 → right_span a ≡ Some t
+    → IsLeast (HasIn n (left_span a)) (Some x) → IsLeast (HasUnlinked n t) found → IfSome found (λ y. x + y < 2 ^ 32)
+end_few n s t a x None law v is short e left least = tt
+end_few n s t a x (Some y) law v is short e left least =
+    let few = law.few s (x + y) (law.joined s v a (x + y) is (end_sum n a None t x y e left least)) in omega arith
+
+-- ---- the table
+
+-- a span more in the table
+pub table_added : (n : Numbering) (s : Span) (least : Option ℕ) (old new : List (Span × Option ℕ)) → AreLeast n old → IsLeast (HasUnlinked n s) least
+    → ((t : Span) (x : Option ℕ) → Contains new (t, x) → Contains old (t, x) ⊎ ((t ≡ s) × (x ≡ least))) → AreLeast n new
+table_added n s least old new are is added t x has =
+    elim (added t x has) [
+      | inl was ↦ are t x was
+      | inr (same, e) ↦ subst (λ z. IsLeast (HasUnlinked n z) x) (sym same) (subst (λ z. IsLeast (HasUnlinked n s) z) (sym e) is)
+    ]
+
+-- ---- what a slice of beginnings shows
+
+abbrev pub no_beginning : Beginning
+no_beginning = record { nulls = 0; way = record { joint = None; near = 0; far = 0 } }
+
+pub same_begins : (n : Numbering) (gap : Gap) (group : Group) (xs ys : List Beginning) → xs ≡ ys → AreBeginnings n gap group 0 ys → AreBeginnings n gap group 0 xs
+same_begins n gap group xs ys e h = subst (AreBeginnings n gap group 0) (sym e) h

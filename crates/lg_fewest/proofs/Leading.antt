@@ -47,28 +47,34 @@ module _ (n : Numbering) (numbers : NumbersTellListsApart n.positions n.lists) (
   right_leads none c is = joined_class c.to_right _ _ _ _ is.at_right (is.by_rlist (ap (list_of n.lists) none))
 
   by_left : s.llist ≢ 0 → (gap : Gap) × IsGapOf n (key_of s) gap
-  by_left some = (gap_by (left_lead n s.llist), record {
-    key_is = refl;
-    known = record { llist = v.0; rlist = v.1; small = class_small (slice_get (list_of n.lists s.llist) (length (list_of n.lists s.llist) - 1)); led = left_leads some };
-    ends = v.2.ends;
-    within = v.2.within;
-    some = λ (l, r). some l;
-    few = v.2.few;
-    lead = λ h. refl;
-    rlead = λ none. absurd (some none);
-  })
+  by_left some = (
+    gap_by (left_lead n s.llist),
+    record {
+      key_is = refl;
+      known = record { llist = v.0; rlist = v.1; small = class_small (slice_get (list_of n.lists s.llist) (length (list_of n.lists s.llist) - 1)); led = left_leads some };
+      ends = v.2.ends;
+      within = v.2.within;
+      some = λ (l, r). some l;
+      few = v.2.few;
+      lead = λ h. refl;
+      rlead = λ none. absurd (some none);
+    },
+  )
 
   by_right : s.llist ≡ 0 → (s.rlist ≢ 0) → (gap : Gap) × IsGapOf n (key_of s) gap
-  by_right none some = (gap_by (right_lead n s.rlist), record {
-    key_is = refl;
-    known = record { llist = v.0; rlist = v.1; small = class_small (slice_get (list_of n.lists s.rlist) (length (list_of n.lists s.rlist) - 1)); led = right_leads none };
-    ends = v.2.ends;
-    within = v.2.within;
-    some = λ (l, r). some r;
-    few = v.2.few;
-    lead = λ h. absurd (h none);
-    rlead = λ none'. refl;
-  })
+  by_right none some = (
+    gap_by (right_lead n s.rlist),
+    record {
+      key_is = refl;
+      known = record { llist = v.0; rlist = v.1; small = class_small (slice_get (list_of n.lists s.rlist) (length (list_of n.lists s.rlist) - 1)); led = right_leads none };
+      ends = v.2.ends;
+      within = v.2.within;
+      some = λ (l, r). some r;
+      few = v.2.few;
+      lead = λ h. absurd (h none);
+      rlead = λ none'. refl;
+    },
+  )
 
   -- where there is no gap, both lists are empty
   pub no_lists : ((gap : Gap) → IsGapOf n (key_of s) gap → ⊥) → (s.llist ≡ 0) × (s.rlist ≡ 0)

@@ -3,3 +3,4 @@ pub mod Sums
 pub mod Lowering
 pub mod Cutting
 pub mod Whole
+pub mod Tables

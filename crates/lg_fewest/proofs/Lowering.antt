@@ -37,7 +37,7 @@ module _ (A : ℕ → Type 0) where
   least_of (Some m) l = (of (l.one_of m refl), λ k has. l.all k has)
     where
       of : (None ≡ Some m) ⊎ A m → A m
-      of (inl no) = absurd cc
+      of (inl never) = absurd cc
       of (inr has) = has
 
   -- nothing is less than 0

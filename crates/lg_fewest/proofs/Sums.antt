@@ -94,7 +94,7 @@ module _ (n : Numbering) where
   span_valid (Whole nulls) k t wide is v narrow e = absurd is
   span_valid (Between left right llist rlist nulls) k t wide is v narrow e =
       let here : Span = record { left = left; right = right; llist = llist; rlist = rlist } in
-      let same : here ≡ t = same_Some e in
+      let same : here ≡ t = same_Some here t e in
       let valid = valid_at n.positions (region_at n here nulls) 0 (subst (λ z. IsValid n.positions z) is.2 v) (omega arith) in
       let narrower : right - left < wide = subst (λ (z : Region). z.right - z.left < wide) is.2 narrow in
       subst (λ z. IsValidKey n.positions n.lists (key_of z) × (z.right - z.left < wide)) same ((is.0, is.1, valid), narrower)

@@ -1,15 +1,12 @@
 -- The least sum over the first linked words of the sentence.
-use Rattle.std.proofs.Common.{◌≡◌, ◌↔◌, ◌⊎◌, ℕ, ◌+◌, ◌-◌, ◌<◌, ◌≤◌, inl, inr, refl, sym, ap, ◌∙◌, subst, List, [], length, Option, Some, None, Contains, slice_get, arith}
+use Rattle.std.proofs.Common.{◌≡◌, ◌↔◌, ◌⊎◌, ℕ, ◌+◌, ◌-◌, ◌<◌, ◌≤◌, ◌^◌, inl, inr, refl, sym, ap, ◌∙◌, subst, List, [], length, Option, Some, None, IfSome, MatchOption, Contains, slice_get, arith}
 use Rattle.std.proofs.lemmas.Option.{same_Some}
 use Rattle.lg_gram.specs.Levels.{IsFewest}
 use Rattle.lg_gram.specs.Linkages.{Linkage, unlinked}
 use Rattle.lg_gram.specs.Rules.{Good}
 use Rattle.lg_region.specs.Fronts.{Numbering}
 use Rattle.lg_region.specs.declared.alternative.Alt.{Alt}
-use Rattle.lg_region.specs.declared.alternative.Alt.TheVariants.{AllNull, Split as At}
-use Rattle.lg_region.specs.declared.key.Joint.{Joint}
-use Rattle.lg_region.specs.declared.key.Key.{Key}
-use Rattle.lg_fewest.specs.Spans.{HasFirstSum, HasIn, HasUnlinked, IsFirstAlt, right_span, span_in}
+use Rattle.lg_fewest.specs.Spans.{HasFirstSum, HasIn, HasUnlinked, IsFirstAlt, right_span, word_in}
 use Rattle.lg_fewest.specs.Least.{IsLeast, IsWithin, Lowers, SumsDecide}
 use Rattle.lg_fewest.specs.declared.span.Span.{Span}
 use Rattle.lg_fewest.proofs.Lowering.{lowers_by, lowers_none, lowers_same, lowers_then, within_more}
@@ -47,21 +44,30 @@ fewest_is n alts i words fewest law firsts end all l = record {
   ];
 }
 
-module _ (n : Numbering) (word number : ℕ) (to_left to_right : Option Joint) (lkey rkey : Option Key) (most : Option ℕ) where
-  abbrev here : Alt
-  here = At word number to_left to_right lkey rkey
+module _ (n : Numbering) (a : Alt) (most : Option ℕ) where
+  pub first_over : IsWithin most (word_in a) → Lowers (HasFirstSum n a) most most
+  first_over over = lowers_same (HasFirstSum n a) most (λ m (y, hy, e). within_more most (word_in a) m (omega arith) over)
 
-  pub first_over : IsWithin most word → Lowers (HasFirstSum n here) most most
-  first_over over = lowers_same (HasFirstSum n here) most (λ m (y, hy, e). within_more most word m (omega arith) over)
+  pub first_none : right_span a ≡ None → Lowers (HasFirstSum n a) most most
+  first_none e = lowers_none (HasFirstSum n a) most (λ m (y, hy, sum). subst (λ z. HasIn n z y) e hy)
 
-  pub first_none : right_span here ≡ None → Lowers (HasFirstSum n here) most most
-  first_none e = lowers_none (HasFirstSum n here) most (λ m (y, hy, sum). subst (λ z. HasIn n z y) e hy)
+  pub first_dead : (t : Span) → right_span a ≡ Some t → IsLeast (HasUnlinked n t) None → Lowers (HasFirstSum n a) most most
+  first_dead t e none = lowers_none (HasFirstSum n a) most (λ m (y, hy, sum). none y (subst (λ z. HasIn n z y) e hy))
 
-  pub first_dead : (t : Span) → right_span here ≡ Some t → IsLeast (HasUnlinked n t) None → Lowers (HasFirstSum n here) most most
-  first_dead t e none = lowers_none (HasFirstSum n here) most (λ m (y, hy, sum). none y (subst (λ z. HasIn n z y) e hy))
-
-  pub first_lowers : (new : Option ℕ) (t : Span) (y : ℕ) → right_span here ≡ Some t → IsLeast (HasUnlinked n t) (Some y) → Lowers (λ m. m ≡ word + y) most new → Lowers (HasFirstSum n here) most new
+  pub first_lowers : (new : Option ℕ) (t : Span) (y : ℕ) → right_span a ≡ Some t → IsLeast (HasUnlinked n t) (Some y) → Lowers (λ m. m ≡ word_in a + y) most new → Lowers (HasFirstSum n a) most new
   first_lowers new t y e right l =
-      lowers_by (HasFirstSum n here) most new (word + y) (y, subst (λ z. HasIn n z y) (sym e) right.0, refl)
+      lowers_by (HasFirstSum n a) most new (word_in a + y) (y, subst (λ z. HasIn n z y) (sym e) right.0, refl)
       (λ m (w, hw, sum). let re = right.1 w (subst (λ z. HasIn n z w) e hw) in omega arith)
       l
+
+-- by cases on what was found behind
+pub first_by : (n : Numbering) (a : Alt) (t : Span) (found : Option ℕ) (word old new : ℕ) → word ≡ word_in a → right_span a ≡ Some t → IsLeast (HasUnlinked n t) found
+    → MatchOption found (new ≡ old) (λ y. Lowers (λ m. m ≡ word + y) (Some old) (Some new)) → Lowers (HasFirstSum n a) (Some old) (Some new)
+first_by n a t None word old new at e least same = subst (λ z. Lowers (HasFirstSum n a) (Some old) (Some z)) (sym same) (first_dead n a (Some old) t e least)
+first_by n a t (Some y) word old new at e least l = first_lowers n a (Some old) (Some new) t y e least (subst (λ z. Lowers (λ m. m ≡ z + y) (Some old) (Some new)) at l)
+
+-- a sum is no more than all words
+pub first_few : (n : Numbering) (a : Alt) (most : ℕ) (t : Span) (found : Option ℕ) → SumsDecide n → IsFirstAlt n a → right_span a ≡ Some t → length n.positions < 2 ^ 31 → word_in a < most → most ≤ length n.positions → IsLeast (HasUnlinked n t) found → IfSome found (λ y. word_in a + y < 2 ^ 32)
+first_few n a most t None law is e short less few least = tt
+first_few n a most t (Some y) law is e short less few least =
+    let v = law.behind t a is e in let y_few = law.few t y least.0 in let within = v.2.within in omega arith

@@ -71,7 +71,14 @@ IsEnding gap g b a = StandsIn g.word g.from g.to a × BeginsSo gap g b a
 abbrev pub IsFirstAlt : Numbering → Alt → Type 0
 IsFirstAlt n a = IsAltOfWhole n.positions n.lists (length n.positions - 1) a
 
--- the words before it and those that a linkage behind it leaves unlinked are so many
+abbrev pub word_in : Alt → ℕ
+word_in AllNull = 0
+word_in (At word number to_left to_right lkey rkey) = word
+
+-- the words before its word and those that a linkage behind it leaves unlinked are so many
 abbrev pub HasFirstSum : Numbering → Alt → ℕ → Type 0
-HasFirstSum n AllNull sum = ⊥
-HasFirstSum n (At word number to_left to_right lkey rkey) sum = (y : ℕ) × HasIn n (span_in rkey) y × (word + y ≡ sum)
+HasFirstSum n a sum = (y : ℕ) × HasIn n (right_span a) y × (word_in a + y ≡ sum)
+
+-- what lies to the left of the cuts that begin so
+abbrev pub span_before : Gap → Group → Beginning → Span
+span_before gap g b = record { left = gap.left; right = g.word; llist = b.way.near; rlist = b.way.far }

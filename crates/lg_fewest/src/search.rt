@@ -1,10 +1,10 @@
 //! The least number of unlinked words of a span: each span is looked at once, depth first.
-ghost use Rattle.std.specs.Prelude.{◌≡◌, ◌↔◌, ◌<◌, ◌≤◌, ℕ, Some, length, IsTrue, IfOk, OnOk, IfSome};
+ghost use Rattle.std.specs.Prelude.{◌≡◌, ◌↔◌, ◌+◌, ◌<◌, ◌^◌, Some, IsTrue, IfOk, IfSome, MatchOption, OnOk};
 ghost use Rattle.lg_region.specs.Groups.{IsGroup, StandsIn};
 ghost use Rattle.lg_region.specs.Keys.{IsAltOfRegion, IsValidKey};
 ghost use Rattle.lg_region.specs.Openings.{BeginsSo, IsGapOf, IsIn};
 ghost use Rattle.lg_region.specs.Groups.{region_of_gap};
-ghost use Rattle.lg_fewest.specs.Spans.{HasIn, HasUnlinked, HasSum, IsAltIn, IsCutSum, IsEnding, StandsAt, key_of, left_span};
+ghost use Rattle.lg_fewest.specs.Spans.{HasIn, HasUnlinked, HasSum, IsAltIn, IsCutSum, IsEnding, StandsAt, key_of, left_span, right_span, span_before};
 ghost use Rattle.lg_fewest.specs.Least.{AreLeast, IsLeast, IsWithin, Lowers, SumsDecide};
 
 use crate::span::{Span, right_of};
@@ -138,7 +138,7 @@ fn cut_in(
     Ok(least)
 }
 
-// The same of those that begin so. Nothing is looked for on the right where the left is no better than the number.
+// The same of those that begin so.
 #[cycle(search)]
 fn begin_with(
     alloc: Global,
@@ -165,9 +165,36 @@ fn begin_with(
         llist: begin.way.near,
         rlist: begin.way.far,
     };
-    let Some(left) = least(alloc, lists, table, before)? else {
-        return Ok(most);
-    };
+    let found = least(alloc, lists, table, before)?;
+    match found {
+        None => Ok(most),
+        Some(left) => go_on(alloc, lists, table, span, gap, group, begin, left, most),
+    }
+}
+
+// The same, where the left side has this least number. Nothing is looked for on the right where it is no better than `most`.
+#[cycle(search)]
+fn go_on(
+    alloc: Global,
+    lists: &Lists<'_>,
+    table: &mut Table,
+    span: Span,
+    gap: &Gap,
+    group: &Group,
+    begin: &Beginning,
+    left: u32,
+    most: Option<u32>,
+) -> Result<Option<u32>, NoMemory>
+    requires law { SumsDecide lists.now }
+    requires span { IsValidKey lists.now.positions lists.now.lists (key_of span) }
+    requires gap { IsGapOf lists.now (key_of span) gap.now }
+    requires group { IsGroup lists.now gap.now group.now }
+    requires begins { (a : _) × IsIn lists.now gap.now group.now a × BeginsSo gap.now group.now begin.now a }
+    requires left { IsLeast (HasUnlinked lists.now (span_before gap.now group.now begin.now)) (Some left) }
+    requires table { AreLeast lists.now table.old }
+    ensures lowers { IfOk result (Lowers (IsCutSum lists.entry.now span (IsEnding gap.now group.now begin.now)) most) }
+    ensures table { OnOk result (AreLeast lists.entry.now table.new) }
+{
     if is_within(most, left) {
         return Ok(most);
     }
@@ -199,13 +226,35 @@ fn end_with(
     ensures lowers { IfOk result (Lowers (HasSum lists.entry.now alt) most) }
     ensures table { OnOk result (AreLeast lists.entry.now table.new) }
 {
-    let Some(behind) = right_of(alt) else {
-        return Ok(most);
-    };
-    let Some(right) = least(alloc, lists, table, behind)? else {
-        return Ok(most);
-    };
-    Ok(lower(most, left + right))
+    match right_of(alt) {
+        None => Ok(most),
+        Some(behind) => end_at(alloc, lists, table, span, alt, behind, left, most),
+    }
+}
+
+// The same, where this is its right side.
+#[cycle(search)]
+fn end_at(
+    alloc: Global,
+    lists: &Lists<'_>,
+    table: &mut Table,
+    span: Span,
+    alt: Alt,
+    behind: Span,
+    left: u32,
+    most: Option<u32>,
+) -> Result<Option<u32>, NoMemory>
+    requires law { SumsDecide lists.now }
+    requires span { IsValidKey lists.now.positions lists.now.lists (key_of span) }
+    requires alt { IsAltIn lists.now span alt }
+    requires behind { right_span alt ≡ Some behind }
+    requires left { IsLeast (HasIn lists.now (left_span alt)) (Some left) }
+    requires table { AreLeast lists.now table.old }
+    ensures lowers { IfOk result (Lowers (HasSum lists.entry.now alt) most) }
+    ensures table { OnOk result (AreLeast lists.entry.now table.new) }
+{
+    let right = least(alloc, lists, table, behind)?;
+    Ok(lower(most, left, right))
 }
 
 // Whether a number, if there is one, is no more than another.
@@ -218,13 +267,22 @@ fn is_within(least: Option<u32>, number: u32) -> bool
     }
 }
 
-// The least of a number, if there is one, and another.
-fn lower(most: Option<u32>, number: u32) -> Option<u32>
+// The least of a number, if there is one, and of a sum, if it has both parts.
+pub(crate) fn lower(most: Option<u32>, left: u32, right: Option<u32>) -> Option<u32>
+    requires { IfSome right (λ right. left + right < 2 ^ 32) }
+    ensures { MatchOption right (result ≡ most) (λ right. Lowers (λ m. m ≡ left + right) most result) }
+{
+    match right {
+        None => most,
+        Some(right) => least_of(most, left + right),
+    }
+}
+
+fn least_of(most: Option<u32>, number: u32) -> Option<u32>
     ensures { Lowers (λ m. m ≡ number) most result }
 {
-    if is_within(most, number) {
-        most
-    } else {
-        Some(number)
+    match most {
+        None => Some(number),
+        Some(most) => Some(most.min(number)),
     }
 }

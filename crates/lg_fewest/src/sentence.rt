@@ -1,12 +1,12 @@
 //! The least number of unlinked words of a sentence.
-ghost use Rattle.std.specs.Prelude.{◌≡◌, ◌↔◌, Some, length, Contains, IfOk, OnOk};
+ghost use Rattle.std.specs.Prelude.{◌≡◌, ◌↔◌, ◌+◌, ◌<◌, ◌≤◌, ◌^◌, Some, length, Contains, IfOk, IfSome, MatchOption, OnOk};
 ghost use Rattle.lg_gram.specs.Levels.{IsFewest};
-ghost use Rattle.lg_fewest.specs.Spans.{HasFirstSum, IsFirstAlt};
+ghost use Rattle.lg_fewest.specs.Spans.{HasFirstSum, IsFirstAlt, right_span};
 ghost use Rattle.lg_fewest.specs.Least.{AreLeast, Lowers, SumsDecide};
 
 use crate::law::sums_decide;
 use crate::search::least;
-use crate::span::right_of;
+use crate::span::{Span, right_of, word_of};
 use crate::table::Table;
 use lg_base::{NoMemory, Own, Steps};
 use lg_gram::Problem;
@@ -51,21 +51,50 @@ fn begin_at(
 ) -> Result<u32, NoMemory>
     requires law { SumsDecide lists.now }
     requires first { IsFirstAlt lists.now first }
+    requires few { most ≤ length lists.now.positions }
     requires table { AreLeast lists.now table.old }
     ensures lowers { IfOk result (λ least. Lowers (HasFirstSum lists.entry.now first) (Some most) (Some least)) }
     ensures table { OnOk result (AreLeast lists.entry.now table.new) }
 {
-    let Alt::Split { word, .. } = first else {
-        return Ok(most);
-    };
+    match right_of(first) {
+        None => Ok(most),
+        Some(behind) => begin_before(alloc, lists, table, first, behind, most),
+    }
+}
+
+// The same, where this lies behind it.
+fn begin_before(
+    alloc: Global,
+    lists: &Lists<'_>,
+    table: &mut Table,
+    first: Alt,
+    behind: Span,
+    most: u32,
+) -> Result<u32, NoMemory>
+    requires law { SumsDecide lists.now }
+    requires first { IsFirstAlt lists.now first }
+    requires behind { right_span first ≡ Some behind }
+    requires few { most ≤ length lists.now.positions }
+    requires table { AreLeast lists.now table.old }
+    ensures lowers { IfOk result (λ least. Lowers (HasFirstSum lists.entry.now first) (Some most) (Some least)) }
+    ensures table { OnOk result (AreLeast lists.entry.now table.new) }
+{
+    lists.keep_limits();
+    let word = word_of(first);
     if word >= most {
         return Ok(most);
     }
-    let Some(behind) = right_of(first) else {
-        return Ok(most);
-    };
-    let Some(right) = least(alloc, lists, table, behind)? else {
-        return Ok(most);
-    };
-    Ok(most.min(word + right))
+    let right = least(alloc, lists, table, behind)?;
+    Ok(least_with(most, word, right))
+}
+
+// The least of a number and of a sum, if it has both parts.
+fn least_with(most: u32, word: u32, right: Option<u32>) -> u32
+    requires { IfSome right (λ right. word + right < 2 ^ 32) }
+    ensures { MatchOption right (result ≡ most) (λ right. Lowers (λ m. m ≡ word + right) (Some most) (Some result)) }
+{
+    match right {
+        None => most,
+        Some(right) => most.min(word + right),
+    }
 }
