@@ -200,7 +200,7 @@ module _ (n : Numbering) where
     first_sum_of m (first c) is has = inr (numbered_first m c is has)
 
     first_of : (m : ℕ) (a : Alt) → IsFirstAlt n a → HasFirstSum n a m → (g : Linkage) × UnderWhole n.positions m g
-    first_of m AllNull is h = absurd h
+    first_of m AllNull is (y, hy, e) = absurd hy
     first_of m (At word number None None None (Some rkey)) (c, is) (y, hy, e) =
         let has = (has_in rkey c.rkey y is.behind).1 hy in
         let few = region_few n.positions (at_nulls c.rkey y) has in

@@ -7,7 +7,7 @@ use Rattle.lg_gram.specs.Rules.{Good}
 use Rattle.lg_region.specs.Fronts.{Numbering}
 use Rattle.lg_region.specs.declared.alternative.Alt.{Alt}
 use Rattle.lg_fewest.specs.Spans.{HasFirstSum, HasIn, HasUnlinked, IsFirstAlt, right_span, word_in}
-use Rattle.lg_fewest.specs.Least.{IsLeast, IsWithin, Lowers, SumsDecide}
+use Rattle.lg_fewest.specs.Least.{AreLeast, IsLeast, IsWithin, Lowers, SumsDecide}
 use Rattle.lg_fewest.specs.declared.span.Span.{Span}
 use Rattle.lg_fewest.proofs.Lowering.{lowers_by, lowers_none, lowers_same, lowers_then, within_more}
 use Rattle.lg_fewest.proofs.Cutting.{Among, among_all, among_next, contains_at}
@@ -71,3 +71,11 @@ pub first_few : (n : Numbering) (a : Alt) (most : ℕ) (t : Span) (found : Optio
 first_few n a most t None law is e short less few least = tt
 first_few n a most t (Some y) law is e short less few least =
     let v = law.behind t a is e in let y_few = law.few t y least.0 in let within = v.2.within in omega arith
+
+-- the least is no more than what it began with
+pub no_more : (A : ℕ → Type 0) (old new : ℕ) → Lowers A (Some old) (Some new) → new ≤ old
+no_more A old new l = l.kept old (omega arith)
+
+-- nothing is known at first
+pub none_known : (n : Numbering) (entries : List (Span × Option ℕ)) → entries ≡ [] → AreLeast n entries
+none_known n entries none s least has = let (k, lt, at) = subst (λ z. Contains z (s, least)) none has in absurd (omega arith)
