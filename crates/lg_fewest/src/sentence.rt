@@ -23,11 +23,29 @@ pub fn fewest(alloc: Global, problem: &Problem) -> Result<u32, NoMemory>
     lists.are_numbered();
     let firsts = firsts_of(alloc, &lists, words)?;
     let mut table = Table::new(alloc);
-    let mut fewest = words;
-    for index in 0..firsts.len() {
-        fewest = begin_at(alloc, &lists, &mut table, firsts.get(index), fewest)?;
-    }
+    let fewest = over_firsts(alloc, &lists, &mut table, &firsts, words)?;
     Ok(fewest)
+}
+
+// The least of the sums of the first linked words, and of all words.
+fn over_firsts(
+    alloc: Global,
+    lists: &Lists<'_>,
+    table: &mut Table,
+    firsts: &Alts,
+    words: u32,
+) -> Result<u32, NoMemory>
+    requires law { SumsDecide lists.now }
+    requires firsts { (a : _) → Contains firsts.now a ↔ IsFirstAlt lists.now a }
+    requires words { words ≡ length lists.now.positions }
+    requires table { AreLeast lists.now table.old }
+    ensures { IfOk result (IsFewest lists.entry.now.positions) }
+{
+    let mut least = words;
+    for index in 0..firsts.len() {
+        least = begin_at(alloc, lists, table, firsts.get(index), least)?;
+    }
+    Ok(least)
 }
 
 // The first linked words, with each of their disjuncts.

@@ -29,9 +29,9 @@ explore-returns-in-None-clause-least t c =
     ((all _).1 (omega arith), λ m has. let e = (all m).0 has in omega arith)
 
 pub explore-least_cut-requires : goal.explore-least_cut-requires
-explore-least_cut-requires t c κs within =
+explore-least_cut-requires t c =
     let n = c.args.lists.now in
-    (search rules, (search rules, (c.requires.law, (c.requires.span, (subst (λ z. IsGapOf n z c.in-Some.gap) c.key.ensures c.in-Some.ensures.gap, c.requires.table)))))
+    (search rules, (c.requires.law, (c.requires.span, (subst (λ z. IsGapOf n z c.in-Some.gap) c.key.ensures c.in-Some.ensures.gap, c.requires.table))))
 
 -- ---- word by word
 
@@ -47,8 +47,8 @@ least_cut-loop-word-preserved t c =
     let after = c.loop-word.invariant.after in
     record {
       after = omega arith;
-      lowers = cut.words_next c.args.lists.now c.args.span c.args.gap.now c.requires.gap c.loop-word.word _ _ _ c.loop-word.invariant.lowers c.in_ok-cut_at.ensures.lowers;
-      table = c.in_ok-cut_at.ensures.table;
+      lowers = cut.words_next c.args.lists.now c.args.span c.args.gap.now c.requires.gap c.loop-word.word _ _ _ c.loop-word.invariant.lowers c.in_ok-least.ensures.lowers;
+      table = c.in_ok-least.ensures.table;
     }
 
 pub least_cut-returns-then-is_within-clause-least : goal.least_cut-returns-then-is_within-clause-least
@@ -72,13 +72,13 @@ cut_at-loop-index-init t c = record {
 }
 
 pub cut_at-cut_in-requires : goal.cut_at-cut_in-requires
-cut_at-cut_in-requires t c κs within =
+cut_at-cut_in-requires t c =
     let gs = c.in_ok-groups.groups.items in
     let end : c.len-index-end.result ≡ length gs = c.len-index-end.ensures ∙ c.in_ok-groups.groups.ok.0 in
     let test = c.loop-index-test.true in
     let at = cut.at_of gs c.loop-index.index c.index.result.now (omega arith) c.index.ensures in
     let is = cut.group_is c.args.lists.now c.args.span c.args.gap.now c.requires.gap c.args.word gs c.in_ok-groups.ensures c.loop-index.index c.index.result.now at in
-    (search rules, (search rules, (c.requires.law, (c.requires.span, (c.requires.gap, (is, c.loop-index.invariant.table))))))
+    (search rules, (c.requires.law, (c.requires.span, (c.requires.gap, (is, c.loop-index.invariant.table)))))
 
 pub cut_at-loop-index-preserved : goal.cut_at-loop-index-preserved
 cut_at-loop-index-preserved t c =
@@ -89,8 +89,8 @@ cut_at-loop-index-preserved t c =
     let at = cut.at_of gs i c.index.result.now (omega arith) c.index.ensures in
     record {
       lowers = cut.sums_then c.args.lists.now c.args.span (cut.Among cut.In gs i) (cut.In c.index.result.now) (cut.Among cut.In gs (i + 1)) c.args.most _ _ (cut.among_next cut.In gs i (i + 1) c.index.result.now refl at)
-          c.loop-index.invariant.lowers c.in_ok-cut_in.ensures.lowers;
-      table = c.in_ok-cut_in.ensures.table;
+          c.loop-index.invariant.lowers c.in_ok-least.ensures.lowers;
+      table = c.in_ok-least.ensures.table;
     }
 
 pub cut_at-returns-clause-lowers : goal.cut_at-returns-clause-lowers
@@ -109,13 +109,13 @@ cut_in-loop-index-init t c = record {
 }
 
 pub cut_in-begin_with-requires : goal.cut_in-begin_with-requires
-cut_in-begin_with-requires t c κs within =
+cut_in-begin_with-requires t c =
     let bs = c.as_slice-begins.result.now in
     let i = c.loop-index.index in
     let test = c.loop-index-test.true in
     let at = slice_get-get_or bs i cut.no_beginning (omega arith) in
     let of = (cut.same_begins c.args.lists.now c.args.gap.now c.args.group.now _ _ c.as_slice-begins.ensures c.in_ok-found.ensures).each (get_or bs i cut.no_beginning) (cut.contains_at bs i (get_or bs i cut.no_beginning) at) in
-    (search rules, (search rules, (c.requires.law, (c.requires.span, (c.requires.gap, (c.requires.group, (of, c.loop-index.invariant.table)))))))
+    (search rules, (c.requires.law, (c.requires.span, (c.requires.gap, (c.requires.group, (of, c.loop-index.invariant.table))))))
 
 pub cut_in-loop-index-preserved : goal.cut_in-loop-index-preserved
 cut_in-loop-index-preserved t c =
@@ -126,8 +126,8 @@ cut_in-loop-index-preserved t c =
     let at = slice_get-get_or bs i cut.no_beginning (omega arith) in
     record {
       lowers = cut.sums_then c.args.lists.now c.args.span (cut.Among (IsEnding c.args.gap.now c.args.group.now) bs i) (IsEnding c.args.gap.now c.args.group.now b) (cut.Among (IsEnding c.args.gap.now c.args.group.now) bs (i + 1)) c.args.most _ _
-          (cut.among_next (IsEnding c.args.gap.now c.args.group.now) bs i (i + 1) b refl at) c.loop-index.invariant.lowers c.in_ok-begin_with.ensures.lowers;
-      table = c.in_ok-begin_with.ensures.table;
+          (cut.among_next (IsEnding c.args.gap.now c.args.group.now) bs i (i + 1) b refl at) c.loop-index.invariant.lowers c.in_ok-least.ensures.lowers;
+      table = c.in_ok-least.ensures.table;
     }
 
 pub cut_in-returns-clause-lowers : goal.cut_in-returns-clause-lowers
@@ -138,10 +138,10 @@ cut_in-returns-clause-lowers t c =
     c.loop-index.index c.args.most c.loop-index.least (omega arith) c.loop-index.invariant.lowers
 
 pub begin_with-least-requires : goal.begin_with-least-requires
-begin_with-least-requires t c κs within =
+begin_with-least-requires t c =
     let narrow = cut.begin_narrow c.args.lists.now c.args.span c.args.gap.now c.requires.gap c.requires.law c.requires.span c.args.group.now c.args.begin.now c.requires.begins in
     let less = narrow.1 in
-    (search rules, (search rules, (c.requires.law, (narrow.0, c.requires.table))))
+    (search rules, (c.requires.law, (narrow.0, c.requires.table)))
 
 pub begin_with-returns-in-None-clause-lowers : goal.begin_with-returns-in-None-clause-lowers
 begin_with-returns-in-None-clause-lowers t c =
@@ -149,9 +149,9 @@ begin_with-returns-in-None-clause-lowers t c =
     (subst (λ z. IsLeast (HasUnlinked c.args.lists.now (span_before c.args.gap.now c.args.group.now c.args.begin.now)) z) c.in-None.is c.in_ok-found.ensures.least)
 
 pub begin_with-go_on-requires : goal.begin_with-go_on-requires
-begin_with-go_on-requires t c κs within =
+begin_with-go_on-requires t c =
     let left = subst (λ z. IsLeast (HasUnlinked c.args.lists.now (span_before c.args.gap.now c.args.group.now c.args.begin.now)) z) c.in-Some.is c.in_ok-found.ensures.least in
-    (search rules, (search rules, (c.requires.law, (c.requires.span, (c.requires.gap, (c.requires.group, (c.requires.begins, (left, c.in_ok-found.ensures.table))))))))
+    (search rules, (c.requires.law, (c.requires.span, (c.requires.gap, (c.requires.group, (c.requires.begins, (left, c.in_ok-found.ensures.table)))))))
 
 -- ---- alternative by alternative
 
@@ -169,7 +169,7 @@ go_on-loop-index-init t c = record {
 }
 
 pub go_on-end_with-requires : goal.go_on-end_with-requires
-go_on-end_with-requires t c κs within =
+go_on-end_with-requires t c =
     let n = c.args.lists.now in
     let alts = c.push_endings.new.out.items in
     let are = cut.from_none _ alts _ c.new-alts.ensures.items c.in_ok-push_endings.ensures.endings in
@@ -177,7 +177,7 @@ go_on-end_with-requires t c κs within =
     let at = cut.at_of alts c.loop-index.index c.index.result.now (omega arith) c.index.ensures in
     let alt = cut.end_in n c.args.span c.args.gap.now c.requires.gap c.args.group.now c.args.begin.now alts are c.loop-index.index c.index.result.now at in
     let left = cut.end_left n c.args.span c.args.gap.now c.requires.gap c.args.group.now c.args.begin.now alts are c.args.left c.requires.left c.loop-index.index c.index.result.now at in
-    (search rules, (search rules, (c.requires.law, (c.requires.span, (alt, (left, c.loop-index.invariant.table))))))
+    (search rules, (c.requires.law, (c.requires.span, (alt, (left, c.loop-index.invariant.table)))))
 
 pub go_on-loop-index-preserved : goal.go_on-loop-index-preserved
 go_on-loop-index-preserved t c =
@@ -189,8 +189,8 @@ go_on-loop-index-preserved t c =
     let at = cut.at_of alts i c.index.result.now (omega arith) c.index.ensures in
     let alt = cut.end_in n c.args.span c.args.gap.now c.requires.gap c.args.group.now c.args.begin.now alts are i c.index.result.now at in
     record {
-      lowers = cut.sums_next n c.args.span alts i (i + 1) c.index.result.now c.args.most _ _ refl at alt c.loop-index.invariant.lowers c.in_ok-end_with.ensures.lowers;
-      table = c.in_ok-end_with.ensures.table;
+      lowers = cut.sums_next n c.args.span alts i (i + 1) c.index.result.now c.args.most _ _ refl at alt c.loop-index.invariant.lowers c.in_ok-lowest.ensures.lowers;
+      table = c.in_ok-lowest.ensures.table;
     }
 
 pub go_on-returns-clause-lowers : goal.go_on-returns-clause-lowers
@@ -204,14 +204,14 @@ pub end_with-returns-in-None-clause-lowers : goal.end_with-returns-in-None-claus
 end_with-returns-in-None-clause-lowers t c = cut.end_none c.args.lists.now c.args.alt c.args.most (sym c.right_of.ensures ∙ c.in-None.is)
 
 pub end_with-end_at-requires : goal.end_with-end_at-requires
-end_with-end_at-requires t c κs within =
-    (search rules, (search rules, (c.requires.law, (c.requires.span, (c.requires.alt, (sym c.right_of.ensures ∙ c.in-Some.is, (c.requires.left, c.requires.table)))))))
+end_with-end_at-requires t c =
+    (search rules, (c.requires.law, (c.requires.span, (c.requires.alt, (sym c.right_of.ensures ∙ c.in-Some.is, (c.requires.left, c.requires.table))))))
 
 pub end_at-least-requires : goal.end_at-least-requires
-end_at-least-requires t c κs within =
+end_at-least-requires t c =
     let narrow = c.requires.law.right c.args.span c.args.behind c.args.alt c.requires.span c.requires.alt c.requires.behind in
     let less = narrow.1 in
-    (search rules, (search rules, (c.requires.law, (narrow.0, c.requires.table))))
+    (search rules, (c.requires.law, (narrow.0, c.requires.table)))
 
 pub end_at-lower-requires : goal.end_at-lower-requires
 end_at-lower-requires t c =
