@@ -1,14 +1,13 @@
 -- The sums over the cuts of a span, word by word, group by group, and so on.
-use Rattle.std.proofs.Common.{◌≡◌, ◌↔◌, ◌⊎◌, ℕ, zero, suc, ◌+◌, ◌-◌, ◌<◌, ◌≤◌, ◌^◌, inl, inr, refl, sym, ap, ◌∙◌, subst, List, [], ◌++◌, length, Option, Some, None, IfSome, MatchOption, Contains, slice_get, get_or, slice_index_or, arith}
+use Rattle.std.proofs.Common.{◌≡◌, ◌↔◌, ◌⊎◌, ℕ, ◌+◌, ◌<◌, ◌≤◌, ◌^◌, inl, inr, refl, sym, ap, ◌∙◌, subst, List, [], ◌++◌, length, Option, Some, None, IfSome, MatchOption, Contains, slice_get, get_or, slice_index_or, arith}
 use Rattle.std.proofs.lemmas.Bool.{cases_lt}
 use Rattle.std.proofs.lemmas.Option.{same_Some, slice_get_within, slice_get-get_or, get_or_from_slice_get}
 use Rattle.lg_region.specs.Parts.{Region}
 use Rattle.lg_region.specs.Fronts.{Numbering}
 use Rattle.lg_region.specs.Groups.{IsGroup, StandsBefore, StandsIn, region_of_gap}
 use Rattle.lg_region.specs.Keys.{IsAltOf, IsAltOfRegion, IsValidKey}
-use Rattle.lg_region.specs.Openings.{AreBeginnings, BeginsSo, GroupsOfWord, IsGapOf, IsIn, LeavesLeft, left_of}
+use Rattle.lg_region.specs.Openings.{AreBeginnings, BeginsSo, GroupsOfWord, IsGapOf, IsIn, LeavesLeft}
 use Rattle.lg_region.specs.Ways.{AddsExactly, AreExactly}
-use Rattle.lg_region.specs.declared.key.Key.{Key}
 use Rattle.lg_region.specs.declared.key.Key.TheVariants.{Whole, Region as Between}
 use Rattle.lg_region.specs.declared.alternative.Alt.{Alt}
 use Rattle.lg_region.specs.declared.alternative.Alt.TheVariants.{AllNull, Split as At}

@@ -1,11 +1,10 @@
 -- A span with a list has a gap: the class of its list leads to the disjuncts that can cut it.
-use Rattle.std.proofs.Common.{◌≡◌, ◌≢◌, ℕ, zero, suc, ◌+◌, ◌-◌, ◌*◌, ◌%◌, ◌<◌, ◌≤◌, refl, sym, ap, ◌∙◌, subst, List, [], ◌∷◌, fold, length, Option, Some, None, IsSome, slice_get, arith}
+use Rattle.std.proofs.Common.{◌≡◌, ◌≢◌, ℕ, zero, suc, ◌+◌, ◌-◌, ◌*◌, ◌%◌, ◌<◌, refl, sym, ap, ◌∙◌, List, [], ◌∷◌, fold, length, Option, Some, None, IsSome, slice_get, arith}
 use Rattle.lg_gram.specs.Connectors.{Connector}
-use Rattle.lg_region.specs.Parts.{Region}
 use Rattle.lg_region.specs.Chains.{class_of_caps, class_at, class_of}
-use Rattle.lg_region.specs.Cuts.{IsCut, IsCutAt, Split}
+use Rattle.lg_region.specs.Cuts.{IsCutAt}
 use Rattle.lg_region.specs.Fronts.{Numbering, list_of}
-use Rattle.lg_region.specs.Groups.{Leads, left_lead, right_lead, region_of_gap}
+use Rattle.lg_region.specs.Groups.{Leads, left_lead, right_lead}
 use Rattle.lg_region.specs.Keys.{IsValidKey}
 use Rattle.lg_region.specs.Laws.{NumbersTellListsApart}
 use Rattle.lg_region.specs.Openings.{IsGapOf}

@@ -1,8 +1,5 @@
 -- The least of a number and of others, part by part.
-use Rattle.std.proofs.Common.{◌≡◌, ◌↔◌, ◌⊎◌, ℕ, ◌+◌, ◌<◌, ◌≤◌, inl, inr, refl, sym, ap, ◌∙◌, subst, Option, Some, None, IsTrue, arith}
-use Rattle.std.proofs.lemmas.Bool.{cases_lt}
-use Rattle.std.proofs.lemmas.Option.{same_Some}
-use Rattle.lg_gram.specs.Levels.{IsFewest}
+use Rattle.std.proofs.Common.{◌≡◌, ◌↔◌, ◌⊎◌, ℕ, ◌≤◌, inl, inr, refl, sym, subst, Option, Some, None, arith}
 use Rattle.lg_fewest.specs.Least.{IsLeast, IsWithin, Lowers}
 
 module _ (A : ℕ → Type 0) where

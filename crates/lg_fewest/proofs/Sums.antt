@@ -1,5 +1,5 @@
 -- The numbers of a span's unlinked words are the sums over its cuts, and those of the sentence the sums over its first linked words.
-use Rattle.std.proofs.Common.{◌≡◌, ◌↔◌, ◌⊎◌, ℕ, zero, suc, ◌+◌, ◌-◌, ◌<◌, ◌≤◌, inl, inr, refl, sym, ap, ◌∙◌, subst, List, [], length, Option, Some, None, IsSome, Contains, slice_get, slice_index_or, arith}
+use Rattle.std.proofs.Common.{◌≡◌, ◌↔◌, ◌⊎◌, ℕ, zero, suc, ◌+◌, ◌-◌, ◌<◌, ◌≤◌, inl, inr, refl, sym, ap, subst, List, [], length, Option, Some, None, IsSome, Contains, slice_get, slice_index_or, arith}
 use Rattle.std.proofs.lemmas.Option.{same_Some, slice_get-get_or}
 use Rattle.lg_gram.specs.Connectors.{Connector}
 use Rattle.lg_gram.specs.Linkages.{Linkage}
@@ -10,7 +10,7 @@ use Rattle.lg_region.specs.Cuts.{IsCutAt, Alternative, all_null, split, Split, I
 use Rattle.lg_region.specs.Whole.{First, IsFirst, WholeAlternative, nothing, first, IsWholeAlternative}
 use Rattle.lg_region.specs.Fronts.{Numbering, list_of}
 use Rattle.lg_region.specs.Laws.{CutsAreValid, AlternativesDecide, WholeAlternativesDecide, NumbersTellListsApart, HasLinkage, KeysHave, WholeKeyHas}
-use Rattle.lg_region.specs.Keys.{IsValidKey, IsAltOfWhole, IsAltOfRegion, IsKeyOf, IsDisjunctAt, region_of_numbers}
+use Rattle.lg_region.specs.Keys.{IsValidKey, IsKeyOf, IsDisjunctAt}
 use Rattle.lg_region.specs.declared.key.Joint.{Joint}
 use Rattle.lg_region.specs.declared.key.Key.{Key}
 use Rattle.lg_region.specs.declared.key.Key.TheVariants.{Whole, Region as Between}

@@ -1,5 +1,5 @@
 -- What a table tells of its entries, where `==` at the spans tells whether they are the same.
-use Rattle.std.proofs.Common.{◌≡◌, refl, sym, ap, ◌∙◌, subst, Bool, true, false, List, Option, Some, None, IfSome, ◌⊎◌, inl, inr, cond, ℕ, Contains, Bor, rules}
+use Rattle.std.proofs.Common.{◌≡◌, refl, sym, ap, ◌∙◌, Bool, true, false, List, Option, Some, None, IfSome, ◌⊎◌, inl, inr, cond, Contains, Bor, rules}
 use Rattle.std.specs.Cmp.{IsEquivalence}
 use Rattle.std.specs.Bool.{Decides}
 use Rattle.std.specs.Map.{lookup}

@@ -1,9 +1,8 @@
 -- The least sum over the first linked words of the sentence.
-use Rattle.std.proofs.Common.{◌≡◌, ◌↔◌, ◌⊎◌, ℕ, ◌+◌, ◌-◌, ◌<◌, ◌≤◌, ◌^◌, inl, inr, refl, sym, ap, ◌∙◌, subst, List, [], length, Option, Some, None, IfSome, MatchOption, Contains, slice_get, arith}
+use Rattle.std.proofs.Common.{◌≡◌, ◌↔◌, ℕ, ◌+◌, ◌<◌, ◌≤◌, ◌^◌, inl, inr, refl, sym, ◌∙◌, subst, List, [], length, Option, Some, None, IfSome, MatchOption, Contains, slice_get, arith}
 use Rattle.std.proofs.lemmas.Option.{same_Some}
 use Rattle.lg_gram.specs.Levels.{IsFewest}
-use Rattle.lg_gram.specs.Linkages.{Linkage, unlinked}
-use Rattle.lg_gram.specs.Rules.{Good}
+use Rattle.lg_gram.specs.Linkages.{unlinked}
 use Rattle.lg_region.specs.Fronts.{Numbering}
 use Rattle.lg_region.specs.declared.alternative.Alt.{Alt}
 use Rattle.lg_fewest.specs.Spans.{HasFirstSum, HasIn, HasUnlinked, IsFirstAlt, right_span, word_in}

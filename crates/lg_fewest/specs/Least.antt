@@ -1,5 +1,5 @@
 -- The least number of unlinked words.
-use Rattle.std.specs.Prelude.{◌≡◌, ◌↔◌, ℕ, suc, ◌+◌, ◌-◌, ◌<◌, ◌≤◌, List, length, Option, None, Some, ◌⊎◌}
+use Rattle.std.specs.Prelude.{◌≡◌, ◌↔◌, ℕ, suc, ◌-◌, ◌<◌, ◌≤◌, List, length, Option, None, Some, ◌⊎◌}
 use Rattle.std.specs.List.{Contains}
 use Rattle.lg_gram.specs.Linkages.{Linkage}
 use Rattle.lg_region.specs.Parts.{UnderWhole}

@@ -1,4 +1,4 @@
-use Rattle.std.proofs.Common.{◌+◌, ◌<◌, ◌≤◌, ◌^◌, Some, IfSome, sym, subst, arith}
+use Rattle.std.proofs.Common.{◌+◌, ◌<◌, ◌^◌, Some, IfSome, sym, subst, arith}
 use Rattle.lg_fewest.proofs.Whole.{first_by, first_few, first_over}
 use Rattle.lg_fewest.proofs.sentence.begin_before.Goals as goal
 

@@ -1,4 +1,4 @@
-use Rattle.std.proofs.Common.{sym, ap, subst, length, ◌∙◌}
+use Rattle.std.proofs.Common.{subst}
 use Rattle.lg_gram.specs.Levels.{IsFewest}
 use Rattle.lg_fewest.proofs.Whole.{none_known}
 use Rattle.lg_fewest.proofs.sentence.fewest.Goals as goal

@@ -1,4 +1,4 @@
-use Rattle.std.proofs.Common.{◌-◌, ◌≤◌, length, arith, rules}
+use Rattle.std.proofs.Common.{arith}
 use Rattle.lg_fewest.proofs.sentence.firsts_of.Goals as goal
 
 pub expand_key-requires-clause-key : goal.expand_key-requires-clause-key

@@ -1,4 +1,4 @@
-use Rattle.std.proofs.Common.{◌+◌, ◌≤◌, refl, Some, length, arith}
+use Rattle.std.proofs.Common.{◌+◌, refl, Some, arith}
 use Rattle.lg_fewest.proofs.Cutting.{contains_at}
 use Rattle.lg_fewest.proofs.Whole.{fewest_is, no_more, sums_more, sums_start}
 use Rattle.lg_fewest.proofs.sentence.over_firsts.Goals as goal
