@@ -4,7 +4,7 @@ use Rattle.lg_answer.proofs.search.Search.at_fewest.Goals as goal
 
 -- no linkage leaves more words unlinked than there are
 pub solve_at_by-requires-clause-nulls : goal.solve_at_by-requires-clause-nulls
-solve_at_by-requires-clause-nulls g c =
+solve_at_by-requires-clause-nulls g c κs within =
     let least = c.in_ok-nulls.ensures.some in
     subst (λ z. z ≤ length c.args.problem) least.2 (few_unlinked c.args.problem least.0 least.1)
 
