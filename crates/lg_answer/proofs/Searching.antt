@@ -1,10 +1,11 @@
 -- A search begins with a sharper problem, and goes on with the problem itself.
-use Rattle.std.proofs.Common.{◌≡◌, ◌↔◌, ◌==◌, ℕ, suc, ◌+◌, ◌<◌, ◌≤◌, inl, inr, cond, List, [], ◌∷◌, ◌++◌, length, get_or, Contains, Bool, Option, None, Some, refl, subst, ◌∙◌, arith}
+use Rattle.std.proofs.Common.{◌≡◌, ◌↔◌, ◌==◌, ℕ, suc, ◌+◌, ◌<◌, ◌≤◌, inl, inr, cond, List, [], ◌∷◌, ◌++◌, length, get_or, Contains, Bool, Option, None, Some, refl, sym, subst, ◌∙◌, arith}
 use Rattle.std.specs.Prelude.{is_none}
 use Rattle.std.specs.List.{count_by}
 use Rattle.std.proofs.lemmas.Bool.{cases_lt, ne_eqb}
 use Rattle.std.proofs.lemmas.List.Sums.{sum_by-cons, count_by-le-length}
 use Rattle.lg_gram.specs.Linkages.{Linkage, linkage_cmp, unlinked}
+use Rattle.lg_gram.specs.Levels.{IsFewest}
 use Rattle.lg_gram.specs.Rules.{Good}
 use Rattle.lg_gram.specs.declared.disjunct.Disjunct.{Disjunct}
 use Rattle.lg_gram.specs.declared.listing.Stats.{Stats}
@@ -42,7 +43,7 @@ blank_count (ds ∷ positions) (o ∷ os) same listed =
 blanks_least : (positions : List (List Disjunct)) (g : Linkage) → Good positions g → blanks positions ≤ unlinked g
 blanks_least positions g good = blank_count positions g.chosen good.belongs.same_length good.belongs.listed
 
-few_unlinked : (positions : List (List Disjunct)) (g : Linkage) → Good positions g → unlinked g ≤ length positions
+pub few_unlinked : (positions : List (List Disjunct)) (g : Linkage) → Good positions g → unlinked g ≤ length positions
 few_unlinked positions g good = let most = count_by-le-length is_none g.chosen in let same = good.belongs.same_length in omega arith
 
 module _ (positions sharp : List (List Disjunct)) where
@@ -106,6 +107,15 @@ module _ (positions sharp : List (List Disjunct)) where
 -- each linkage leaves the words unlinked that have no disjunct
 pub no_fewer_than_blanks : (positions : List (List Disjunct)) (n : ℕ) → n ≡ blanks positions → HasNoFewer positions n
 no_fewer_than_blanks positions n count g good = let least = blanks_least positions g good in omega arith
+
+-- the level of the fewest unlinked words alone
+pub begins_fewest : (positions : List (List Disjunct)) (nulls unused : ℕ) (ranked : Ranking) → IsFewest positions nulls → unused ≡ nulls → ranked ≡ record { positions = positions; nulls = unused; position = 0 } → Begins positions ranked
+begins_fewest positions nulls unused ranked is same at = rw at (record {
+  keeps = λ g. (λ h. h, λ h. h);
+  same_length = refl;
+  fewest = subst (IsFewest positions) (sym same) is;
+  first = refl;
+})
 
 pub begins_wide : (positions : List (List Disjunct)) (ranked : Ranking) → BeginsSharper positions ranked → Begins positions (record { positions = positions; nulls = ranked.nulls; position = ranked.position })
 begins_wide positions ranked is = record { keeps = λ g. (λ h. h, λ h. h); same_length = refl; fewest = is.fewest; first = is.first }

@@ -10,6 +10,7 @@ ghost use Rattle.lg_answer.specs.Searches.{Begins, BeginsSharper, HasFew, HasNoF
 
 use crate::options::Options;
 use lg_base::{NoMemory, Own, Steps};
+use lg_fewest::fewest;
 use lg_forest::{Forest, solve, solve_at, solve_at_by};
 use lg_gram::{Linkage, Problem};
 use lg_rank::Ranked;
@@ -103,8 +104,25 @@ impl Search {
     {
         let words = words_of(&problem);
         let sharp = sharpen(alloc, problem, words)?;
-        let search = Search::whole(rt, alloc, sharp, workers)?;
+        let search = Search::at_fewest(rt, alloc, sharp, workers)?;
         Ok(search)
+    }
+
+    // The search of the level of the fewest unlinked words alone, which one pass tells.
+    fn at_fewest<R: Threads + Sync>(
+        rt: &R,
+        alloc: Global,
+        problem: Problem,
+        workers: u32,
+    ) -> Result<Search, NoMemory>
+        requires workers { AreWorkers workers }
+        ensures { IfOk result (Begins problem) }
+    {
+        let nulls = fewest(alloc, &problem)?;
+        let mut steps = Steps::<Own>::start();
+        let forest = solve_at_by(rt, alloc, &problem, nulls, workers, &mut steps)?;
+        let ranked = Ranked::new(alloc, problem, forest)?;
+        Ok(Search { ranked, wide: None })
     }
 
     fn whole<R: Threads + Sync>(

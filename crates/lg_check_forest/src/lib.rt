@@ -2,6 +2,8 @@
 #![tactic(auto)]
 
 #[cfg(test)]
+mod fewest;
+#[cfg(test)]
 mod forest;
 #[cfg(test)]
 mod memo;
