@@ -48,7 +48,7 @@ module _ {H : Type 0} (scripts : List (List CommandView)) (base : Dictionary) (s
 
   -- one step more
   pub steps_on : (p q r : Standing) (x y z : List Actor) (note : Option Note) (notes : List Note) → Path scripts base session.session p x q y [] → Acts scripts base session.session q y r z note
-      → option_to_list note ≡ notes → Path scripts base session.session p x r z notes
+      → option_to_list note ++ [] ≡ notes → Path scripts base session.session p x r z notes
   steps_on p q r x y z note notes path acts is = subst (Path scripts base session.session p x r z) is
       (path_append scripts base session.session p q r x y z [] _ path (paths.goes q r r y z z note [] acts (paths.ends r z)))
 
