@@ -22,13 +22,13 @@ use Rattle.lg_core.specs.declared.state.Hold.{Hold}
 use Rattle.lg_core.specs.Core as happens
 use Rattle.lg_core.specs.Core.{sentence_of, Happens, ended, note_of}
 use Rattle.lg_session.specs.declared.session.Session.{Session}
-use Rattle.lg_session.specs.Answering.{later, Stays, AnswersSo, ending, EndsWith, IsAnswered, GivesNextPage}
+use Rattle.lg_session.specs.Answering.{later, Stays, AnswersSo, ending, IsAnswered, GivesNextPage}
 use Rattle.lg_script.specs.Codes.{place_of}
 use Rattle.lg_session.specs.Engines.{Meaning, Progress, start_of, moved, IsOpened, GoesOn}
 use Rattle.lg_session.specs.Legal as legal
 use Rattle.lg_session.specs.Legal.{Holding, AsksFor, AnswerIs}
 use Rattle.lg_session.specs.Paths as paths
-use Rattle.lg_session.specs.Paths.{known, HeldAs, StandsFor, Tells}
+use Rattle.lg_session.specs.Paths.{known, HeldAs, Tells}
 use Rattle.lg_session.specs.Turns.{Story, run_in, journal_in, place_in, HoldsSo, HasCome, IsTimely}
 use Rattle.lg_session.proofs.Ending as actors_of
 use Rattle.lg_session.proofs.Ending.{nothing_held, listing_held}

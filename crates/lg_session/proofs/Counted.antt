@@ -26,9 +26,9 @@ use Rattle.lg_script.specs.Codes.{place_of, places_of, code_after}
 use Rattle.lg_session.specs.Engines.{Meaning, Progress}
 use Rattle.lg_session.specs.Learning.{Known, Learns, MeetsEnd, Accepts, Publishes}
 use Rattle.lg_session.specs.Legal as legal
-use Rattle.lg_session.specs.Legal.{Holding, AnswerIs}
+use Rattle.lg_session.specs.Legal.{AnswerIs}
 use Rattle.lg_session.specs.Paths as paths
-use Rattle.lg_session.specs.Paths.{known, HeldAs, Path, StandsFor, TakesSteps, Tells}
+use Rattle.lg_session.specs.Paths.{known, HeldAs, Path, StandsFor, Tells}
 use Rattle.lg_session.specs.Turns.{Story, run_in, journal_in, place_in, IsAt, HasCome, added, LooksFor, Grows, Turned}
 use Rattle.lg_session.proofs.Answered.{holds_on, is_refused}
 use Rattle.lg_session.proofs.Elsewhere.{own_in, others_elsewhere, own_here, own_stands}

@@ -1,5 +1,5 @@
 -- The paths of all sessions as one run: at each length of the history each session does what it did there, and then the history grows.
-use Rattle.std.proofs.Common.{◌≡◌, ◌≢◌, ◌==◌, ℕ, zero, suc, ◌+◌, ◌≤◌, ◌<◌, ◌⊎◌, inl, inr, ⊎_elim, Bool, true, false, cond, ◌||◌, eqb, List, [], ◌∷◌, ◌++◌, length, replicate, filter, count_by, get_or, Option, Some, None, slice_get, slice_set, refl, ap, sym, subst, ◌∙◌, arith, append_assoc, append-nil, eq-eqb, ne_eqb, eqb-true}
+use Rattle.std.proofs.Common.{◌≡◌, ◌≢◌, ◌==◌, ℕ, zero, suc, ◌+◌, ◌≤◌, ◌<◌, ◌⊎◌, inl, inr, ⊎_elim, Bool, true, false, cond, ◌||◌, eqb, List, [], ◌∷◌, ◌++◌, length, replicate, count_by, get_or, Option, Some, None, slice_get, slice_set, refl, ap, sym, subst, ◌∙◌, arith, append_assoc, append-nil, eq-eqb, ne_eqb, eqb-true}
 use Rattle.std.specs.List.{list_all}
 use Rattle.std.specs.Option.{option_to_list}
 use Rattle.std.proofs.lemmas.Bool.{and_parts, cases_eq, both_ways}
@@ -21,7 +21,7 @@ use Rattle.lg_core.specs.Lawful.{Runs, EveryRunIsLegal, notes_of}
 use Rattle.lg_session.specs.Paths.{AreTold, PathsMakeRuns}
 use Rattle.lg_session.proofs.Replayed.{get_set, get_other, IsOwn, Moves}
 use Rattle.lg_session.proofs.Levels as levels
-use Rattle.lg_session.proofs.Levels.{one_path, Own, Crosses, Solo, by_levels}
+use Rattle.lg_session.proofs.Levels.{one_path, Own, Crosses, Solo, by_levels, from_start}
 
 past : (j t : ℕ) → j ≤ t → t ≢ j → suc j ≤ t
 past zero zero le apart = absurd (apart refl)
@@ -29,7 +29,7 @@ past zero (suc t) le apart = omega arith
 past (suc j) zero le apart = absurd (omega (arith, le))
 past (suc j) (suc t) le apart = let less = past j t (omega (arith, le)) (λ e. apart (ap suc e)) in omega (arith, less)
 
-at_first : (n s : ℕ) → s < n → slice_get (replicate n newcomer) s ≡ Some newcomer
+pub at_first : (n s : ℕ) → s < n → slice_get (replicate n newcomer) s ≡ Some newcomer
 at_first zero s less = absurd (omega (arith, less))
 at_first (suc n) zero less = refl
 at_first (suc n) (suc s) less = at_first n s (omega (arith, less))
@@ -215,7 +215,7 @@ make_runs of_edits legal scripts base good history codes lists many ends =
           let end = ends s replies found in
           let path = one_path scripts base s end.log end.pass end.actors replies end.turns in
           let goes = by_levels scripts base s (at_start end.log (s ∷ [])) end.pass (start_of n).actors end.actors path.0 path.1 newcomer (at_first n s there) end.all.rest end.all.none in
-          (newcomer, at_first n s there, (path.0, subst (λ (l : List ℕ). Solo scripts base s l [] newcomer path.0) (sym (end.all.begins ∙ goes.1)) goes.2,
+          (newcomer, at_first n s there, (path.0, from_start scripts base s end.log history (end.pass.seen ++ end.all.rest) newcomer path.0 end.all.begins goes,
           λ others is. subst (λ (l : List Reply). AreTold l path.0) (same_Some replies others (sym found ∙ is)) path.2));
     }) in
     let core : Core = record { history = history; actors = state.actors } in record {

@@ -113,3 +113,7 @@ module _ (scripts : List (List CommandView)) (base : Dictionary) (s : ℕ) where
   by_levels _ _ _ _ _ (paths.ends pass actors) a at tail none = (tail, refl, idle tail pass.seen a none)
   by_levels _ _ _ _ _ (paths.goes pass next last actors then final note notes acts path) a at tail none =
       act (last.seen ++ tail) notes pass next actors then note acts a at (λ b there. by_levels next last then final notes path b there tail none)
+
+  -- from the start on, in the whole history
+  pub from_start : (log : LogId) (whole seen : List ℕ) (a : Actor) (notes : List Note) → whole ≡ seen → Goes seen (at_start log (s ∷ [])) a notes → Solo whole [] a notes
+  from_start log whole seen a notes same (rest, is, solo) = subst (λ (l : List ℕ). Solo l [] a notes) (sym (same ∙ is)) solo

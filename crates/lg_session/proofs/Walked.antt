@@ -1,5 +1,5 @@
 -- The path of a session while it learns and looks, before its command ends.
-use Rattle.std.proofs.Common.{◌≡◌, ℕ, ◌+◌, ◌<◌, false, List, [], ◌∷◌, ◌++◌, length, Option, Some, None, slice_get, slice_set, refl, ap, sym, subst, ◌∙◌, arith, length-append}
+use Rattle.std.proofs.Common.{◌≡◌, ℕ, ◌+◌, ◌<◌, false, List, [], ◌∷◌, ◌++◌, length, Option, Some, None, slice_set, refl, ap, sym, subst, ◌∙◌, arith, length-append}
 use Rattle.std.specs.Option.{option_to_list}
 use Rattle.std.proofs.lemmas.List.{map-append}
 use Rattle.lg_dict.specs.Dictionary.{Dictionary}
@@ -60,7 +60,9 @@ module _ {H : Type 0} (scripts : List (List CommandView)) (base : Dictionary) (s
         let then : List Actor = slice_set w.then session.session b in
         let long : length (y.0.seen ++ code ∷ []) ≡ length y.0.seen + 1 = length-append y.0.seen (code ∷ []) in
         let next = ending.next scripts base (come y) w.then st command at in
-        let step = happens.learns session.session st.actor command (record { stands = next.stands; asks_for = next.asks_for }) (omega (arith, st.seen, long)) in record {
+        let fewer : st.actor.seen < length (y.0.seen ++ code ∷ []) = omega (arith, st.seen, long) in
+        let grown : b.seen ≡ length (y.0.seen ++ code ∷ []) = omega (arith, st.seen, long) in
+        let step = happens.learns session.session st.actor command (record { stands = next.stands; asks_for = next.asks_for }) fewer in record {
           then = then;
           path = steps_on session.pass y.0 (with_code y.0 code) actors w.then then None [] w.path
               (paths.learns y.0 w.then then code (subst (λ (l : List ℕ). is_of l code ≡ false) w.alone other) step) refl;
@@ -69,7 +71,7 @@ module _ {H : Type 0} (scripts : List (List CommandView)) (base : Dictionary) (s
             actor = b;
             is = get_set w.then session.session st.actor b st.is;
             place = st.place;
-            seen = omega (arith, st.seen, long);
+            seen = grown;
             held = st.held;
             newest = one_learned scripts base y.1 y.0.seen code st.newest;
           };
