@@ -28,6 +28,8 @@ use std::thread::Threads;
 
 /// Answers the next command of a session. All but `more` look first until the end of the history was met. The only error is running
 /// out of memory, and then the session is gone.
+///
+/// By `steps` it makes steps of the core (`lg_core`), one after another: each look, and each code that it writes, is one.
 pub fn turn<'a, R: Threads + Sync, E: Engine>(
     rt: &R,
     alloc: Global,
