@@ -126,9 +126,12 @@ module _ (scripts : List (List CommandView)) (base : Dictionary) where
             each = λ t there. ⊎_elim
                 (λ (e : t ≡ j). subst (λ (k : ℕ). (a : Actor) × (slice_get come.then k ≡ Some a) × Mixed (suc j) k a (notes_of (k + 1) come.all)) (sym e)
                 (d.0, come.mine, inl (omega arith, subst (Q j d.0) (sym come.told) d.3)))
-                (λ (apart : t ≢ j). let f = state.each t there in
-                (f.0, (come.others t apart).0 ∙ f.1, subst (Mixed (suc j) t f.0) (sym (come.others t apart).1)
-                (⊎_elim (λ (h : (t < j) × Q t f.0 (notes_of (t + 1) state.notes)). inl (omega (arith, h.0), h.1)) (λ (h : (j ≤ t) × P t f.0 (notes_of (t + 1) state.notes)). inr (past j t h.0 apart, h.1)) f.2)))
+                (λ (apart : t ≢ j). let f = state.each t there in (
+                  f.0,
+                  (come.others t apart).0 ∙ f.1,
+                  subst (Mixed (suc j) t f.0) (sym (come.others t apart).1)
+                      (⊎_elim (λ (h : (t < j) × Q t f.0 (notes_of (t + 1) state.notes)). inl (omega (arith, h.0), h.1)) (λ (h : (j ≤ t) × P t f.0 (notes_of (t + 1) state.notes)). inr (past j t h.0 apart, h.1)) f.2),
+                ))
                 (cases_eq t j);
           }
 
@@ -214,9 +217,15 @@ make_runs of_edits legal scripts base good history codes lists many ends =
           let found : slice_get lists s ≡ Some replies = slice_get-get_or lists s [] (omega (arith, there, many)) in
           let end = ends s replies found in
           let path = one_path scripts base s end.log end.pass end.actors replies end.turns in
-          let goes = by_levels scripts base s (at_start end.log (s ∷ [])) end.pass (start_of n).actors end.actors path.0 path.1 newcomer (at_first n s there) end.all.rest end.all.none in
-          (newcomer, at_first n s there, (path.0, from_start scripts base s end.log history (end.pass.seen ++ end.all.rest) newcomer path.0 end.all.begins goes,
-          λ others is. subst (λ (l : List Reply). AreTold l path.0) (same_Some replies others (sym found ∙ is)) path.2));
+          let goes = by_levels scripts base s (at_start end.log (s ∷ [])) end.pass (start_of n).actors end.actors path.0 path.1 newcomer (at_first n s there) end.all.rest end.all.none in (
+            newcomer,
+            at_first n s there,
+            (
+              path.0,
+              from_start scripts base s end.log history (end.pass.seen ++ end.all.rest) newcomer path.0 end.all.begins goes,
+              λ others is. subst (λ (l : List Reply). AreTold l path.0) (same_Some replies others (sym found ∙ is)) path.2,
+            ),
+          );
     }) in
     let core : Core = record { history = history; actors = state.actors } in record {
       core = core;

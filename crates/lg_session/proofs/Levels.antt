@@ -90,9 +90,11 @@ module _ (scripts : List (List CommandView)) (base : Dictionary) (s : ℕ) where
         let x : Core = known (with_code pass code) actors in
         let y : Core = known (with_code pass code) then in
         let r = replays scripts base x (Learn s) y None step in
-        let on = goes r.after (stands_then x y None r a at) in
-        (code ∷ on.0, on.1 ∙ append_assoc pass.seen (code ∷ []) on.0,
-          (a, [], notes, rests a, refl, inl (other, one_more on.0 (pass.seen ++ code ∷ []) a r.after None notes tt (moves_on x y None r a at) on.2)))
+        let on = goes r.after (stands_then x y None r a at) in (
+          code ∷ on.0,
+          on.1 ∙ append_assoc pass.seen (code ∷ []) on.0,
+          (a, [], notes, rests a, refl, inl (other, one_more on.0 (pass.seen ++ code ∷ []) a r.after None notes tt (moves_on x y None r a at) on.2)),
+        )
     act _ _ _ _ _ (paths.looks pass actors then note step) a at goes =
         let r = replays scripts base (known pass actors) (Look s) (known pass then) note step in
         let on = goes r.after (stands_then (known pass actors) (known pass then) note r a at) in
@@ -100,9 +102,11 @@ module _ (scripts : List (List CommandView)) (base : Dictionary) (s : ℕ) where
     act _ _ _ _ _ (paths.publishes pass actors then code note own step) a at goes =
         let y : Core = known (with_code pass code) then in
         let r = replays scripts base (known pass actors) (Publish s) y note step in
-        let on = goes r.after (stands_then (known pass actors) y note r a at) in
-        (code ∷ on.0, on.1 ∙ append_assoc pass.seen (code ∷ []) on.0,
-          (a, [], option_to_list note ++ notes, rests a, refl, inr (own, r.after, note, notes, r.own, moves_on (known pass actors) y note r a at, refl, on.2)))
+        let on = goes r.after (stands_then (known pass actors) y note r a at) in (
+          code ∷ on.0,
+          on.1 ∙ append_assoc pass.seen (code ∷ []) on.0,
+          (a, [], option_to_list note ++ notes, rests a, refl, inr (own, r.after, note, notes, r.own, moves_on (known pass actors) y note r a at, refl, on.2)),
+        )
     act _ _ _ _ _ (paths.pages pass actors then note step) a at goes =
         let r = replays scripts base (known pass actors) (More s) (known pass then) note step in
         let on = goes r.after (stands_then (known pass actors) (known pass then) note r a at) in

@@ -69,40 +69,78 @@ module _ (scripts : List (List CommandView)) (base : Dictionary) where
 
     pub replays : (event : Event) (then : Core) (note : Option Note) → Happens scripts base core event then note → Replays core then (session_of event) note
     replays _ _ _ (happens.learns s a command next less) = record {
-      before = a; after = record a { seen = a.seen + 1 }; stands = next.stands; changed = refl; own = tt;
+      before = a;
+      after = record a { seen = a.seen + 1 };
+      stands = next.stands;
+      changed = refl;
+      own = tt;
       moves = λ actors at. (Learn s, happens.learns s a command (again s a command actors next at) less);
     }
     replays _ _ _ (happens.passes_over s a edit end accepted) = record {
-      before = a; after = a; stands = end.next.stands; changed = sym (set_same core.actors s a end.next.stands); own = tt;
-      moves = λ actors at. (Look s, subst (λ (l : List Actor). Happens scripts base (record { history = core.history; actors = actors }) (Look s) (record { history = core.history; actors = l }) None)
-          (sym (set_same actors s a at)) (happens.passes_over s a edit (again_end s a _ actors end at) accepted));
+      before = a;
+      after = a;
+      stands = end.next.stands;
+      changed = sym (set_same core.actors s a end.next.stands);
+      own = tt;
+      moves = λ actors at. (
+        Look s,
+        subst (λ (l : List Actor). Happens scripts base (record { history = core.history; actors = actors }) (Look s) (record { history = core.history; actors = l }) None)
+            (sym (set_same actors s a at)) (happens.passes_over s a edit (again_end s a _ actors end at) accepted),
+      );
     }
     replays _ _ _ (happens.refuses s a edit cause end refused) = record {
-      before = a; after = record a { place = a.place + 1; held = a.held }; stands = end.next.stands; changed = refl; own = refl;
+      before = a;
+      after = record a { place = a.place + 1; held = a.held };
+      stands = end.next.stands;
+      changed = refl;
+      own = refl;
       moves = λ actors at. (Look s, happens.refuses s a edit cause (again_end s a _ actors end at) refused);
     }
     replays _ _ _ (happens.tells s a end) = record {
-      before = a; after = record a { place = a.place + 1; held = a.held }; stands = end.next.stands; changed = refl; own = refl;
+      before = a;
+      after = record a { place = a.place + 1; held = a.held };
+      stands = end.next.stands;
+      changed = refl;
+      own = refl;
       moves = λ actors at. (Look s, happens.tells s a (again_end s a _ actors end at));
     }
     replays _ _ _ (happens.begins s a command text tokens end sentence listed) = record {
-      before = a; after = record a { place = a.place + 1; held = Some (record { version = a.seen; command = a.place + 1; mores = 0 }) };
-      stands = end.next.stands; changed = refl; own = refl;
+      before = a;
+      after = record a { place = a.place + 1; held = Some (record { version = a.seen; command = a.place + 1; mores = 0 }) };
+      stands = end.next.stands;
+      changed = refl;
+      own = refl;
       moves = λ actors at. (Look s, happens.begins s a command text tokens (again_end s a command actors end at) sentence listed);
     }
     replays _ _ _ (happens.is_beyond s a command text bound end sentence passes) = record {
-      before = a; after = record a { place = a.place + 1; held = None }; stands = end.next.stands; changed = refl; own = refl;
+      before = a;
+      after = record a { place = a.place + 1; held = None };
+      stands = end.next.stands;
+      changed = refl;
+      own = refl;
       moves = λ actors at. (Look s, happens.is_beyond s a command text bound (again_end s a command actors end at) sentence passes);
     }
     replays _ _ _ (happens.publishes s a edit end accepted) = record {
-      before = a; after = record a { place = a.place + 1; seen = a.seen + 1 }; stands = end.next.stands; changed = refl; own = refl;
+      before = a;
+      after = record a { place = a.place + 1; seen = a.seen + 1 };
+      stands = end.next.stands;
+      changed = refl;
+      own = refl;
       moves = λ actors at. (Publish s, happens.publishes s a edit (again_end s a _ actors end at) accepted);
     }
     replays _ _ _ (happens.pages s a hold next is) = record {
-      before = a; after = record a { place = a.place + 1; held = Some (record hold { mores = hold.mores + 1 }) }; stands = next.stands; changed = refl; own = refl;
+      before = a;
+      after = record a { place = a.place + 1; held = Some (record hold { mores = hold.mores + 1 }) };
+      stands = next.stands;
+      changed = refl;
+      own = refl;
       moves = λ actors at. (More s, happens.pages s a hold (again s a _ actors next at) is);
     }
     replays _ _ _ (happens.has_none s a next is) = record {
-      before = a; after = record a { place = a.place + 1; held = None }; stands = next.stands; changed = refl; own = refl;
+      before = a;
+      after = record a { place = a.place + 1; held = None };
+      stands = next.stands;
+      changed = refl;
+      own = refl;
       moves = λ actors at. (More s, happens.has_none s a (again s a _ actors next at) is);
     }
