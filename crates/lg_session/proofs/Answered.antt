@@ -14,14 +14,30 @@ use Rattle.lg_edit.specs.Edits.{EditView, accept}
 use Rattle.lg_token.specs.Bounds.{AreListed, IsBeyond}
 use Rattle.lg_script.specs.Commands.{CommandView, goes_on, makes, asks}
 use Rattle.lg_script.specs.Histories.{version_of, reply_version, unknown_name}
+use Rattle.lg_core.specs.declared.event.Event.{Event}
+use Rattle.lg_core.specs.declared.event.Event.TheVariants.{Look}
+use Rattle.lg_core.specs.declared.note.NoteKind.TheVariants as noted
+use Rattle.lg_core.specs.declared.state.Actor.{Actor}
+use Rattle.lg_core.specs.declared.state.Hold.{Hold}
+use Rattle.lg_core.specs.Core as happens
+use Rattle.lg_core.specs.Core.{sentence_of, Happens, ended, note_of}
 use Rattle.lg_session.specs.declared.session.Session.{Session}
-use Rattle.lg_session.specs.Answering.{later, Stays, AnswersSo, IsAnswered, GivesNextPage}
+use Rattle.lg_session.specs.Answering.{later, Stays, AnswersSo, ending, IsAnswered, GivesNextPage}
 use Rattle.lg_script.specs.Codes.{place_of}
 use Rattle.lg_session.specs.Engines.{Meaning, Progress, start_of, moved, IsOpened, GoesOn}
 use Rattle.lg_session.specs.Legal as legal
 use Rattle.lg_session.specs.Legal.{Holding, AsksFor, AnswerIs}
+use Rattle.lg_session.specs.Paths as paths
+use Rattle.lg_session.specs.Paths.{known, HeldAs, Tells}
 use Rattle.lg_session.specs.Turns.{Story, run_in, journal_in, place_in, HoldsSo, HasCome, IsTimely}
+use Rattle.lg_session.proofs.Ending as actors_of
+use Rattle.lg_session.proofs.Ending.{nothing_held, listing_held}
 use Rattle.lg_session.proofs.Versions.{version_more, version_newest}
+
+-- what asks for a listing looks
+looks_asked : (command : CommandView) (text : List ℕ) (first : ℕ) (want : Option ℕ) (session : ℕ) → AsksFor command text first want → (Look session ≡ ending command session) × (sentence_of command ≡ Some text)
+looks_asked command text first want session (legal.parse t) = (refl, refl)
+looks_asked command text first want session (legal.list f w t) = (refl, refl)
 
 module _ {H : Type 0} (Stands : H → Dictionary → Progress → Type 0) where
   -- what is held stands for the same listing where the journal grows
@@ -64,6 +80,11 @@ module _ {H : Type 0} (Stands : H → Dictionary → Progress → Type 0) where
         answer = legal.version story.holding n;
         timely = is;
       };
+      steps = λ scripts base actors at st.
+          let a : Actor = st.actor in
+          let seen : a.seen ≡ n = st.seen ∙ sym is in
+          actors_of.ends_with scripts base session actors st asks session.held a.held a.seen noted.At (At n)
+          (happens.tells session.session a (actors_of.at_end scripts base session actors st asks at)) (subst (λ (k : ℕ). Tells (At k) a.seen noted.At) seen (paths.version a.seen)) st.held;
     }
 
     pub is_refused : (edit : EditView) (n : ℕ) (cause : EditRefusal) (name : List ℕ) → n ≡ length session.pass.seen → accept session.view edit ≡ Some cause → name ≡ unknown_name edit cause
@@ -80,6 +101,12 @@ module _ {H : Type 0} (Stands : H → Dictionary → Progress → Type 0) where
         });
         timely = is;
       };
+      steps = λ scripts base actors at st.
+          let a : Actor = st.actor in
+          let seen : a.seen ≡ n = st.seen ∙ sym is in
+          actors_of.ends_with scripts base session actors st (makes edit) session.held a.held a.seen (noted.Refused cause) (Refused n cause name)
+          (happens.refuses session.session a edit cause (actors_of.at_end scripts base session actors st (makes edit) at) (ap (λ (d : Dictionary). accept d edit) (actors_of.sees scripts base session actors st) ∙ refused))
+          (subst (λ (k : ℕ). Tells (Refused k cause name) a.seen (noted.Refused cause)) seen (paths.refused a.seen cause name)) st.held;
     }
 
     -- ---- listings
@@ -113,6 +140,16 @@ module _ {H : Type 0} (Stands : H → Dictionary → Progress → Type 0) where
                     (subst (λ (dict : Dictionary). meaning.counts dict text stats) here opened.counts);
                 timely = timely_asked command text first want (Listed n tokens page (Some stats)) (length session.pass.seen) asked is;
               };
+          steps = λ scripts base actors at st.
+              let a : Actor = st.actor in
+              let seen : a.seen ≡ n = st.seen ∙ sym is in
+              let asks_so = looks_asked command text first want session.session asked in
+              let hold : Option Hold = Some (record { version = a.seen; command = a.place + 1; mores = 0 }) in
+              let tokenized : AreListed (happens.seen_by scripts base (known session.pass actors) a) text tokens = subst (λ (d : Dictionary). AreListed d text tokens) (sym (actors_of.sees scripts base session actors st)) opened.tokenized in
+              actors_of.ends_with scripts base session actors st command (Some (n, held)) hold a.seen noted.Listed (Listed n tokens page (Some stats))
+              (subst (λ (event : Event). Happens scripts base (known session.pass actors) event (ended (known session.pass actors) session.session a hold) (Some (note_of session.session a a.seen noted.Listed))) asks_so.0
+              (happens.begins session.session a command text tokens (actors_of.at_end scripts base session actors st command at) asks_so.1 tokenized))
+              (subst (λ (k : ℕ). Tells (Listed k tokens page (Some stats)) a.seen noted.Listed) seen (paths.listed a.seen tokens page stats)) seen;
         }
 
     pub beyond : (command : CommandView) (text : List ℕ) (first : ℕ) (want : Option ℕ) (n : ℕ) (bound : Bound) → AsksFor command text first want → n ≡ length session.pass.seen
@@ -126,6 +163,15 @@ module _ {H : Type 0} (Stands : H → Dictionary → Progress → Type 0) where
         answer = legal.beyond story.holding command text first want n bound asked (subst (λ (dict : Dictionary). IsBeyond dict text bound) (newest_version story session n is come) passes);
         timely = timely_asked command text first want (Beyond n bound) (length session.pass.seen) asked is;
       };
+      steps = λ scripts base actors at st.
+          let a : Actor = st.actor in
+          let seen : a.seen ≡ n = st.seen ∙ sym is in
+          let asks_so = looks_asked command text first want session.session asked in
+          actors_of.ends_with scripts base session actors st command None None a.seen noted.Beyond (Beyond n bound)
+          (subst (λ (event : Event). Happens scripts base (known session.pass actors) event (ended (known session.pass actors) session.session a None) (Some (note_of session.session a a.seen noted.Beyond))) asks_so.0
+          (happens.is_beyond session.session a command text bound (actors_of.at_end scripts base session actors st command at) asks_so.1
+          (subst (λ (d : Dictionary). IsBeyond d text bound) (sym (actors_of.sees scripts base session actors st)) passes)))
+          (subst (λ (k : ℕ). Tells (Beyond k bound) a.seen noted.Beyond) seen (paths.beyond a.seen bound)) tt;
     }
 
     gone_on : (story : Story) (n : ℕ) (held next : H) (tokens : List Token) (page : Page) (h : Option Holding) → HasCome Stands story session → story.holding ≡ h → HoldsSo Stands story (journal_in story session) (Some (n, held)) h
@@ -161,11 +207,20 @@ module _ {H : Type 0} (Stands : H → Dictionary → Progress → Type 0) where
       stays = same None;
       unpublished = λ p. refl;
       answers = λ story come. none_held story story.holding come refl (rw is at come.holds);
+      steps = λ scripts base actors at st.
+          actors_of.ends_with scripts base session actors st goes_on None None 0 noted.NoListing NoListing
+          (happens.has_none session.session st.actor (actors_of.next scripts base session actors st goes_on at) (nothing_held session.held st.actor.held st.held is)) paths.no_listing tt;
     }
     goes_further (Some (n, held)) (Some (m, next)) (Listed k tokens page stats) is (same_version, of_version, no_stats, goes) =
         subst (λ (z : ℕ × ℕ × Option Stats). IsAnswered meaning Stands session goes_on (record session { held = Some (z.0, next) }, Listed z.1 tokens page z.2)) (λ i. (sym same_version i, sym of_version i, sym no_stats i)) (record {
           stays = same (Some (n, next));
           unpublished = λ p. refl;
           answers = λ story come. gone_on story n held next tokens page story.holding come refl (rw is at come.holds) goes;
+          steps = λ scripts base actors at st.
+              let a : Actor = st.actor in
+              let h = listing_held n held a.held (subst (λ (x : Option (ℕ × H)). HeldAs x a.held) is st.held) in
+              actors_of.ends_with scripts base session actors st goes_on (Some (n, next)) (Some (record h.0 { mores = h.0.mores + 1 })) h.0.version (noted.Paged h.0) (Listed n tokens page None)
+              (happens.pages session.session a h.0 (actors_of.next scripts base session actors st goes_on at) h.1)
+              (subst (λ (k : ℕ). Tells (Listed k tokens page None) h.0.version (noted.Paged h.0)) h.2 (paths.paged h.0 tokens page)) h.2;
         })
     goes_further held next reply is gives = absurd gives

@@ -1,5 +1,5 @@
 -- From an answer to a turn: what was seen on the way to it.
-use Rattle.std.proofs.Common.{◌≡◌, ◌==◌, ℕ, zero, suc, ◌+◌, ◌-◌, ◌≤◌, Bool, true, false, List, [], ◌∷◌, ◌++◌, length, Contains, Some, refl, ap, sym, subst, ◌∙◌, arith, append_assoc, append-nil, length-append, true≢false, ⊎_elim}
+use Rattle.std.proofs.Common.{◌≡◌, ◌==◌, ℕ, zero, suc, ◌+◌, ◌-◌, ◌≤◌, Bool, true, false, ◌||◌, eqb, eq-eqb, List, [], ◌∷◌, ◌++◌, length, Contains, Option, Some, None, slice_get, slice_set, refl, ap, sym, subst, ◌∙◌, arith, append_assoc, append-nil, length-append, true≢false, ⊎_elim}
 use Rattle.std.specs.List.{list_any}
 use Rattle.std.proofs.lemmas.List.{length-map, map-append}
 use Rattle.std.proofs.lemmas.List.Elements.{filter-append, Contains-append_cases}
@@ -10,21 +10,34 @@ use Rattle.lg_gram.specs.declared.reply.Reply.TheVariants.{Published, Refused}
 use Rattle.lg_dict.specs.Dictionary.{Dictionary}
 use Rattle.lg_edit.specs.Edits.{EditView, accept, after_edit}
 use Rattle.lg_log.specs.Codes.{code_session, is_of}
-use Rattle.lg_log.specs.Passes.{LogId, Standing}
-use Rattle.lg_script.specs.Commands.{CommandView, goes_on, makes}
+use Rattle.lg_log.specs.Passes.{LogId, Standing, with_code, at_end}
+use Rattle.lg_script.specs.Commands.{CommandView, parses, lists, goes_on, makes, asks}
 use Rattle.lg_script.specs.Histories.{command_at, after_command, dictionary_after, version_of, numbered}
+use Rattle.lg_core.specs.declared.event.Event.{Event}
+use Rattle.lg_core.specs.declared.event.Event.TheVariants.{Look, Publish}
+use Rattle.lg_core.specs.declared.note.Note.{Note}
+use Rattle.lg_core.specs.declared.note.NoteKind.TheVariants as noted
+use Rattle.lg_core.specs.declared.state.Actor.{Actor}
+use Rattle.lg_core.specs.Core as happens
+use Rattle.lg_core.specs.Core.{Happens, note_of}
 use Rattle.lg_session.specs.declared.session.Session.{Session}
-use Rattle.lg_session.specs.Answering.{IsUp, IsAnswered, IsMade, Answers, counted}
-use Rattle.lg_script.specs.Codes.{place_of, places_of}
+use Rattle.lg_session.specs.Answering.{IsUp, IsAnswered, IsMade, Answers, counted, ending}
+use Rattle.lg_script.specs.Codes.{place_of, places_of, code_after}
 use Rattle.lg_session.specs.Engines.{Meaning, Progress}
-use Rattle.lg_session.specs.Learning.{Learns, MeetsEnd, Publishes}
+use Rattle.lg_session.specs.Learning.{Known, Learns, MeetsEnd, Accepts, Publishes}
 use Rattle.lg_session.specs.Legal as legal
-use Rattle.lg_session.specs.Legal.{Holding, AnswerIs}
+use Rattle.lg_session.specs.Legal.{AnswerIs}
+use Rattle.lg_session.specs.Paths as paths
+use Rattle.lg_session.specs.Paths.{known, HeldAs, Path, StandsFor, Tells}
 use Rattle.lg_session.specs.Turns.{Story, run_in, journal_in, place_in, IsAt, HasCome, added, LooksFor, Grows, Turned}
 use Rattle.lg_session.proofs.Answered.{holds_on, is_refused}
 use Rattle.lg_session.proofs.Elsewhere.{own_in, others_elsewhere, own_here, own_stands}
 use Rattle.lg_session.proofs.Learned.{after_append}
+use Rattle.lg_session.proofs.Ending as actors_of
+use Rattle.lg_session.proofs.Replayed.{get_set}
 use Rattle.lg_session.proofs.Versions.{version_more, version_newest, after_push, numbered_push}
+use Rattle.lg_session.proofs.Walked as ways
+use Rattle.lg_session.proofs.Walked.{LeavesIt}
 
 abbrev pub is_more : CommandView → Bool
 is_more goes_on = true
@@ -34,6 +47,13 @@ looks_for : (command : CommandView) (reply : Reply) (before after : Standing) �
 looks_for goes_on reply before after not_more meets = absurd (true≢false not_more)
 looks_for command (Published version) before after not_more meets = tt
 looks_for command reply before after not_more meets = (meets.looked, meets.last)
+
+looks_at : (command : CommandView) (session : ℕ) → is_more command ≡ false → ending command session ≡ Look session
+looks_at goes_on session not_more = absurd (true≢false not_more)
+looks_at (parses text) session not_more = refl
+looks_at (lists first want text) session not_more = refl
+looks_at (makes edit) session not_more = refl
+looks_at asks session not_more = refl
 
 -- nothing else is added
 only_added : (p : Place) (reply : Reply) (q : Place) → Contains (added p reply) q → q ≡ p
@@ -106,12 +126,21 @@ module _ {H : Type 0} (story : Story) (session : Session H) where
                   answer = a.answer;
                   timely = a.timely;
                 });
+            steps = λ actors st.
+                let e = answered.steps story.scripts story.base actors stands st in record {
+                  then = e.then;
+                  note = e.note;
+                  path = subst (λ (p : Standing). Path story.scripts story.base session.session session.pass actors p e.then (e.note ∷ [])) (sym answered.stays.pass)
+                      (paths.goes session.pass session.pass session.pass actors e.then e.then (Some e.note) [] (paths.pages session.pass actors e.then (Some e.note) e.happens) (paths.ends session.pass e.then));
+                  told = e.told;
+                  stands = e.stands;
+                };
           }
 
       -- an answer after a look at the end of the history
-      pub after_look : (up : Session H) (after : Session H × Reply) (command : CommandView) → command_at story.scripts (place_in session) ≡ Some command → is_more command ≡ false → IsUp story.scripts session up
-          → IsAnswered meaning Stands up command after → Answers meaning Stands story session after
-      after_look up after command stands not_more is_up answered =
+      pub after_look : (Over : Dictionary → Type 0) (up : Session H) (after : Session H × Reply) (command : CommandView) → LeavesIt command Over → command_at story.scripts (place_in session) ≡ Some command
+          → is_more command ≡ false → IsUp story.scripts Over session up → IsAnswered meaning Stands up command after → Answers meaning Stands story session after
+      after_look Over up after command leaves stands not_more is_up answered =
           let learns : Learns story.scripts (session.pass, session.view) (up.pass, up.view) = is_up.up.learns in
           let here : place_in up ≡ place_in session = λ i. record { session = is_up.session i + 1; command = is_up.place i + 1 } in
           let grown : Grows story (place_in session) after.1 session.pass after.0.pass = record {
@@ -136,12 +165,33 @@ module _ {H : Type 0} (story : Story) (session : Session H) where
                   answer = subst (λ (p : Place). AnswerIs (run_in meaning story (journal_in story after.0)) p story.holding command after.1 a.then) here a.answer;
                   timely = a.timely;
                 });
+            steps = λ actors st.
+                let scripts : List (List CommandView) = story.scripts in
+                let base : Dictionary = story.base in
+                let last : Known = is_up.up.walks.then in
+                let w = ways.walked scripts base session command stands Over leaves actors alone st (session.pass, session.view) last is_up.up.walks.walks refl in
+                let is_last : up.pass ≡ at_end last.0 = ap (λ (k : Known). k.0) is_up.up.walks.last in
+                let view_is : up.view ≡ last.1 = ap (λ (k : Known). k.1) is_up.up.walks.last in
+                let end : Session H = ways.come scripts base session (at_end last.0, last.1) in
+                let st_end : StandsFor scripts base end w.then = record { actor = w.stands.actor; is = w.stands.is; place = w.stands.place; seen = w.stands.seen; held = w.stands.held; newest = w.stands.newest } in
+                let st_up : StandsFor scripts base up w.then = actors_of.stands_same scripts base end up w.then is_up.session is_up.place is_last view_is is_up.held st_end in
+                let e = answered.steps scripts base w.then (ap (command_at scripts) here ∙ stands) st_up in
+                let event : ending command up.session ≡ Look session.session = ap (ending command) is_up.session ∙ looks_at command session.session not_more in
+                let step : Happens scripts base (known last.0 w.then) (Look session.session) (known last.0 e.then) (Some e.note) =
+                subst (λ (z : Standing × Event). Happens scripts base (known z.0 w.then) z.1 (known z.0 e.then) (Some e.note)) (λ i. (is_last i, event i)) e.happens in record {
+                  then = e.then;
+                  note = e.note;
+                  path = subst (λ (p : Standing). Path scripts base session.session session.pass actors p e.then (e.note ∷ [])) (sym (answered.stays.pass ∙ is_last))
+                      (ways.steps_on scripts base session session.pass last.0 (at_end last.0) actors w.then e.then (Some e.note) (e.note ∷ []) w.path (paths.looks last.0 w.then e.then (Some e.note) step) refl);
+                  told = e.told;
+                  stands = e.stands;
+                };
           }
 
       -- an edit that was published
-      is_published : (after : Session H) (edit : EditView) (code n : ℕ) → command_at story.scripts (place_in session) ≡ Some (makes edit) → place_of story.scripts code ≡ place_in session → after.session ≡ session.session
-          → after.place ≡ session.place → after.held ≡ session.held → Publishes story.scripts code edit (session.pass, session.view) (after.pass, after.view) n → Answers meaning Stands story session (after, Published n)
-      is_published after edit code n stands at same_session same_place held published =
+      is_published : (after : Session H) (edit : EditView) (code n : ℕ) → command_at story.scripts (place_in session) ≡ Some (makes edit) → place_of story.scripts code ≡ place_in session → code_session code ≡ session.session
+          → code ≡ code_after story.scripts session.session session.place → after.session ≡ session.session → after.place ≡ session.place → after.held ≡ session.held → Publishes story.scripts code edit (session.pass, session.view) (after.pass, after.view) n → Answers meaning Stands story session (after, Published n)
+      is_published after edit code n stands at own counted_so same_session same_place held published =
           let p : Place = place_in session in
           let scripts : List (List CommandView) = story.scripts in
           let learns : Learns scripts (session.pass, session.view) published.then = published.learns in
@@ -182,10 +232,41 @@ module _ {H : Type 0} (story : Story) (session : Session H) where
                   });
                   timely = published.newest;
                 });
+            steps = λ actors st.
+                let base : Dictionary = story.base in
+                let last : Known = published.then in
+                let w = ways.walked scripts base session (makes edit) stands (Accepts edit) (λ dict accepted. (edit, refl, accepted)) actors alone st (session.pass, session.view) last published.walks refl in
+                let a : Actor = w.stands.actor in
+                let b : Actor = record a { place = a.place + 1; seen = a.seen + 1 } in
+                let final : List Actor = slice_set w.then session.session b in
+                let note : Note = note_of session.session a (a.seen + 1) noted.Published in
+                let accepted : accept (happens.seen_by scripts base (known last.0 w.then) a) edit ≡ None = ap (λ (d : Dictionary). accept d edit) (actors_of.sees scripts base (ways.come scripts base session last) w.then w.stands) ∙ published.accepted in
+                let code_is : code_after scripts session.session a.place ≡ code = ap (code_after scripts session.session) w.stands.place ∙ sym counted_so in
+                let step : Happens scripts base (known last.0 w.then) (Publish session.session) (known (with_code last.0 code) final) (Some note) =
+                subst (λ (c : ℕ). Happens scripts base (known last.0 w.then) (Publish session.session) (known (with_code last.0 c) final) (Some note)) code_is
+                (happens.publishes session.session a edit (actors_of.at_end scripts base (ways.come scripts base session last) w.then w.stands (makes edit) stands) accepted) in
+                let mine : is_of (session.session ∷ []) code ≡ true = ap (λ (k : ℕ). eqb k session.session || false) own ∙ ap (λ (b : Bool). b || false) (eq-eqb session.session session.session refl) in
+                let long : length after.pass.seen ≡ length last.0.seen + 1 = ap (λ (s : Standing). length s.seen) published.published ∙ length-append last.0.seen (code ∷ []) in
+                let seen : a.seen + 1 ≡ n = omega (arith, published.newest, long, w.stands.seen) in record {
+                  then = final;
+                  note = note;
+                  path = subst (λ (p : Standing). Path scripts base session.session session.pass actors p final (note ∷ [])) (sym published.published)
+                      (ways.steps_on scripts base session session.pass last.0 (with_code last.0 code) actors w.then final (Some note) (note ∷ []) w.path (paths.publishes last.0 w.then final code (Some note) mine step) refl);
+                  told = subst (λ (k : ℕ). Tells (Published k) (a.seen + 1) noted.Published) seen (paths.published (a.seen + 1));
+                  stands = record {
+                    actor = b;
+                    is = ap (slice_get final) same_session ∙ get_set w.then session.session a b w.stands.is;
+                    place = ap (λ (k : ℕ). k + 1) (w.stands.place ∙ sym same_place);
+                    seen = omega (arith, long, w.stands.seen);
+                    held = subst (λ (h : Option (ℕ × H)). HeldAs h a.held) (sym held) w.stands.held;
+                    newest = published.made ∙ ap (λ (dict : Dictionary). after_edit dict edit) w.stands.newest ∙ ap (after_command (dictionary_after scripts base before)) (sym stands) ∙ sym (after_push scripts base before p)
+                        ∙ ap (dictionary_after scripts base) (sym one_more);
+                  };
+                };
           }
 
       pub is_made : (edit : EditView) (after : Session H) (reply : Reply) → command_at story.scripts (place_in session) ≡ Some (makes edit) → IsMade story.scripts edit session (after, reply) → Answers meaning Stands story session (after, reply)
-      is_made edit after (Published n) stands made = is_published after edit made.code n stands made.at made.session made.place made.held made.edited
-      is_made edit after (Refused n cause name) stands made = after_look after (after, Refused n cause name) (makes edit) stands refl
+      is_made edit after (Published n) stands made = is_published after edit made.code n stands made.at made.own made.counted_so made.session made.place made.held made.edited
+      is_made edit after (Refused n cause name) stands made = after_look (Accepts edit) after (after, Refused n cause name) (makes edit) (λ dict accepted. (edit, refl, accepted)) stands refl
           (record { session = made.session; place = made.place; held = made.held; up = made.edited.up }) (is_refused Stands meaning after edit n cause name made.edited.newest made.edited.refused made.edited.named)
       is_made edit after reply stands made = absurd made.edited

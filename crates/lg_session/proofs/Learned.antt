@@ -11,11 +11,12 @@ use Rattle.lg_gram.specs.declared.reply.Reply.TheVariants.{Refused}
 use Rattle.lg_dict.specs.Dictionary.{Dictionary}
 use Rattle.lg_edit.specs.Edits.{EditView, accept, after_edit}
 use Rattle.lg_log.specs.Codes.{is_of}
-use Rattle.lg_log.specs.Passes.{Standing, with_code}
+use Rattle.lg_log.specs.Passes.{Standing, with_code, at_end}
 use Rattle.lg_script.specs.Commands.{CommandView, makes}
 use Rattle.lg_script.specs.Histories.{command_at, after_command, dictionary_after, unknown_name}
 use Rattle.lg_script.specs.Codes.{place_of, places_of}
-use Rattle.lg_session.specs.Learning.{Known, Learns, CatchesUp, IsEdited}
+use Rattle.lg_session.specs.Learning as walk
+use Rattle.lg_session.specs.Learning.{Known, Learns, Walks, Nowhere, Accepts, CatchesUp, IsEdited}
 
 -- an edit that is refused changes nothing
 pub refused_changes_nothing : (dict : Dictionary) (edit : EditView) (cause : EditRefusal) → accept dict edit ≡ Some cause → after_edit dict edit ≡ dict
@@ -86,14 +87,42 @@ module _ (scripts : List (List CommandView)) where
   still_fresh x y code learns own fresh =
       ap (list_any (eqb code)) learns.seen ∙ list_any-append (eqb code) x.0.seen learns.codes ∙ or_from _ _ fresh (not_among (is_of x.0.sessions) code own learns.codes learns.others)
 
-  -- to the end of the history
-  pub up_more : (x y z : Known) → Learns scripts x y → CatchesUp scripts y z → CatchesUp scripts x z
-  up_more x y z first up = record {
-    learns = learns_more x y z first up.learns;
-    meets = record { looked = omega (arith, first.ends, up.meets.looked); last = up.meets.last };
-  }
+  -- ---- step by step
 
-  pub refused_so : (x y : Known) (edit : EditView) (cause : EditRefusal) (code : ℕ) (reply : Reply) → CatchesUp scripts x y → Some cause ≡ accept y.1 edit
+  module _ (Over : Dictionary → Type 0) where
+    -- one code was found
+    pub walks_code : (x y z : Known) (code : ℕ) → Walks scripts Over x y → z.0 ≡ with_code y.0 code → is_of y.0.sessions code ≡ false → z.1 ≡ dictionary_after scripts y.1 (place_of scripts code ∷ []) → Walks scripts Over x z
+    walks_code x y z code before is other applied = subst (Walks scripts Over x) (λ i. (sym is i, sym applied i)) (walk.finds x y code before other)
+
+    -- without a look at the end
+    walks_more : (x y z : Known) → Walks scripts Over x y → Walks scripts Nowhere y z → Walks scripts Over x z
+    walks_more x _ _ before (walk.rests y) = before
+    walks_more x _ _ before (walk.finds y z code then other) = walk.finds x z code (walks_more x y z before then) other
+    walks_more x _ _ before (walk.passes y z then never) = absurd never
+
+    -- one more look found the end
+    pub up_now : (x y z : Known) → Learns scripts x y → Walks scripts Over x y → z ≡ (at_end y.0, y.1) → CatchesUp scripts Over x z
+    up_now x y z learns walks is = subst (CatchesUp scripts Over x) (sym is) (record {
+      learns = record { same_log = learns.same_log; same_sessions = learns.same_sessions; codes = learns.codes; seen = learns.seen; others = learns.others; applied = learns.applied; ends = omega (arith, learns.ends) };
+      meets = record { looked = omega (arith, learns.ends); last = refl };
+      walks = record { then = y; walks = walks; last = refl };
+    })
+
+    -- that look leaves the dictionary
+    pub walks_past : (x y z : Known) → Walks scripts Over x y → CatchesUp scripts Nowhere y z → Over z.1 → Walks scripts Over x z
+    walks_past x y z before up over =
+        let w = up.walks in
+        subst (Walks scripts Over x) (sym w.last) (walk.passes x w.then (walks_more x y w.then before w.walks) (subst (λ (k : Known). Over k.1) w.last over))
+
+    -- to the end of the history
+    pub up_more : (x y z : Known) → Learns scripts x y → Walks scripts Over x y → CatchesUp scripts Nowhere y z → CatchesUp scripts Over x z
+    up_more x y z first before up = record {
+      learns = learns_more x y z first up.learns;
+      meets = record { looked = omega (arith, first.ends, up.meets.looked); last = up.meets.last };
+      walks = record { then = up.walks.then; walks = walks_more x y up.walks.then before up.walks.walks; last = up.walks.last };
+    }
+
+  pub refused_so : (x y : Known) (edit : EditView) (cause : EditRefusal) (code : ℕ) (reply : Reply) → CatchesUp scripts (Accepts edit) x y → Some cause ≡ accept y.1 edit
       → (name : List ℕ) × (reply ≡ Refused (length y.0.seen) cause name) × (name ≡ unknown_name edit cause) → IsEdited scripts code edit x y reply
   refused_so x y edit cause code reply up refused told =
       rw told.1 (record { up = up; refused = sym refused; named = told.2; newest = refl })

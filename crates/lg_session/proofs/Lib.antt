@@ -9,5 +9,10 @@ pub mod Whole
 pub mod Named
 pub mod Learned
 pub mod Elsewhere
+pub mod Replayed
+pub mod Levels
+pub mod Ending
+pub mod Walked
+pub mod Interleaved
 pub mod Answered
 pub mod Counted

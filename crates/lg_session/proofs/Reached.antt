@@ -1,5 +1,5 @@
 -- How far the loop over a session's commands has come.
-use Rattle.std.proofs.Common.{◌≡◌, ℕ, ◌+◌, ◌*◌, ◌<◌, ◌≤◌, ◌^◌, ◌==◌, false, List, [], ◌∷◌, ◌++◌, length, drop, Option, Some, None, IsSome, refl, ap, sym, subst, ◌∙◌, arith, append_assoc, append-nil, length-append}
+use Rattle.std.proofs.Common.{◌≡◌, ℕ, ◌+◌, ◌*◌, ◌<◌, ◌≤◌, ◌^◌, ◌==◌, false, List, [], ◌∷◌, ◌++◌, length, replicate, drop, Option, Some, None, IsSome, refl, ap, sym, subst, ◌∙◌, arith, append_assoc, append-nil, length-append}
 use mathlib.Core.List.{map-append}
 use Rattle.std.specs.List.{list_any}
 use Rattle.std.proofs.Math.Seq.{drop-length}
@@ -14,12 +14,17 @@ use Rattle.lg_log.specs.Codes.{code_session, is_of}
 use Rattle.lg_log.specs.Passes.{LogId, Standing, at_start}
 use Rattle.lg_script.specs.Commands.{CommandView}
 use Rattle.lg_script.specs.Histories.{command_at, dictionary_after, fresh, version_of}
+use Rattle.lg_core.specs.declared.state.Actor.{Actor}
+use Rattle.lg_core.specs.Core.{newcomer}
 use Rattle.lg_session.specs.declared.session.Session.{Session}
 use Rattle.lg_script.specs.Codes.{commands_of, place_of, places_of}
 use Rattle.lg_session.specs.Engines.{Progress}
 use Rattle.lg_session.specs.Legal.{Holding, Run, AnswerIs}
+use Rattle.lg_session.specs.Paths as paths
+use Rattle.lg_session.specs.Paths.{HeldAs, Path, StandsFor, TakesSteps, Turns}
 use Rattle.lg_session.specs.Rows.{Ground, run_on, HasEnded}
 use Rattle.lg_session.specs.Turns.{Story, HasCome, HoldsSo, IsAt, MayGoOn, IsTimely, Turned, added, place_in}
+use Rattle.lg_session.proofs.Interleaved.{at_first}
 use Rattle.lg_session.proofs.OneScript.{command_after, stands, split}
 use Rattle.lg_session.proofs.Rest.{Rest, own_of, ended, answers_first, pairs_after}
 
@@ -38,13 +43,16 @@ pub record Reached {H : Type 0} (g : Ground) (Stands : H → Dictionary → Prog
   pub holding : Option Holding
   pub come : HasCome Stands (story_at g holding n) session
   pub many : length replies ≡ n
+  pub actors : List Actor
+  pub acts : StandsFor g.scripts g.base session actors
+  pub turns : Turns g.scripts g.base log number session.pass actors replies
   pub gives : (final : List Place) (rs : List Reply) → Rest (run_with g final) (number + 1) (n + 1) (places_of g.scripts session.pass.seen) holding (drop n (commands_of g.scripts number)) rs
       → Rest (run_with g final) (number + 1) 1 [] None (commands_of g.scripts number) (replies ++ rs)
 
 module _ {H : Type 0} (g : Ground) (Stands : H → Dictionary → Progress → Type 0) (log : LogId) (number : ℕ) where
-  pub none_reached : (session : Session H) → session.session ≡ number → session.place ≡ 0 → session.pass ≡ at_start log (number ∷ []) → session.view ≡ g.base → session.held ≡ None
+  pub none_reached : (session : Session H) → number < length g.scripts → session.session ≡ number → session.place ≡ 0 → session.pass ≡ at_start log (number ∷ []) → session.view ≡ g.base → session.held ≡ None
       → Reached g Stands log number session [] 0
-  none_reached session same place start view held =
+  none_reached session in_ same place start view held =
       let unseen : session.pass.seen ≡ [] = ap (λ (p : Standing). p.seen) start in record {
         at = record {
           same_log = ap (λ (p : Standing). p.log) start;
@@ -56,6 +64,16 @@ module _ {H : Type 0} (g : Ground) (Stands : H → Dictionary → Progress → T
         holding = None;
         come = record { newest = view ∙ ap (λ (l : List ℕ). dictionary_after g.scripts g.base (places_of g.scripts l)) (sym unseen); holds = rw held tt };
         many = refl;
+        actors = replicate (length g.scripts) newcomer;
+        acts = record {
+          actor = newcomer;
+          is = at_first (length g.scripts) session.session (omega (arith, in_, same));
+          place = sym place;
+          seen = sym (ap length unseen);
+          held = subst (λ (h : Option (ℕ × H)). HeldAs h None) (sym held) tt;
+          newest = view ∙ ap (λ (l : List ℕ). dictionary_after g.scripts g.base (places_of g.scripts l)) (sym unseen);
+        };
+        turns = subst (λ (p : Standing). Turns g.scripts g.base log number p (replicate (length g.scripts) newcomer) []) (sym start) paths.start;
         gives = λ final rs rest. rw unseen at rest;
       }
 
@@ -80,9 +98,9 @@ module _ {H : Type 0} (g : Ground) (Stands : H → Dictionary → Progress → T
       command_left = rw next_command refl
 
       pub one_reached : (after : Session H) (reply : Reply) → IsAt log g.scripts after
-          → Turned g.meaning Stands (story_at g reached.holding n) session (command_after g number in_ n inside) (after, reply)
+          → Turned g.meaning Stands (story_at g reached.holding n) session (command_after g number in_ n inside) (after, reply) → TakesSteps g.scripts g.base session reached.actors (after, reply)
           → Reached g Stands log number after (replies ++ reply ∷ []) (n + 1)
-      one_reached after reply at turn =
+      one_reached after reply at turn takes =
           let p : Place = record { session = number + 1; command = n + 1 } in
           let before : List Place = places_of g.scripts session.pass.seen in
           let new : List Place = places_of g.scripts after.pass.seen in
@@ -95,6 +113,10 @@ module _ {H : Type 0} (g : Ground) (Stands : H → Dictionary → Progress → T
             holding = turn.then;
             come = subst (λ (k : ℕ). HasCome Stands (record { scripts = g.scripts; base = g.base; holding = turn.then; limit = k }) after) limit turn.come;
             many = omega (arith, length-append replies (reply ∷ []), reached.many);
+            actors = takes.then;
+            acts = takes.stands;
+            turns = paths.turn session.pass after.pass reached.actors takes.then replies reply takes.note reached.turns
+                (subst (λ (s : ℕ). Path g.scripts g.base s session.pass reached.actors after.pass takes.then (takes.note ∷ [])) reached.same takes.path) takes.told;
             gives = λ final rs rest.
                 let run : Run = run_with g final in
                 let own : own_of (number + 1) more ≡ added p reply = subst (λ (q : Place). own_of q.session more ≡ added q reply) next_place turn.grown.own in
@@ -130,4 +152,5 @@ module _ {H : Type 0} (g : Ground) (Stands : H → Dictionary → Progress → T
         };
         whole = reached.many ∙ all;
         own = ap (own_of (number + 1)) rest.grows ∙ rest.own;
+        ends = record { log = log; pass = session.pass; actors = reached.actors; turns = reached.turns; all = later };
       }

@@ -12,6 +12,7 @@ use Rattle.lg_session.specs.declared.job.Job.{Job}
 use Rattle.lg_script.specs.Codes.{commands_of, places_of, AreScripts}
 use Rattle.lg_session.specs.Engines.{Meaning}
 use Rattle.lg_session.specs.Legal.{Run, IsLegalSession}
+use Rattle.lg_session.specs.Paths.{EndsIn}
 
 -- what sessions are held against: the meaning of their engine, their scripts, and the dictionary at their start
 pub record Ground : Type 1 where
@@ -26,11 +27,12 @@ abbrev pub run_on : Ground → List ℕ → Run
 run_on g history = record { meaning = g.meaning; scripts = g.scripts; base = g.base; journal = places_of g.scripts history }
 
 -- By this history the answers of a session, numbered from 0, are legal, and there is one for each command. Of its edits the
--- history has those that were answered as published.
+-- history has those that were answered as published. Its turns take steps of the core, and end in this history.
 pub record IsRight (g : Ground) (history : List ℕ) (session : ℕ) (replies : List Reply) : Type 0 where
   pub legal : IsLegalSession (run_on g history) (session + 1) (commands_of g.scripts session) replies
   pub whole : length replies ≡ length (commands_of g.scripts session)
   pub own : filter (λ p. p.session == session + 1) (places_of g.scripts history) ≡ published_by (session + 1) replies
+  pub ends : EndsIn g.scripts g.base history session replies
 
 -- A session has ended: its answers are right by every history that goes on from what was seen with edits of others alone.
 abbrev pub HasEnded : Ground → List ℕ → ℕ → List Reply → Type 0

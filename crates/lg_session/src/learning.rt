@@ -6,7 +6,7 @@ ghost use Rattle.lg_script.specs.EditNumbers.{edit_counts};
 ghost use Rattle.lg_script.specs.Histories.{dictionary_after};
 ghost use Rattle.lg_session.specs.Answering.{IsUp};
 ghost use Rattle.lg_script.specs.Codes.{AreScripts, place_of};
-ghost use Rattle.lg_session.specs.Learning.{CatchesUp};
+ghost use Rattle.lg_session.specs.Learning.{CatchesUp, Nowhere};
 
 use crate::session::Session;
 use lg_base::NoMemory;
@@ -30,7 +30,7 @@ pub(crate) fn catch_up(
     requires scripts { AreScripts (script_views scripts.now) }
     requires counts { log.now.counts ≡ edit_counts (script_views scripts.now) }
     requires log { pass.old.log ≡ log.now }
-    ensures { OnOk result (CatchesUp (script_views scripts.now) (pass.old, view.old) (pass.new, view.new)) }
+    ensures { OnOk result (CatchesUp (script_views scripts.now) Nowhere (pass.old, view.old) (pass.new, view.new)) }
 {
     for _ in 0..MORE_THAN_ALL {
         let Some(code) = pass.look(log) else {
@@ -51,7 +51,7 @@ pub(crate) fn caught_up<'a, H: Drop>(
     requires scripts { AreScripts (script_views scripts.now) }
     requires counts { log.now.counts ≡ edit_counts (script_views scripts.now) }
     requires log { state.pass.log ≡ log.now }
-    ensures { IfOk result (IsUp (script_views scripts.now) state.entry) }
+    ensures { IfOk result (IsUp (script_views scripts.now) Nowhere state.entry) }
 {
     let Session {
         session,

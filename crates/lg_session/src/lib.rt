@@ -7,6 +7,7 @@ pub mod gate;
 mod halves;
 mod job;
 mod journal;
+mod law;
 mod learning;
 pub mod outcome;
 pub mod run;
@@ -15,6 +16,7 @@ pub mod turn;
 
 pub use engine::{Engine, Opening};
 pub use gate::{FreeGate, Gate};
+pub use law::paths_make_runs;
 pub use outcome::Outcome;
 pub use run::run_sessions;
 pub use session::Session;

@@ -1,5 +1,6 @@
 //! The turns of a session: a command and its answer.
-ghost use Rattle.std.specs.Prelude.{◌≡◌, ◌+◌, true, Some, IfOk, IfSome, IsSome};
+ghost use Rattle.std.specs.Prelude.{◌≡◌, ◌+◌, true, List, Some, IfOk, IfSome, IsSome};
+ghost use Rattle.lg_dict.specs.Dictionary.{Dictionary};
 ghost use Rattle.lg_edit.specs.Edits.{EditView, edit_view};
 ghost use Rattle.lg_log.specs.Codes.{is_code, code_session};
 ghost use Rattle.lg_script.specs.Bounds.{IsSentence, IsCount, IsInBounds};
@@ -7,8 +8,10 @@ ghost use Rattle.lg_script.specs.Commands.{CommandView, command_view, goes_on, m
 ghost use Rattle.lg_script.specs.EditNumbers.{edit_counts};
 ghost use Rattle.lg_script.specs.Histories.{command_at};
 ghost use Rattle.lg_session.specs.Answering.{IsAnswered, IsMade, Answers, GivesNextPage};
-ghost use Rattle.lg_script.specs.Codes.{AreScripts, place_of};
+ghost use Rattle.lg_script.specs.Codes.{AreScripts, place_of, code_after};
+ghost use Rattle.lg_core.specs.declared.state.Actor.{Actor};
 ghost use Rattle.lg_session.specs.Legal.{AsksFor};
+ghost use Rattle.lg_session.specs.Paths.{StandsFor, TakesSteps};
 ghost use Rattle.lg_session.specs.Turns.{Story, HasCome, IsAt, MayGoOn, Turned, place_in};
 
 use crate::edits::publish;
@@ -25,6 +28,8 @@ use std::thread::Threads;
 
 /// Answers the next command of a session. All but `more` look first until the end of the history was met. The only error is running
 /// out of memory, and then the session is gone.
+///
+/// By `steps` it makes steps of the core (`lg_core`), one after another: each look, and each code that it writes, is one.
 pub fn turn<'a, R: Threads + Sync, E: Engine>(
     rt: &R,
     alloc: Global,
@@ -41,6 +46,7 @@ pub fn turn<'a, R: Threads + Sync, E: Engine>(
     ensures at { IfOk result (λ r. IsAt log.now (script_views scripts.now) r.0) }
     ensures turned { (story : Story) (command : CommandView) → story.scripts ≡ script_views scripts.now → command_at story.scripts (place_in state.entry) ≡ Some command → HasCome (E.stands engine.now) story state.entry
         → IfOk result (Turned (E.meaning engine.now) (E.stands engine.now) story state.entry command) }
+    ensures steps { (base : Dictionary) (actors : List Actor) → StandsFor (script_views scripts.now) base state.entry actors → IfOk result (TakesSteps (script_views scripts.now) base state.entry actors) }
 {
     let (mut session, reply) = answer(rt, alloc, scripts, engine, log, state)?;
     session.place += 1;
@@ -226,6 +232,7 @@ fn code_at(scripts: &Scripts, session: u32, place: u32) -> u64
     ensures code { is_code (edit_counts (script_views scripts.now)) result ≡ true }
     ensures session { code_session result ≡ session }
     ensures at { place_of (script_views scripts.now) result ≡ record { session = session + 1; command = place + 1 } }
+    ensures counted_so { result ≡ code_after (script_views scripts.now) session place }
 {
     place_laws();
     code(

@@ -14,7 +14,7 @@ overflow_cast-count g c =
 pub loop-index-init : goal.loop-index-init
 loop-index-init g c =
     let ground : Ground = ground_of (g.E.Engine.meaning c.args.engine.now) c.args.scripts.now c.args.base.now in
-    rw c.new-replies.ensures.items (none_reached ground (g.E.Engine.stands c.args.engine.now) c.args.log.now c.args.job.session _ refl refl c.requires.fresh.1 c.of.ensures refl)
+    rw c.new-replies.ensures.items (none_reached ground (g.E.Engine.stands c.args.engine.now) c.args.log.now c.args.job.session _ c.requires.fresh.0 refl refl c.requires.fresh.1 c.of.ensures refl)
 
 pub turn-requires-clause-at : goal.turn-requires-clause-at
 turn-requires-clause-at g c κs within = c.loop-index.invariant.at
@@ -47,7 +47,7 @@ loop-index-preserved g c =
     let inside : n < length (commands_of ground.scripts number) = omega (arith, c.loop-index-test.true, many) in
     let here = next_command ground Stands c.args.log.now number c.loop-index.state replies n reached c.requires.fresh.0 inside in
     let turned = c.in_ok-after.ensures.turned (story_at ground reached.holding n) (command_after ground number c.requires.fresh.0 n inside) refl here reached.come in
-    rw c.in_ok-push.ensures.items (one_reached ground Stands c.args.log.now number c.loop-index.state replies n reached c.requires.fresh.0 inside c.in_ok-after.after c.in_ok-after.reply c.in_ok-after.ensures.at turned)
+    rw c.in_ok-push.ensures.items (one_reached ground Stands c.args.log.now number c.loop-index.state replies n reached c.requires.fresh.0 inside c.in_ok-after.after c.in_ok-after.reply c.in_ok-after.ensures.at turned (c.in_ok-after.ensures.steps ground.base reached.actors reached.acts))
 
 pub returns : goal.returns
 returns g c =

@@ -18,3 +18,6 @@ returns-clause-code c = rw (coded c) (c.place_laws.ensures.edits (script_views c
 
 pub returns-clause-at : goal.returns-clause-at
 returns-clause-at c = rw (coded c) (c.place_laws.ensures.edits (script_views c.args.scripts.now) c.requires.scripts c.args.session c.args.place c.requires.edit.0 c.requires.edit.1).1
+
+pub returns-clause-counted_so : goal.returns-clause-counted_so
+returns-clause-counted_so c = coded c

@@ -20,3 +20,8 @@ returns-clause-at g c =
 
 pub returns-clause-turned : goal.returns-clause-turned
 returns-clause-turned g c = λ story command same stands come. (c.in_ok-session.ensures story same).turned command stands come
+
+pub returns-clause-steps : goal.returns-clause-steps
+returns-clause-steps g c = λ base actors stands.
+    let story : Story = record { scripts = script_views c.args.scripts.now; base = base; holding = None; limit = 0 } in
+    (c.in_ok-session.ensures story refl).steps actors stands
