@@ -4,6 +4,7 @@ pub mod Whole
 pub mod Laws
 pub mod Fronts
 pub mod Keys
+pub mod Hashed
 pub mod Numbered
 pub mod Kept
 pub mod Ways

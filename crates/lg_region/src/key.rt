@@ -1,4 +1,10 @@
 //! Keys: regions in numbers.
+ghost use Rattle.std.specs.Prelude.{◌++◌};
+ghost use Rattle.std.specs.Hash as fed;
+ghost use Rattle.std.specs.Cmp.Rules.{comparing, hashing};
+ghost use Rattle.std.proofs.Common.{rules};
+
+use std::hash::{Hash, Hasher};
 
 /// The places of a link at the word on the left and at the word on the right.
 #[derive(Clone, Copy, Debug, PartialEq, Eq)]
@@ -11,7 +17,7 @@ pub struct Joint {
 /// given by their numbers.
 ///
 /// `right` may be the number of positions, the end of the sentence, with the empty list.
-#[derive(Clone, Copy, Debug, PartialEq, Eq, Hash)]
+#[derive(Clone, Copy, Debug, PartialEq, Eq)]
 pub enum Key {
     Whole {
         nulls: u32,
@@ -23,4 +29,31 @@ pub enum Key {
         rlist: u32,
         nulls: u32,
     },
+}
+
+// Keys are looked up all the time, so each gives the hasher one number. Positions and numbers of unlinked words are small, and lists
+// are far fewer than 2^32, so that two keys of one problem give two numbers.
+impl Hash for Key {
+    ghost use Rattle.lg_region.specs.Hashed.{input_of};
+
+    ghost hash_input = { input_of };
+
+    ghost respects_eq = { Prim.search (hashing, rules) };
+
+    fn hash<H: Hasher>(&self, state: &mut H) {
+        match *self {
+            Key::Whole { nulls } => state.write_u32(nulls),
+            Key::Region {
+                left,
+                right,
+                llist,
+                rlist,
+                nulls,
+            } => {
+                let ends = (left as u128) << 96 | ((right as u128) << 80 | (nulls as u128) << 64);
+                let lists = (llist as u128) << 32 | rlist as u128;
+                state.write_u128(ends | lists);
+            }
+        }
+    }
 }
