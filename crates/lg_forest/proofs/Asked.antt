@@ -14,7 +14,7 @@ use Rattle.lg_region.specs.declared.alternative.Alt.{Alt}
 use Rattle.lg_forest.specs.Demands.{HasLinkageUnder, AsksNext, Reaches, left_key, right_key}
 use Rattle.lg_forest.specs.Demands.AsksNext.{left, right}
 use Rattle.lg_forest.specs.Demands.Reaches.{itself, onward}
-use Rattle.lg_forest.specs.declared.search.Last.{Last}
+use Rattle.lg_forest.specs.declared.search.alternatives.Last.{Last}
 use Rattle.lg_forest.specs.Forests.{AreLive}
 use Rattle.lg_forest.specs.Search.{KeysAreDecided, IsTable, IsLast, Asked, AsksOf, key_width, part_bound}
 use Rattle.lg_forest.specs.Search.AsksOf.{left as asks_left, right as asks_right}

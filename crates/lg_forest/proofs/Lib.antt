@@ -18,3 +18,4 @@ pub mod Levels
 pub mod Opening
 pub mod Starting
 pub mod Origins
+pub mod Going

@@ -5,3 +5,4 @@ pub mod Search
 pub mod Drafts
 pub mod Halves
 pub mod Opened
+pub mod Goes

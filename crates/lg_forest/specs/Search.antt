@@ -10,7 +10,7 @@ use Rattle.lg_region.specs.declared.key.Key.TheVariants.{Whole, Region as Betwee
 use Rattle.lg_region.specs.declared.alternative.Alt.{Alt}
 use Rattle.lg_forest.specs.Demands.{HasLinkageUnder, left_key, right_key, AsksNext, Reaches}
 use Rattle.lg_forest.specs.Forests.{IsLive, AreLive}
-use Rattle.lg_forest.specs.declared.search.Last.{Last}
+use Rattle.lg_forest.specs.declared.search.alternatives.Last.{Last}
 
 -- from end to end; the whole sentence is wider than each region
 abbrev pub key_width : List (List Disjunct) → Key → ℕ

@@ -1,9 +1,8 @@
 //! Forests, and how they are made.
-ghost use Rattle.std.specs.Prelude.{◌≡◌, ◌≢◌, ◌↔◌, ◌+◌, ◌<◌, ◌≤◌, ◌^◌, suc, [], ℕ, List, length, IfOk, OnOk, MatchOption, Contains};
+ghost use Rattle.std.specs.Prelude.{◌≡◌, ◌≢◌, ◌↔◌, ◌+◌, ◌<◌, ◌≤◌, ◌^◌, [], ℕ, List, length, IfOk, MatchOption, Contains};
 ghost use Rattle.std.specs.Map.{keys_of};
 ghost use Rattle.lg_gram.specs.Connectors.{Connector};
 ghost use Rattle.lg_gram.specs.Levels.{IsFewest};
-ghost use Rattle.lg_gram.specs.Limits.{POSITIONS};
 ghost use Rattle.lg_gram.specs.declared.disjunct.Disjunct.{Disjunct};
 ghost use Rattle.lg_region.specs.Fronts.{AreListsOf, AreOnce};
 ghost use Rattle.lg_region.specs.declared.key.Key.{Key};
@@ -11,13 +10,10 @@ ghost use Rattle.lg_region.specs.declared.alternative.Alt.{Alt};
 ghost use Rattle.lg_forest.specs.Demands.{IsDemanded, HasLinkageUnder};
 ghost use Rattle.lg_forest.specs.Forests.{AreWorkers, IsForest, CountsKeys, HasStepped};
 ghost use Rattle.lg_forest.specs.Known.{AreKnown};
-ghost use Rattle.lg_forest.specs.Opened.{IsLeft, IsMemory};
-ghost use Rattle.lg_forest.specs.Search.{KeysAreDecided, Asked, IsWholeFrom, IsCounted};
 
 use crate::known::Known;
 use crate::law::keys_are_decided;
-use crate::memory::Memory;
-use crate::search::visit;
+use crate::search::Search;
 use crate::table::Table;
 use crate::worker::Levels;
 use crate::workers::known_of;
@@ -109,10 +105,9 @@ pub fn solve<R: Threads + Sync, L>(
     let lists = Lists::of(alloc, problem)?;
     let levels = Levels { from: 0, end: last };
     let known = known_of(rt, alloc, problem, &lists, levels, workers)?;
-    let mut memory = Memory::of(alloc, known);
-    let mut table = Table::new(alloc);
-    let unused = fewest(alloc, &lists, last, &mut table, &mut memory, steps)?;
-    Ok(Forest::of(unused, table))
+    let mut search = Search::of(alloc, known);
+    let unused = search.fewest(&lists, last, steps)?;
+    Ok(Forest::of(unused, search.into_table()))
 }
 
 /// The forest of a problem with exactly so many unlinked words. Each demanded key is one step. The only error is running out of
@@ -190,40 +185,7 @@ fn forest_at<L>(
     lists.are_numbered();
     // the call tells that there are few positions
     let _positions = problem.positions();
-    let mut table = Table::new(alloc);
-    let key = Key::Whole { nulls };
-    let mut memory = Memory::of(alloc, known);
-    visit(alloc, lists, &mut table, &mut memory, key, steps)?;
-    Ok(Forest::of(nulls, table))
-}
-
-// The fewest unlinked words of a linkage. Puts all that is asked for into the table, which is empty.
-fn fewest<L>(
-    alloc: Global,
-    lists: &Lists<'_>,
-    last: u32,
-    table: &mut Table,
-    memory: &mut Memory,
-    steps: &mut Steps<L>,
-) -> Result<u32, NoMemory>
-    requires decided { KeysAreDecided lists.now }
-    requires last { last ≡ length lists.now.positions }
-    requires few { last ≤ POSITIONS }
-    requires empty { table.old ≡ [] }
-    requires known { IsMemory lists.now table.old memory.old }
-    requires room { steps.old < 2 ^ 126 }
-    ensures fewest { let n = lists.entry.now in IfOk result (IsFewest n.positions) }
-    ensures asked { let n = lists.entry.now in IfOk result (λ nulls. Asked n (IsWholeFrom 0 (suc nulls)) table.old table.new) }
-    ensures left { OnOk result (IsLeft lists.entry.now table.new memory.old memory.new) }
-    ensures steps { OnOk result (IsCounted 0 (steps.old + length memory.new.known) table.old (steps.new + length memory.old.known) table.new) }
-    ensures later { steps.old ≤ steps.new }
-{
-    for nulls in 0..last {
-        if visit(alloc, lists, table, memory, Key::Whole { nulls }, steps)? {
-            return Ok(nulls);
-        }
-    }
-    let key = Key::Whole { nulls: last };
-    visit(alloc, lists, table, memory, key, steps)?;
-    Ok(last)
+    let mut search = Search::of(alloc, known);
+    search.visit(lists, Key::Whole { nulls }, steps)?;
+    Ok(Forest::of(nulls, search.into_table()))
 }

@@ -1,4 +1,4 @@
-use Rattle.lg_forest.proofs.search.alts_of.Goals as goal
+use Rattle.lg_forest.proofs.search.alternatives.alts_of.Goals as goal
 
 pub returns-in-Some-clause-alts : goal.returns-in-Some-clause-alts
 returns-in-Some-clause-alts g c = c.requires.known c.args.key c.in-Some.alts c.in-Some.ensures.taken.0 c.requires.key

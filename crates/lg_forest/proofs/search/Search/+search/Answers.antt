@@ -1,0 +1,548 @@
+use Rattle.std.proofs.Common.{inl, inr, refl, [], ◌≡◌, ◌↔◌, ◌+◌, ◌<◌, ◌≤◌, ◌∙◌, true≢false, Option, subst, sym, ap, Some, IsTrue, IfOk, OnOk, IfSome, length, take, slice_get, get_or, Contains, map, arith, rules}
+use Rattle.std.proofs.lemmas.Option.{slice_get-get_or}
+use Rattle.lg_region.specs.Keys.{kept}
+use Rattle.lg_region.specs.Small.{full}
+use Rattle.lg_forest.specs.Demands.{HasLinkageUnder, left_key}
+use Rattle.lg_forest.specs.Forests.{IsLive, AreLive}
+use Rattle.lg_forest.specs.Search.{Asked, AsksOf, IsLast, key_width}
+use Rattle.lg_region.specs.declared.key.Key.{Key}
+use Rattle.lg_region.specs.declared.alternative.Alt.TheVariants.{Split as At}
+use Rattle.lg_forest.proofs.Going.{goes_added, goes_as, goes_none, goes_then, gap_valid, ok_goes, ok_then, ok_ticked, ready_after, ready_less, ready_ticked}
+use Rattle.lg_forest.specs.Goes.{Goes, gap_width, key_of}
+use Rattle.lg_forest.proofs.Asked.{live_decides, not_there, asked_added, asked_as, asked_more, asked_all, asked_left, asked_both, ok_as, on_ok_as, last_kept, alt_at, exact}
+use Rattle.lg_forest.proofs.Flags.{Flags, kept_live, flags_long, flags_more, all_flags}
+use Rattle.lg_forest.specs.Halves.{AddsLive}
+use Rattle.lg_forest.proofs.Among as part
+use Rattle.lg_forest.proofs.Among.{Among, In}
+use Rattle.lg_region.specs.declared.alternative.Alt.{Alt}
+use Rattle.lg_region.specs.Alike.{end_of}
+use Rattle.lg_region.specs.Openings.{LeavesLeft, left_of}
+use Rattle.lg_region.specs.declared.opening.Beginning.{Beginning}
+use Rattle.lg_forest.specs.Opened.{AsksLeft, IsAny, IsMemory, IsOpening, StandsAt, StartsSo}
+use Rattle.lg_region.specs.Ways.{AddsExactly}
+use Rattle.lg_forest.proofs.Once.{contains_at}
+use Rattle.lg_forest.proofs.search.Search.+search.Goals as goal
+use Rattle.lg_forest.proofs.search.Search.+search.Goals.{explore_beginning-then-branch+in_ok-push, explore_beginning-else-branch, open_group-then-branch+in_ok-push, open_group-else-branch, open-in-Some, open-in-None}
+use Rattle.lg_forest.proofs.Opening.{memory_added, no_beginning, none_starts, opening_kept, opening_new, opening_some, same_begins, word_opened, words_all, words_first, words_next}
+use Rattle.lg_forest.proofs.Levels.{LeavesFewer, fewer_apart, fewer_next, fewer_none, levels_asked, levels_live}
+use Rattle.lg_forest.proofs.Starting.{IsOfGroup, OfFirst, SoFar, opening_asked, opening_live, start_asked, group_asked, group_started, group_there, groups_apart, groups_started, left_asked, lefts_as, lefts_then, start_dropped, start_kept, at_word, word_started}
+
+same_key : (k m : Key) → ◌≡◌ {A = Option Key} (Some k) (Some m) → k ≡ m
+same_key k m e = cc
+
+pub explore_all-is_live-requires : goal.explore_all-is_live-requires
+explore_all-is_live-requires g t c κs within =
+    let is = alt_at c.args.lists.now c.args.key c.in_ok-alts.alts c.loop-index.index c.get.result c.in_ok-alts.ensures.alts.exactly c.get.ensures in
+    let below = c.requires.ready.decided.below c.args.key c.get.result c.requires.key is in
+    (search rules, (search rules, (ready_after c.requires.ready c.loop-index.invariant.goes (omega arith), (c.requires.ready.decided.valid c.args.key c.get.result c.requires.key is, c.loop-index.invariant.last))))
+
+pub explore_all-loop-index-preserved : goal.explore_all-loop-index-preserved
+explore_all-loop-index-preserved g t c =
+    let at = subst (λ z. slice_get z c.loop-index.index ≡ Some c.get.result) (sym c.alts.view_is) c.get.ensures in
+    let n = c.args.lists.now in
+    record {
+      goes = goes_then c.loop-index.invariant.goes c.in_ok-live.ensures.goes
+          (asked_more n (map full c.alts.inside.items.items) c.loop-index.index (c.loop-index.index + 1) c.get.result c.args.self.now.table c.loop-index.self.table c.is_live.new.self.table at (omega arith) c.loop-index.invariant.goes.asked c.in_ok-live.ensures.goes.asked);
+      flags = subst (λ z. Flags (IsLive n.positions n.lists) (take (c.loop-index.index + 1) (map full c.alts.inside.items.items)) z) (sym c.in_ok-push.ensures.items)
+          (flags_more (IsLive n.positions n.lists) (map full c.alts.inside.items.items) c.loop-index.index (c.loop-index.index + 1) c.get.result c.loop-index.flags.items c.in_ok-live.live at (omega arith) c.loop-index.invariant.flags c.in_ok-live.ensures.live);
+      last = c.in_ok-live.ensures.last;
+    }
+
+pub explore_all-keep-requires : goal.explore_all-keep-requires
+explore_all-keep-requires g t c =
+    let all = all_flags c.args.lists.now c.in_ok-alts.alts (map full c.alts.inside.items.items) c.loop-index.index c.loop-index.flags.items c.alts.view_is (omega arith) c.loop-index.invariant.flags in
+    ap length c.as_slice.ensures.value ∙ flags_long c.args.lists.now c.in_ok-alts.alts c.loop-index.flags.items all
+
+pub explore_all-returns-clause-live : goal.explore_all-returns-clause-live
+explore_all-returns-clause-live g t c =
+    let n = c.args.lists.now in
+    let all = all_flags n c.in_ok-alts.alts (map full c.alts.inside.items.items) c.loop-index.index c.loop-index.flags.items c.alts.view_is (omega arith) c.loop-index.invariant.flags in
+    let live = kept_live n c.args.key c.in_ok-alts.alts c.loop-index.flags.items c.in_ok-alts.ensures.alts.exactly c.in_ok-alts.ensures.alts.once all in
+    subst (λ z. AreLive n.positions n.lists c.args.key z) (sym (c.keep.ensures ∙ ap (kept c.in_ok-alts.alts) c.as_slice.ensures.value)) live
+
+pub explore_all-returns-clause-goes : goal.explore_all-returns-clause-goes
+explore_all-returns-clause-goes g t c =
+    let e = ap length c.alts.view_is in
+    goes_as c.loop-index.invariant.goes
+    (asked_all c.args.lists.now c.args.key (map full c.alts.inside.items.items) c.loop-index.index c.args.self.now.table c.loop-index.self.table
+    (exact c.args.lists.now c.args.key c.in_ok-alts.alts (map full c.alts.inside.items.items) c.alts.view_is c.in_ok-alts.ensures.alts.exactly) (omega arith) c.loop-index.invariant.goes.asked)
+
+pub is_live-returns-then-branch-clause-live : goal.is_live-returns-then-branch-clause-live
+is_live-returns-then-branch-clause-live g t c =
+    let n = c.args.lists.now in
+    subst (λ z. IfOk c.visit_part.result (λ live. IsTrue live ↔ IsLive n.positions n.lists z)) (sym c.in-Split.is)
+    (ok_as c.visit_part.result (λ found. IsTrue found ↔ IfSome c.in-Split.rkey (HasLinkageUnder n.positions n.lists)) (λ live. IsTrue live ↔ IsLive n.positions n.lists (At c.in-Split.word c.in-Split.disjunct c.in-Split.to_left c.in-Split.to_right c.in-Split.lkey c.in-Split.rkey))
+    (λ found h. ((λ yes. record { left = c.in_ok-visit_left-in-Split.ensures.found.0 c.if-branch.true; right = h.0 yes }), (λ live. h.1 live.right)))
+    c.visit_part.ensures.found)
+
+pub is_live-returns-then-branch-clause-goes : goal.is_live-returns-then-branch-clause-goes
+is_live-returns-then-branch-clause-goes g t c =
+    let n = c.args.lists.now in
+    let left = c.in_ok-visit_left-in-Split.ensures in
+    subst (λ z. OnOk c.visit_part.result (Goes n (AsksOf n z) 0 c.args.self.now c.args.steps.now c.visit_part.new.self c.visit_part.new.steps)) (sym c.in-Split.is)
+    (ok_then c.visit_part.result c.visit_part.new.self c.visit_part.new.steps left.goes c.visit_part.ensures.goes (asked_both n (At c.in-Split.word c.in-Split.disjunct c.in-Split.to_left c.in-Split.to_right c.in-Split.lkey c.in-Split.rkey) c.args.self.now.table c.visit_left.new.self.table c.visit_part.new.self.table (left.found.0 c.if-branch.true) left.goes.asked))
+
+pub is_live-returns-then-branch-clause-last : goal.is_live-returns-then-branch-clause-last
+is_live-returns-then-branch-clause-last g t c =
+    let n = c.args.lists.now in
+    on_ok_as c.visit_part.result (Goes n (λ k. c.in-Split.rkey ≡ Some k) 0 c.visit_left.new.self c.visit_left.new.steps c.visit_part.new.self c.visit_part.new.steps) (IsLast n c.visit_part.new.self.table c.visit_left.new.last)
+    (λ x. last_kept n c.visit_left.new.self.table c.visit_part.new.self.table c.visit_left.new.last x.asked.kept c.in_ok-visit_left-in-Split.ensures.last)
+    c.visit_part.ensures.goes
+
+pub is_live-returns-else-branch-clause-live : goal.is_live-returns-else-branch-clause-live
+is_live-returns-else-branch-clause-live g t c =
+    let n = c.args.lists.now in (
+      (λ yes. absurd (true≢false (sym yes))),
+      (λ live. absurd (true≢false (sym (c.in_ok-visit_left-in-Split.ensures.found.1 (subst (λ z. IfSome (left_key z) (HasLinkageUnder n.positions n.lists)) c.in-Split.is live.left)) ∙ c.if-branch.false))),
+    )
+
+pub is_live-returns-else-branch-clause-goes : goal.is_live-returns-else-branch-clause-goes
+is_live-returns-else-branch-clause-goes g t c =
+    let n = c.args.lists.now in
+    let left = c.in_ok-visit_left-in-Split.ensures in
+    subst (λ z. Goes n (AsksOf n z) 0 c.args.self.now c.args.steps.now c.visit_left.new.self c.visit_left.new.steps) (sym c.in-Split.is)
+    (goes_as left.goes (asked_left n (At c.in-Split.word c.in-Split.disjunct c.in-Split.to_left c.in-Split.to_right c.in-Split.lkey c.in-Split.rkey) c.args.self.now.table c.visit_left.new.self.table (λ live. true≢false (sym (left.found.1 live) ∙ c.if-branch.false)) left.goes.asked))
+
+pub visit-returns-in-Some-clause-found : goal.visit-returns-in-Some-clause-found
+visit-returns-in-Some-clause-found g t c =
+    live_decides c.args.lists.now c.args.key c.in-Some.alts.now c.is_empty.result c.requires.ready.decided c.requires.key (c.requires.ready.table.live c.args.key c.in-Some.alts.now c.in-Some.ensures) c.is_empty.ensures
+
+pub visit-add-requires : goal.visit-add-requires
+visit-add-requires g t c = not_there c.args.lists.now c.args.key c.args.self.now.table c.explore.new.self.table c.requires.ready.decided c.requires.key c.in_default.ensures c.in_ok-live.ensures.goes.asked
+
+pub visit-returns-clause-found : goal.visit-returns-clause-found
+visit-returns-clause-found g t c =
+    live_decides c.args.lists.now c.args.key c.in_ok-live.live c.is_empty-found.result c.requires.ready.decided c.requires.key c.in_ok-live.ensures.live c.is_empty-found.ensures
+
+pub visit-returns-clause-goes : goal.visit-returns-clause-goes
+visit-returns-clause-goes g t c = goes_added c.requires.key c.in_ok-live.ensures.live c.in_ok-live.ensures.goes c.in_ok-add.ensures.added refl
+
+pub visit_part-returns-in-Some-clause-found : goal.visit_part-returns-in-Some-clause-found
+visit_part-returns-in-Some-clause-found g t c =
+    let n = c.args.lists.now in subst (λ z. IfOk c.visit.result (λ found. IsTrue found ↔ IfSome z (HasLinkageUnder n.positions n.lists))) (sym c.in-Some.is) c.visit.ensures.found
+
+pub visit_part-returns-in-Some-clause-goes : goal.visit_part-returns-in-Some-clause-goes
+visit_part-returns-in-Some-clause-goes g t c =
+    let n = c.args.lists.now in
+    ok_goes c.visit.result 0 c.args.steps.now c.visit.new.steps c.args.self.now c.visit.new.self c.visit.ensures.goes
+    (asked_as n (λ k. k ≡ c.in-Some.key) (λ k. c.args.key ≡ Some k) c.args.self.now.table c.visit.new.self.table (λ k e. c.in-Some.is ∙ ap Some (sym e)) (λ k e. same_key k c.in-Some.key (sym e ∙ c.in-Some.is)))
+
+pub explore-tick-requires : goal.explore-tick-requires
+explore-tick-requires g t c =
+    let room = c.requires.ready.room in
+    let size = c.len-size.ensures.value in
+    let few = c.len-size.ensures.small in
+    let fits = c.len-size.type_inv in
+    omega arith
+
+pub explore-explore_gap-requires : goal.explore-explore_gap-requires
+explore-explore_gap-requires g t c κs within =
+    let width = ap (key_width c.args.lists.now.positions) c.in-Some.ensures.gap.key_is in
+    (omega arith, (search rules, (ready_ticked c.tick.ensures c.in-Some.ensures.gap c.requires.ready, gap_valid c.requires.key c.in-Some.ensures.gap)))
+
+pub explore-returns-in-Some-clause-live : goal.explore-returns-in-Some-clause-live
+explore-returns-in-Some-clause-live g t c =
+    let n = c.args.lists.now in
+    subst (λ z. IfOk c.explore_gap.result (AreLive n.positions n.lists z)) (sym c.in-Some.ensures.gap.key_is) c.explore_gap.ensures.live
+
+pub explore-returns-in-Some-clause-goes : goal.explore-returns-in-Some-clause-goes
+explore-returns-in-Some-clause-goes g t c = ok_ticked c.explore_gap.result c.args.steps.now c.explore_gap.new.steps c.args.self.now c.explore_gap.new.self c.tick.ensures c.in-Some.ensures.gap c.explore_gap.ensures.goes
+
+pub explore_gap-loop-nulls-init : goal.explore_gap-loop-nulls-init
+explore_gap-loop-nulls-init g t c = record {
+  goes = goes_none c.requires.ready (part.asked_start c.args.lists.now _ c.args.self.now.table c.requires.ready.table (λ k (a, alt, m, o). fewer_none a m));
+  live = subst (λ z. AddsLive c.args.lists.now (key_of c.args.gap.now) (LeavesFewer 0) [] z) (sym c.new-live.ensures.items) (part.adds_none [] _ (λ a (alt, m, l). fewer_none a m));
+}
+
+pub explore_gap-explore_opening-requires : goal.explore_gap-explore_opening-requires
+explore_gap-explore_opening-requires g t c κs within =
+    let test = c.loop-nulls-test.true in
+    let few : c.loop-nulls.nulls ≤ c.args.gap.now.nulls = omega arith in
+    (search rules, (search rules, (ready_after c.requires.ready c.loop-nulls.invariant.goes (omega arith), (c.requires.gap, few))))
+
+pub explore_gap-loop-nulls-preserved : goal.explore_gap-loop-nulls-preserved
+explore_gap-loop-nulls-preserved g t c =
+    let n = c.args.lists.now in
+    let i = c.loop-nulls.nulls in
+    let step = fewer_next i (i + 1) refl in
+    record {
+      goes = goes_then c.loop-nulls.invariant.goes c.in_ok-explore_opening.ensures.goes
+          (part.asked_parts n (key_of c.args.gap.now) (LeavesFewer i) (LeavesLeft i) (LeavesFewer (i + 1)) step c.args.self.now.table c.loop-nulls.self.table c.explore_opening.new.self.table c.loop-nulls.invariant.goes.asked c.in_ok-explore_opening.ensures.goes.asked);
+      live = part.live_parts n (key_of c.args.gap.now) (LeavesFewer i) (LeavesLeft i) (LeavesFewer (i + 1)) step [] c.loop-nulls.live.items c.explore_opening.new.live.items (fewer_apart i) c.loop-nulls.invariant.live c.in_ok-explore_opening.ensures.live;
+    }
+
+pub explore_gap-returns-clause-live : goal.explore_gap-returns-clause-live
+explore_gap-returns-clause-live g t c =
+    let n = c.args.lists.now in
+    let test = c.loop-nulls-test.false in
+    let live = levels_live n (key_of c.args.gap.now) c.args.gap.now c.requires.gap.is_gap c.are_numbered.ensures c.regions_begin_alike.ensures c.loop-nulls.nulls (omega arith) c.loop-nulls.live.items c.loop-nulls.invariant.live in
+    ok_as c.of.result (λ list. list ≡ c.deref.result.now) (AreLive n.positions n.lists (key_of c.args.gap.now)) (λ list e. subst (λ z. AreLive n.positions n.lists (key_of c.args.gap.now) z) (sym (e ∙ c.deref.ensures.value)) live) c.of.ensures
+
+pub explore_gap-returns-clause-goes : goal.explore_gap-returns-clause-goes
+explore_gap-returns-clause-goes g t c =
+    let test = c.loop-nulls-test.false in
+    part.ok_any c.of.result _
+    (goes_as c.loop-nulls.invariant.goes
+    (levels_asked c.args.lists.now (key_of c.args.gap.now) c.args.gap.now c.requires.gap.is_gap c.are_numbered.ensures c.regions_begin_alike.ensures c.loop-nulls.nulls (omega arith) c.args.self.now.table c.loop-nulls.self.table c.loop-nulls.invariant.goes.asked))
+
+pub explore_gap-of-requires : goal.explore_gap-of-requires
+explore_gap-of-requires g t c = λ a h.
+    let n = c.args.lists.now in
+    let test = c.loop-nulls-test.false in
+    let live = levels_live n (key_of c.args.gap.now) c.args.gap.now c.requires.gap.is_gap c.are_numbered.ensures c.regions_begin_alike.ensures c.loop-nulls.nulls (omega arith) c.loop-nulls.live.items c.loop-nulls.invariant.live in
+    c.alternatives_are_small.ensures n.positions n.lists (key_of c.args.gap.now) a c.keep_limits.ensures c.are_numbered.ensures c.requires.gap.valid ((live.exactly a).0 (subst (λ z. Contains z a) c.deref.ensures.value h)).0
+
+pub open_group-loop-index-init : goal.open_group-loop-index-init
+open_group-loop-index-init g t c = record {
+  starts = part.adds_none c.args.starts.now.items _ (λ s (u, m, v). part.among_none (λ (b : Beginning) (d : Beginning). b ≡ d) c.as_slice-begins.result.now s.begin m);
+  goes = goes_none c.requires.ready (part.asked_start c.args.lists.now _ c.args.self.now.table c.requires.ready.table (λ k m. part.among_none (λ (b : Beginning) (k : Key). left_of c.args.gap.now c.args.group.now b ≡ k) c.as_slice-begins.result.now k m));
+}
+
+pub open_group-visit-requires : goal.open_group-visit-requires
+open_group-visit-requires g t c κs within =
+    let test = c.loop-index-test.true in
+    let at = slice_get-get_or c.as_slice-begins.result.now c.loop-index.index no_beginning (omega arith) in
+    let of = (same_begins c.args.lists.now c.args.gap.now c.args.group.now c.args.nulls _ _ c.as_slice-begins.ensures c.in_ok-found.ensures).each (get_or c.as_slice-begins.result.now c.loop-index.index no_beginning) (contains_at c.as_slice-begins.result.now c.loop-index.index (get_or c.as_slice-begins.result.now c.loop-index.index no_beginning) at) in
+    let valid = part.left_valid c.args.lists.now (key_of c.args.gap.now) c.args.gap.now c.args.group.now (get_or c.as_slice-begins.result.now c.loop-index.index no_beginning) c.key-lkey.result c.requires.ready.decided c.requires.gap.valid refl c.key-lkey.ensures of in
+    let narrow : key_width c.args.lists.now.positions c.key-lkey.result < gap_width c.args.gap.now = valid.1 in
+    (search rules, (search rules, (ready_after c.requires.ready c.loop-index.invariant.goes (omega arith), valid.0)))
+
+pub open_group-loop-index-preserved : goal.open_group-loop-index-preserved
+open_group-loop-index-preserved g t c =
+    let n = c.args.lists.now in
+    let gap = c.args.gap.now in
+    let group = c.args.group.now in
+    let bs = c.as_slice-begins.result.now in
+    let i = c.loop-index.index in
+    let b = get_or bs i no_beginning in
+    let test = c.loop-index-test.true in
+    let at = slice_get-get_or bs i no_beginning (omega arith) in
+    let key = c.key-lkey.ensures in
+    record {
+      starts = elim c.if-branch.branch [
+        | open_group-then-branch+in_ok-push w ↦ subst (λ z. AddsExactly c.args.starts.now.items z (OfFirst n gap group bs (i + 1))) (sym (ap (λ v. v.items) w.starts-is))
+            (start_kept n gap group bs i (i + 1) b (omega arith) at c.args.starts.now.items c.loop-index.starts.items _ (record { group = group; begin = b }) (same_begins c.args.lists.now c.args.gap.now c.args.group.now c.args.nulls _ _ c.as_slice-begins.ensures c.in_ok-found.ensures).once refl refl
+            (subst (λ z. HasLinkageUnder n.positions n.lists z) key (c.in_ok-visit.ensures.found.0 w.if-branch.true)) w.in_ok-push.ensures.items c.loop-index.invariant.starts)
+        | open_group-else-branch w ↦ subst (λ z. AddsExactly c.args.starts.now.items z (OfFirst n gap group bs (i + 1))) (sym (ap (λ v. v.items) w.starts-is))
+            (start_dropped n gap group bs i (i + 1) b (omega arith) at c.args.starts.now.items c.loop-index.starts.items (λ l. true≢false (sym (c.in_ok-visit.ensures.found.1 (subst (λ z. HasLinkageUnder n.positions n.lists z) (sym key) l)) ∙ w.if-branch.false)) c.loop-index.invariant.starts)
+      ];
+      goes = goes_then c.loop-index.invariant.goes c.in_ok-visit.ensures.goes
+          (left_asked n gap group bs i (i + 1) b (omega arith) at c.args.self.now.table c.loop-index.self.table c.visit.new.self.table c.key-lkey.result key c.loop-index.invariant.goes.asked c.in_ok-visit.ensures.goes.asked);
+    }
+
+pub open_group-returns-clause-starts : goal.open_group-returns-clause-starts
+open_group-returns-clause-starts g t c =
+    let bs = c.as_slice-begins.result.now in
+    let test = c.loop-index-test.false in
+    group_started c.args.lists.now (key_of c.args.gap.now) c.args.gap.now c.args.group.now c.args.nulls refl bs (same_begins c.args.lists.now c.args.gap.now c.args.group.now c.args.nulls _ _ c.as_slice-begins.ensures c.in_ok-found.ensures) c.loop-index.index (omega arith) c.args.starts.now.items c.loop-index.starts.items c.loop-index.invariant.starts
+
+pub open_group-returns-clause-goes : goal.open_group-returns-clause-goes
+open_group-returns-clause-goes g t c =
+    let bs = c.as_slice-begins.result.now in
+    let test = c.loop-index-test.false in
+    goes_as c.loop-index.invariant.goes
+    (group_asked c.args.lists.now (key_of c.args.gap.now) c.args.gap.now c.args.group.now c.args.nulls refl bs (same_begins c.args.lists.now c.args.gap.now c.args.group.now c.args.nulls _ _ c.as_slice-begins.ensures c.in_ok-found.ensures) c.loop-index.index (omega arith) c.args.self.now.table c.loop-index.self.table c.loop-index.invariant.goes.asked)
+
+pub open_word-loop-index-init : goal.open_word-loop-index-init
+open_word-loop-index-init g t c = record {
+  starts = part.adds_none c.args.opening.now.starts.items _ (λ s m. part.among_none (IsOfGroup c.args.lists.now c.args.gap.now c.args.nulls) c.in_ok-groups.groups.items s m);
+  goes = goes_none c.requires.ready (part.asked_start c.args.lists.now _ c.args.self.now.table c.requires.ready.table (λ k (a, alt, m, e). part.among_none In c.in_ok-groups.groups.items a m));
+}
+
+pub open_word-open_group-requires : goal.open_word-open_group-requires
+open_word-open_group-requires g t c κs within =
+    let gs = c.in_ok-groups.groups.items in
+    let end : c.len-index-end.result ≡ length gs = c.len-index-end.ensures ∙ c.in_ok-groups.groups.ok.0 in
+    let test = c.loop-index-test.true in
+    let at = part.at_of gs c.loop-index.index c.index.result.now (omega arith) c.index.ensures in
+    let of = group_there c.args.lists.now c.args.gap.now c.args.word gs c.in_ok-groups.ensures c.index.result.now (contains_at gs c.loop-index.index c.index.result.now at) in
+    (search rules, (search rules, (ready_after c.requires.ready c.loop-index.invariant.goes (omega arith), (c.requires.gap, of.0))))
+
+pub open_word-loop-index-preserved : goal.open_word-loop-index-preserved
+open_word-loop-index-preserved g t c =
+    let n = c.args.lists.now in
+    let gs = c.in_ok-groups.groups.items in
+    let i = c.loop-index.index in
+    let end : c.len-index-end.result ≡ length gs = c.len-index-end.ensures ∙ c.in_ok-groups.groups.ok.0 in
+    let test = c.loop-index-test.true in
+    let at = part.at_of gs i c.index.result.now (omega arith) c.index.ensures in
+    let step = part.among_next In gs i (i + 1) c.index.result.now (omega arith) at in
+    record {
+      starts = groups_started n c.args.gap.now c.args.nulls gs (groups_apart n c.args.gap.now c.args.word gs c.in_ok-groups.ensures) i (i + 1) c.index.result.now (omega arith) at c.args.opening.now.starts.items c.loop-index.opening.starts.items c.open_group.new.starts.items c.loop-index.invariant.starts c.in_ok-open_group.ensures.starts;
+      goes = goes_then c.loop-index.invariant.goes c.in_ok-open_group.ensures.goes
+          (lefts_then n (key_of c.args.gap.now) c.args.nulls (Among In gs i) (In c.index.result.now) (Among In gs (i + 1)) step c.args.self.now.table c.loop-index.self.table c.open_group.new.self.table c.loop-index.invariant.goes.asked c.in_ok-open_group.ensures.goes.asked);
+    }
+
+pub open_word-returns-clause-opens : goal.open_word-returns-clause-opens
+open_word-returns-clause-opens g t c =
+    let gs = c.in_ok-groups.groups.items in
+    let end : c.len-index-end.result ≡ length gs = c.len-index-end.ensures ∙ c.in_ok-groups.groups.ok.0 in
+    let test = c.loop-index-test.false in
+    word_started c.args.lists.now c.args.gap.now c.args.nulls c.args.word gs c.in_ok-groups.ensures c.loop-index.index (omega arith) c.args.opening.now (record { done = c.args.word + 1; starts = c.loop-index.opening.starts }) refl c.loop-index.invariant.starts
+
+pub open_word-returns-clause-goes : goal.open_word-returns-clause-goes
+open_word-returns-clause-goes g t c =
+    let n = c.args.lists.now in
+    let gs = c.in_ok-groups.groups.items in
+    let end : c.len-index-end.result ≡ length gs = c.len-index-end.ensures ∙ c.in_ok-groups.groups.ok.0 in
+    let test = c.loop-index-test.false in
+    goes_as c.loop-index.invariant.goes
+    (lefts_as n (key_of c.args.gap.now) c.args.nulls (Among In gs c.loop-index.index) (StandsAt c.args.word)
+    (λ a alt. at_word n c.args.gap.now c.args.word gs c.in_ok-groups.ensures c.loop-index.index (omega arith) (key_of c.args.gap.now) refl a alt.0) c.args.self.now.table c.loop-index.self.table c.loop-index.invariant.goes.asked)
+
+pub open-loop-word-init : goal.open-loop-word-init
+open-loop-word-init g t c =
+    let n = c.args.lists.now in
+    let begin = c.requires.alike.left_is in
+    let opened : IsOpening n c.args.self.now.table c.args.origin.now c.match-take.opening = elim c.match-take.branch [
+      | open-in-Some w ↦ subst (λ z. IsOpening n c.args.self.now.table c.args.origin.now z) (sym w.opening-is) (c.requires.ready.known.opened c.args.origin.now w.in-Some.opening w.in-Some.ensures.taken)
+      | open-in-None w ↦ subst (λ z. IsOpening n c.args.self.now.table c.args.origin.now z) (sym w.opening-is)
+          (opening_new n c.are_numbered.ensures c.regions_begin_alike.ensures c.args.origin.now c.args.self.now.table _ (ap (λ z. z + 1) begin) w.new.ensures.items)
+    ] in
+    let behind = opened.behind in
+    record {
+      done = refl;
+      after = omega arith;
+      opened = opened;
+      goes = record {
+        asked = words_first n c.are_numbered.ensures c.regions_begin_alike.ensures c.args.origin.now (key_of c.args.gap.now) c.args.gap.now refl c.requires.alike c.match-take.opening c.args.self.now.table c.requires.ready.table opened;
+        left = record { known = record { known = c.requires.ready.known.known; opened = λ o x has. c.requires.ready.known.opened o x (c.take.ensures.left o x has) }; fewer = omega arith };
+        steps = omega arith;
+        later = omega arith;
+      };
+    }
+
+pub open-open_word-requires : goal.open-open_word-requires
+open-open_word-requires g t c κs within =
+    let test = c.loop-word-test.true in
+    let end = c.end_with-end.ensures in
+    (search rules, (search rules, (ready_after c.requires.ready c.loop-word.invariant.goes (omega arith), (c.requires.gap, (c.loop-word.invariant.after, omega arith)))))
+
+pub open-loop-word-preserved : goal.open-loop-word-preserved
+open-loop-word-preserved g t c =
+    let n = c.args.lists.now in
+    let gap = c.args.gap.now in
+    let end : c.loop-word.word < end_of gap c.args.origin.now.nulls = (let test = c.loop-word-test.true in let e = c.end_with-end.ensures in omega arith) in
+    let behind = c.loop-word.invariant.after in
+    record {
+      done = c.in_ok-open_word.ensures.opens.done;
+      after = omega arith;
+      opened = word_opened n c.are_numbered.ensures c.regions_begin_alike.ensures c.args.origin.now (key_of c.args.gap.now) gap c.loop-word.word refl c.requires.alike end c.loop-word.self.table c.open_word.new.self.table c.loop-word.opening c.open_word.new.opening
+          c.loop-word.invariant.done c.in_ok-open_word.ensures.opens c.in_ok-open_word.ensures.goes.asked.kept c.in_ok-open_word.ensures.goes.asked.there c.loop-word.invariant.opened;
+      goes = goes_then c.loop-word.invariant.goes c.in_ok-open_word.ensures.goes
+          (words_next n (key_of c.args.gap.now) c.args.origin.now.nulls c.loop-word.word (c.loop-word.word + 1) refl c.args.self.now.table c.loop-word.self.table c.open_word.new.self.table c.loop-word.invariant.goes.asked c.in_ok-open_word.ensures.goes.asked);
+    }
+
+pub open-returns-clause-goes : goal.open-returns-clause-goes
+open-returns-clause-goes g t c =
+    let test = c.loop-word-test.false in
+    let end = c.end_with-end.ensures in
+    goes_as c.loop-word.invariant.goes
+    (words_all c.args.lists.now c.are_numbered.ensures c.regions_begin_alike.ensures c.args.origin.now (key_of c.args.gap.now) c.args.gap.now refl c.requires.alike c.loop-word.word (omega arith) c.args.self.now.table c.loop-word.self.table c.loop-word.invariant.goes.asked)
+
+pub open-returns-clause-done : goal.open-returns-clause-done
+open-returns-clause-done g t c =
+    let test = c.loop-word-test.false in
+    let end = c.end_with-end.ensures in
+    let done = c.loop-word.invariant.done in
+    omega arith
+
+pub explore_start-returns-then-start-end-clause-live : goal.explore_start-returns-then-start-end-clause-live
+explore_start-returns-then-start-end-clause-live g t c =
+    let test = c.if-start-end.true in
+    let end = c.end_with-end.ensures in
+    part.adds_none c.args.live.now.items _
+    (λ a (alt, s, l). none_starts c.args.lists.now c.are_numbered.ensures c.regions_begin_alike.ensures c.args.origin.now (key_of c.args.gap.now) c.args.gap.now refl c.requires.alike c.args.start.now c.requires.level (omega arith) a alt s)
+
+pub explore_start-returns-then-start-end-clause-goes : goal.explore_start-returns-then-start-end-clause-goes
+explore_start-returns-then-start-end-clause-goes g t c =
+    let test = c.if-start-end.true in
+    let end = c.end_with-end.ensures in
+    goes_none c.requires.ready
+    (part.asked_start c.args.lists.now _ c.args.self.now.table c.requires.ready.table
+    (λ k (a, alt, s, o). none_starts c.args.lists.now c.are_numbered.ensures c.regions_begin_alike.ensures c.args.origin.now (key_of c.args.gap.now) c.args.gap.now refl c.requires.alike c.args.start.now c.requires.level (omega arith) a alt s))
+
+pub explore_start-explore_beginning-requires : goal.explore_start-explore_beginning-requires
+explore_start-explore_beginning-requires g t c κs within =
+    let test = c.if-start-end.false in
+    let end = c.end_with-end.ensures in
+    (search rules, (search rules, (ready_less c.requires.ready (omega arith), (c.requires.gap, c.requires.start (omega arith)))))
+
+pub explore_opening-loop-index-init : goal.explore_opening-loop-index-init
+explore_opening-loop-index-init g t c =
+    let n = c.args.lists.now in
+    let gap = c.args.gap.now in
+    let starts = c.in_ok-opening.opening.starts.items in
+    let asked = subst (λ z. Asked n (AsksLeft n (key_of c.args.gap.now) z IsAny) c.args.self.now.table c.open.new.self.table) c.origin_of-origin.ensures.nulls c.in_ok-opening.ensures.goes.asked in
+    record {
+      goes = goes_as c.in_ok-opening.ensures.goes
+          (asked_as n (AsksLeft n (key_of c.args.gap.now) c.args.nulls IsAny) (SoFar n (key_of c.args.gap.now) c.args.nulls gap starts 0) c.args.self.now.table c.open.new.self.table (λ k h. inl h) (λ k h. elim h [ inl l ↦ l | inr (a, alt, m, o) ↦ absurd (part.among_none (StartsSo gap) starts a m) ]) asked);
+      live = part.adds_none c.args.live.now.items _ (λ a (alt, m, l). part.among_none (StartsSo gap) starts a m);
+      opened = c.in_ok-opening.ensures.opened;
+    }
+
+pub explore_opening-explore_start-requires : goal.explore_opening-explore_start-requires
+explore_opening-explore_start-requires g t c κs within =
+    let starts = c.in_ok-opening.opening.starts in
+    let end : c.len-index-end.result ≡ length starts.items = c.len-index-end.ensures ∙ starts.ok.0 in
+    let test = c.loop-index-test.true in
+    let at = part.at_of starts.items c.loop-index.index c.index.result.now (omega arith) c.index.ensures in
+    let has = contains_at starts.items c.loop-index.index c.index.result.now at in
+    (search rules, (search rules, (ready_after c.requires.ready c.loop-index.invariant.goes (omega arith), (c.requires.gap, (c.origin_of-origin.ensures.begins, ((λ l. c.loop-index.invariant.opened.each c.args.gap.now c.index.result.now c.origin_of-origin.ensures.begins has l), c.loop-index.invariant.opened.level c.index.result.now has))))))
+
+pub explore_opening-loop-index-preserved : goal.explore_opening-loop-index-preserved
+explore_opening-loop-index-preserved g t c =
+    let n = c.args.lists.now in
+    let gap = c.args.gap.now in
+    let starts = c.in_ok-opening.opening.starts in
+    let i = c.loop-index.index in
+    let s = c.index.result.now in
+    let end : c.len-index-end.result ≡ length starts.items = c.len-index-end.ensures ∙ starts.ok.0 in
+    let test = c.loop-index-test.true in
+    let at = part.at_of starts.items i s (omega arith) c.index.ensures in
+    let R = StartsSo gap in
+    let step = part.among_next R starts.items i (i + 1) s (omega arith) at in
+    record {
+      goes = goes_then c.loop-index.invariant.goes c.in_ok-explore_start.ensures.goes
+          (start_asked n (key_of c.args.gap.now) c.args.nulls gap starts.items i (i + 1) s (omega arith) at c.args.self.now.table c.loop-index.self.table c.explore_start.new.self.table c.loop-index.invariant.goes.asked c.in_ok-explore_start.ensures.goes.asked);
+      live = part.live_parts n (key_of c.args.gap.now) (Among R starts.items i) (R s) (Among R starts.items (i + 1)) step c.args.live.now.items c.loop-index.live.items c.explore_start.new.live.items
+          (part.among_apart R starts.items (λ j k u v a e f p q. c.loop-index.invariant.opened.apart gap j k u v a e f p q) i s at) c.loop-index.invariant.live c.in_ok-explore_start.ensures.live;
+      opened = opening_kept n c.loop-index.self.table c.explore_start.new.self.table c.in_ok-explore_start.ensures.goes.asked.kept _ c.in_ok-opening.opening c.loop-index.invariant.opened;
+    }
+
+pub explore_opening-returns-clause-live : goal.explore_opening-returns-clause-live
+explore_opening-returns-clause-live g t c =
+    let n = c.args.lists.now in
+    let starts = c.in_ok-opening.opening.starts in
+    let end : c.len-index-end.result ≡ length starts.items = c.len-index-end.ensures ∙ starts.ok.0 in
+    let test = c.loop-index-test.false in
+    let opened = c.loop-index.invariant.opened in
+    let level = c.origin_of-origin.ensures.nulls in
+    let some = opening_some n c.are_numbered.ensures c.regions_begin_alike.ensures c.origin_of-origin.result (key_of c.args.gap.now) c.args.gap.now refl c.origin_of-origin.ensures.begins c.in_ok-opening.opening c.loop-index.self.table c.in_ok-opening.ensures.done opened in
+    opening_live n (key_of c.args.gap.now) c.args.nulls c.args.gap.now starts.items c.loop-index.index (omega arith) (λ s has. opened.level s has ∙ level) (λ a alt live. some a (alt.0, subst (λ z. LeavesLeft z a) (sym level) alt.1) live) c.args.live.now.items c.loop-index.live.items c.loop-index.invariant.live
+
+pub explore_opening-returns-clause-goes : goal.explore_opening-returns-clause-goes
+explore_opening-returns-clause-goes g t c =
+    let n = c.args.lists.now in
+    let starts = c.in_ok-opening.opening.starts in
+    let end : c.len-index-end.result ≡ length starts.items = c.len-index-end.ensures ∙ starts.ok.0 in
+    let test = c.loop-index-test.false in
+    let opened = c.loop-index.invariant.opened in
+    let level = c.origin_of-origin.ensures.nulls in
+    let some = opening_some n c.are_numbered.ensures c.regions_begin_alike.ensures c.origin_of-origin.result (key_of c.args.gap.now) c.args.gap.now refl c.origin_of-origin.ensures.begins c.in_ok-opening.opening c.loop-index.self.table c.in_ok-opening.ensures.done opened in
+    let goes = c.loop-index.invariant.goes in
+    record {
+      asked = opening_asked n (key_of c.args.gap.now) c.args.nulls c.args.gap.now starts.items c.loop-index.index (omega arith) (λ s has. opened.level s has ∙ level) (λ a alt live. some a (alt.0, subst (λ z. LeavesLeft z a) (sym level) alt.1) live) c.args.self.now.table c.loop-index.self.table c.loop-index.invariant.goes.asked;
+      left = record {
+        known = record {
+          known = goes.left.known.known;
+          opened = λ o x has. elim (c.in_ok-put.ensures.put o x has) [
+            | inl h ↦ goes.left.known.opened o x h
+            | inr (e, f) ↦ subst (λ z. IsOpening n c.loop-index.self.table z x) (sym e) (subst (λ z. IsOpening n c.loop-index.self.table c.origin_of-origin.result z) (sym f) opened)
+          ];
+        };
+        fewer = goes.left.fewer;
+      };
+      steps = goes.steps;
+      later = goes.later;
+    }
+
+pub explore_opening-origin_of-origin-requires-clause-gap : goal.explore_opening-origin_of-origin-requires-clause-gap
+explore_opening-origin_of-origin-requires-clause-gap g t c = (key_of c.args.gap.now, c.requires.gap.is_gap)
+
+pub explore_opening-open-requires : goal.explore_opening-open-requires
+explore_opening-open-requires g t c κs within = (search rules, (search rules, (ready_less c.requires.ready (omega arith), (c.requires.gap, c.origin_of-origin.ensures.begins))))
+
+pub explore_beginning-visit-requires : goal.explore_beginning-visit-requires
+explore_beginning-visit-requires g t c κs within =
+    let valid = part.left_valid c.args.lists.now (key_of c.args.gap.now) c.args.gap.now c.args.start.now.group c.args.start.now.begin c.key-lkey.result c.requires.ready.decided c.requires.gap.valid refl c.key-lkey.ensures c.requires.start.some in
+    let narrow : key_width c.args.lists.now.positions c.key-lkey.result < gap_width c.args.gap.now = valid.1 in
+    (search rules, (search rules, (ready_less c.requires.ready (omega arith), valid.0)))
+
+pub explore_beginning-returns-then-not-branch-clause-live : goal.explore_beginning-returns-then-not-branch-clause-live
+explore_beginning-returns-then-not-branch-clause-live g t c =
+    part.dead_live c.args.lists.now (key_of c.args.gap.now) c.args.gap.now c.args.start.now.group c.args.start.now.begin c.key-lkey.result refl c.key-lkey.ensures
+    (λ h. true≢false (sym (c.in_ok-visit.ensures.found.1 h) ∙ c.if-not-branch.true)) c.args.live.now.items
+
+pub explore_beginning-returns-then-not-branch-clause-goes : goal.explore_beginning-returns-then-not-branch-clause-goes
+explore_beginning-returns-then-not-branch-clause-goes g t c =
+    goes_as c.in_ok-visit.ensures.goes
+    (part.dead_asked c.args.lists.now (key_of c.args.gap.now) c.args.gap.now c.args.start.now.group c.args.start.now.begin c.key-lkey.result refl c.key-lkey.ensures
+    (λ h. true≢false (sym (c.in_ok-visit.ensures.found.1 h) ∙ c.if-not-branch.true)) c.requires.start.some c.args.self.now.table c.visit.new.self.table c.in_ok-visit.ensures.goes.asked)
+
+pub explore_beginning-loop-index-init : goal.explore_beginning-loop-index-init
+explore_beginning-loop-index-init g t c = record {
+  goes = goes_as c.in_ok-visit.ensures.goes
+      (part.first_asked c.args.lists.now (key_of c.args.gap.now) c.args.gap.now c.args.start.now.group c.args.start.now.begin c.key-lkey.result refl c.key-lkey.ensures c.push_endings.new.out.items c.args.self.now.table c.visit.new.self.table c.in_ok-visit.ensures.goes.asked);
+  live = part.adds_none c.args.live.now.items _ (λ a (l, m). part.among_none (λ (x : Alt) (y : Alt). x ≡ y) c.push_endings.new.out.items a m);
+  last = record { live = ((λ yes. c.in_ok-visit.ensures.found.0 c.if-not-branch.false), (λ h. refl)); there = c.in_ok-visit.ensures.goes.asked.there c.key-lkey.result refl };
+}
+
+pub explore_beginning-is_live-requires : goal.explore_beginning-is_live-requires
+explore_beginning-is_live-requires g t c κs within =
+    let n = c.args.lists.now in
+    let alts = c.push_endings.new.out.items in
+    let end : c.len-index-end.result ≡ length alts = c.len-index-end.ensures ∙ c.push_endings.new.out.ok.0 in
+    let test = c.loop-index-test.true in
+    let at = part.at_of alts c.loop-index.index c.index-alt.result.now (omega arith) c.index-alt.ensures in
+    let ends = part.from_none c.new-alts.result.items alts _ c.new-alts.ensures.items c.in_ok-push_endings.ensures.endings in
+    let alt = part.alt_in n (key_of c.args.gap.now) c.args.gap.now c.index-alt.result.now refl ((ends.each c.index-alt.result.now).0 (contains_at alts c.loop-index.index c.index-alt.result.now at)).0 in
+    let below = c.requires.ready.decided.below (key_of c.args.gap.now) c.index-alt.result.now c.requires.gap.valid alt in
+    (search rules, (search rules, (ready_after c.requires.ready c.loop-index.invariant.goes (omega arith), (c.requires.ready.decided.valid (key_of c.args.gap.now) c.index-alt.result.now c.requires.gap.valid alt, c.loop-index.invariant.last))))
+
+pub explore_beginning-loop-index-preserved : goal.explore_beginning-loop-index-preserved
+explore_beginning-loop-index-preserved g t c =
+    let n = c.args.lists.now in
+    let alts = c.push_endings.new.out.items in
+    let i = c.loop-index.index in
+    let a = c.index-alt.result.now in
+    let end : c.len-index-end.result ≡ length alts = c.len-index-end.ensures ∙ c.push_endings.new.out.ok.0 in
+    let test = c.loop-index-test.true in
+    let at = part.at_of alts i a (omega arith) c.index-alt.ensures in
+    let once = (part.from_none c.new-alts.result.items alts _ c.new-alts.ensures.items c.in_ok-push_endings.ensures.endings).once in
+    let old = c.args.live.now.items in
+    let lkey = left_of c.args.gap.now c.args.start.now.group c.args.start.now.begin in
+    record {
+      goes = goes_then c.loop-index.invariant.goes c.in_ok-is_live.ensures.goes
+          (part.next_asked n (key_of c.args.gap.now) c.args.gap.now c.args.start.now.group c.args.start.now.begin lkey refl refl alts i (i + 1) a c.args.self.now.table c.loop-index.self.table c.is_live.new.self.table (omega arith) at c.loop-index.invariant.goes.asked c.in_ok-is_live.ensures.goes.asked);
+      live = elim c.if-branch.branch [
+        | explore_beginning-then-branch+in_ok-push w ↦ subst (λ z. AddsExactly old z (λ x. IsLive n.positions n.lists x × Among (λ (u v : Alt). u ≡ v) alts (i + 1) x)) (sym (ap (λ v. v.items) w.live-is))
+            (part.live_kept n alts i (i + 1) a (omega arith) at once old c.loop-index.live.items _ (c.in_ok-is_live.ensures.live.0 w.if-branch.true) w.in_ok-push.ensures.items c.loop-index.invariant.live)
+        | explore_beginning-else-branch w ↦ subst (λ z. AddsExactly old z (λ x. IsLive n.positions n.lists x × Among (λ (u v : Alt). u ≡ v) alts (i + 1) x)) (sym (ap (λ v. v.items) w.live-is))
+            (part.live_dropped n alts i (i + 1) a (omega arith) at once old c.loop-index.live.items (λ l. true≢false (sym (c.in_ok-is_live.ensures.live.1 l) ∙ w.if-branch.false)) c.loop-index.invariant.live)
+      ];
+      last = c.in_ok-is_live.ensures.last;
+    }
+
+pub explore_beginning-returns-clause-live : goal.explore_beginning-returns-clause-live
+explore_beginning-returns-clause-live g t c =
+    let alts = c.push_endings.new.out.items in
+    let end : c.len-index-end.result ≡ length alts = c.len-index-end.ensures ∙ c.push_endings.new.out.ok.0 in
+    let test = c.loop-index-test.false in
+    let ends = part.from_none c.new-alts.result.items alts _ c.new-alts.ensures.items c.in_ok-push_endings.ensures.endings in
+    part.all_live c.args.lists.now (key_of c.args.gap.now) c.args.gap.now c.args.start.now.group c.args.start.now.begin c.key-lkey.result refl c.key-lkey.ensures alts
+    (part.ends_all c.args.lists.now (key_of c.args.gap.now) c.args.gap.now c.args.start.now.group c.args.start.now.begin alts refl ends) c.loop-index.index (omega arith) c.args.live.now.items c.loop-index.live.items c.loop-index.invariant.live
+
+pub explore_beginning-returns-clause-goes : goal.explore_beginning-returns-clause-goes
+explore_beginning-returns-clause-goes g t c =
+    let alts = c.push_endings.new.out.items in
+    let end : c.len-index-end.result ≡ length alts = c.len-index-end.ensures ∙ c.push_endings.new.out.ok.0 in
+    let test = c.loop-index-test.false in
+    let ends = part.from_none c.new-alts.result.items alts _ c.new-alts.ensures.items c.in_ok-push_endings.ensures.endings in
+    goes_as c.loop-index.invariant.goes
+    (part.all_asked c.args.lists.now (key_of c.args.gap.now) c.args.gap.now c.args.start.now.group c.args.start.now.begin c.key-lkey.result refl c.key-lkey.ensures alts
+    (part.ends_all c.args.lists.now (key_of c.args.gap.now) c.args.gap.now c.args.start.now.group c.args.start.now.begin alts refl ends) c.loop-index.index (omega arith) c.requires.start.some c.args.self.now.table c.loop-index.self.table c.loop-index.invariant.goes.asked)
+
+pub open-overflow_add-opening : goal.open-overflow_add-opening
+open-overflow_add-opening g t c =
+    let ends = c.requires.gap.is_gap.ends in
+    let within = c.requires.gap.is_gap.within in
+    let few : length c.args.lists.now.positions ≤ 252 = c.keep_limits.ensures.few in
+    omega arith
+
+pub open_word-overflow_add-opening : goal.open_word-overflow_add-opening
+open_word-overflow_add-opening g t c =
+    let before = c.requires.before in
+    let within = c.requires.gap.is_gap.within in
+    let few : length c.args.lists.now.positions ≤ 252 = c.keep_limits.ensures.few in
+    omega arith
