@@ -15,7 +15,8 @@ use std::thread::Threads;
 // More linkages than a problem of the tests has.
 const MOST: usize = 1_000_000;
 
-fn listed(alloc: Global, problem: Problem, forest: Forest) -> Result<Vec<Linkage>, Fail>
+/// All that is listed by the forest, one by one.
+pub fn listed(alloc: Global, problem: Problem, forest: Forest) -> Result<Vec<Linkage>, Fail>
     requires { (from : ℕ) × IsForest problem from forest }
 {
     let mut ranked = Ranked::new(alloc, problem, forest)?;
