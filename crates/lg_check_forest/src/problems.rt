@@ -51,13 +51,18 @@ fn position(alloc: Global, word: &str) -> Result<Disjuncts, Fail> {
     Ok(Disjuncts::of(disjuncts))
 }
 
-// A first position with 200 more disjuncts, which have no partner. It makes a problem large, and adds no linkage.
-fn padded_position(alloc: Global, word: &str) -> Result<Disjuncts, Fail> {
-    let mut disjuncts = position(alloc, word)?.into_items();
+// Adds 200 disjuncts to those of a first position, which have no partner. They make a problem large, and add no linkage.
+fn pad(alloc: Global, disjuncts: &mut Vec<Disjunct>) -> Result<(), Fail> {
     for number in 0..200u8 {
         let letters = [b'z', b'a' + number / 26, b'a' + number % 26];
         disjuncts.push(disjunct(alloc, &letters)?)?;
     }
+    Ok(())
+}
+
+fn padded_position(alloc: Global, word: &str) -> Result<Disjuncts, Fail> {
+    let mut disjuncts = position(alloc, word)?.into_items();
+    pad(alloc, &mut disjuncts)?;
     Ok(Disjuncts::of(disjuncts))
 }
 
@@ -98,6 +103,24 @@ fn word_of(count: u32, rest: u32) -> &'static str {
     }
 }
 
+// Disjuncts of which words are drawn, in the order of their texts.
+const DRAWN: [&str; 13] = [
+    "@A", "@aB", "A", "AB", "B", "BA", "a", "aA", "aB", "ab", "b", "bA", "ba",
+];
+
+// Those of them at which the number has a 1, written by twos from its end.
+fn drawn_disjuncts(alloc: Global, number: u32) -> Result<Vec<Disjunct>, Fail> {
+    let mut disjuncts = Vec::new(alloc);
+    let mut rest = number;
+    for letters in DRAWN {
+        if rest % 2 == 1 {
+            disjuncts.push(disjunct(alloc, letters.as_bytes())?)?;
+        }
+        rest = rest / 2;
+    }
+    Ok(disjuncts)
+}
+
 /// One of a family of problems of two to eight positions, of which many have linkages of one cost and one length.
 pub fn made(alloc: Global, seed: u32) -> Result<Problem, Fail> {
     let mut rest = seed;
@@ -119,6 +142,28 @@ pub fn padded(alloc: Global, seed: u32) -> Result<Problem, Fail> {
     for _ in 1..count {
         rest = rest / 5 + seed % 11;
         positions.push(position(alloc, word_of(count, rest))?)?;
+    }
+    Ok(Problem::of(Positions::of(positions)).ok_or("no problem")?)
+}
+
+// The number that comes behind this one: each is as if drawn at random.
+fn drawn_behind(number: u32) -> u32 {
+    number.wrapping_mul(1_664_525).wrapping_add(1_013_904_223)
+}
+
+/// A problem of 5 to 11 positions with disjuncts drawn at random, and 200 more, which have no partner. It is the same one for
+/// the same seed. A third of them have linkages with at most one unlinked word, and a few have a thousand with two.
+pub fn drawn(alloc: Global, seed: u32) -> Result<Problem, Fail> {
+    let mut number = drawn_behind(drawn_behind(seed));
+    let mut positions = Vec::new(alloc);
+    for place in 0..5 + seed % 7 {
+        let next = drawn_behind(number);
+        let mut disjuncts = drawn_disjuncts(alloc, (number & next) >> 16)?;
+        if place == 0 {
+            pad(alloc, &mut disjuncts)?;
+        }
+        positions.push(Disjuncts::of(disjuncts))?;
+        number = drawn_behind(next);
     }
     Ok(Problem::of(Positions::of(positions)).ok_or("no problem")?)
 }

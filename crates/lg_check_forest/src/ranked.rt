@@ -15,7 +15,8 @@ use std::thread::Threads;
 // More linkages than a problem of the tests has.
 const MOST: usize = 1_000_000;
 
-fn listed(alloc: Global, problem: Problem, forest: Forest) -> Result<Vec<Linkage>, Fail>
+/// All that is listed by the forest, one by one.
+pub fn listed(alloc: Global, problem: Problem, forest: Forest) -> Result<Vec<Linkage>, Fail>
     requires { (from : ℕ) × IsForest problem from forest }
 {
     let mut ranked = Ranked::new(alloc, problem, forest)?;
@@ -124,6 +125,104 @@ fn each_level(rt: HostRuntime) -> Result<(), Fail> {
     for seed in 0..100 {
         for nulls in 0..9 {
             assert!(rt; level_agrees(rt.alloc(), seed, nulls)?, "{seed} {nulls}");
+        }
+    }
+    Ok(())
+}
+
+// The listing of the problem of a seed, with so many unlinked words.
+fn ranked_at(alloc: Global, seed: u32, nulls: u32) -> Result<Ranked, Fail> {
+    let problem = made(alloc, seed)?;
+    if nulls as usize > problem.positions().len() {
+        return Err("too many unlinked words")?;
+    }
+    let forest = solve_at(alloc, &problem, nulls, &mut Steps::start())?;
+    Ok(Ranked::new(alloc, problem, forest)?)
+}
+
+fn next_of(alloc: Global, ranked: &mut Ranked) -> Result<Option<Linkage>, Fail> {
+    if ranked.position() > MOST as u64 {
+        return Err("too many linkages")?;
+    }
+    Ok(ranked.next(alloc)?)
+}
+
+fn passes_one(alloc: Global, ranked: &mut Ranked) -> Result<bool, Fail> {
+    if ranked.position() > MOST as u64 {
+        return Err("too many linkages")?;
+    }
+    Ok(ranked.pass(alloc)?)
+}
+
+// All that is listed from here on.
+fn all_of(alloc: Global, ranked: &mut Ranked) -> Result<Vec<Linkage>, Fail> {
+    let mut list = Vec::new(alloc);
+    for _ in 0..MOST {
+        match next_of(alloc, ranked)? {
+            Some(linkage) => list.push(linkage)?,
+            None => return Ok(list),
+        }
+    }
+    Err("too many linkages")?
+}
+
+// Whether nothing is left to be passed over or taken, and both change nothing.
+fn has_ended(alloc: Global, ranked: &mut Ranked, count: usize) -> Result<bool, Fail> {
+    if passes_one(alloc, ranked)? || ranked.position() != count as u64 {
+        return Ok(false);
+    }
+    Ok(next_of(alloc, ranked)?.is_none() && ranked.position() == count as u64)
+}
+
+// Passes over so many linkages and takes one, again and again: whether each is the one that stands there in the list, up to its end.
+fn goes_on_as(
+    alloc: Global,
+    ranked: &mut Ranked,
+    list: &[Linkage],
+    passed: usize,
+) -> Result<bool, Fail> {
+    let mut rest = passed;
+    for linkage in list {
+        let agrees = if rest > 0 {
+            rest -= 1;
+            passes_one(alloc, ranked)?
+        } else {
+            rest = passed;
+            is_next(alloc, ranked, linkage)?
+        };
+        if !agrees {
+            return Ok(false);
+        }
+    }
+    has_ended(alloc, ranked, list.len())
+}
+
+fn is_next(alloc: Global, ranked: &mut Ranked, linkage: &Linkage) -> Result<bool, Fail> {
+    match next_of(alloc, ranked)? {
+        Some(next) => Ok(next.chosen() == linkage.chosen() && next.links() == linkage.links()),
+        None => Ok(false),
+    }
+}
+
+// Whether passing over each number of linkages, up to all that there are, leaves those behind them.
+fn passing_agrees(alloc: Global, seed: u32, nulls: u32) -> Result<bool, Fail> {
+    let mut first = ranked_at(alloc, seed, nulls)?;
+    let list = all_of(alloc, &mut first)?;
+    for passed in 1..list.len() + 1 {
+        let mut ranked = ranked_at(alloc, seed, nulls)?;
+        if !goes_on_as(alloc, &mut ranked, list.as_slice(), passed)? {
+            return Ok(false);
+        }
+    }
+    Ok(true)
+}
+
+// Of these problems 40 have several linkages.
+#[test]
+fn passing_over(rt: HostRuntime) -> Result<(), Fail> {
+    for seed in 0..100 {
+        for nulls in 0..3 {
+            assert!(rt; passing_agrees(rt.alloc(), seed, nulls)?, "{seed} {nulls}");
         }
     }
     Ok(())
