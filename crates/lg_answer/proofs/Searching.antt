@@ -117,6 +117,10 @@ begins_fewest positions nulls unused ranked is same at = rw at (record {
   first = refl;
 })
 
+-- some linkage leaves no more words unlinked than the fewest
+pub no_level : (positions : List (List Disjunct)) (nulls : ℕ) → IsFewest positions nulls → HasNoFewer positions (nulls + 1) → ⊥
+no_level positions nulls is more = let least = is.some in let over = more least.0 least.1 in let same = least.2 in omega arith
+
 pub begins_wide : (positions : List (List Disjunct)) (ranked : Ranking) → BeginsSharper positions ranked → Begins positions (record { positions = positions; nulls = ranked.nulls; position = ranked.position })
 begins_wide positions ranked is = record { keeps = λ g. (λ h. h, λ h. h); same_length = refl; fewest = is.fewest; first = is.first }
 

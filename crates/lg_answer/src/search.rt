@@ -1,5 +1,6 @@
 //! The good linkages of a problem, level by level.
 ghost use Rattle.std.specs.Prelude.{◌≡◌, ◌↔◌, ◌+◌, ◌<◌, ◌≤◌, ◌^◌, ℕ, List, length, IsTrue, IfOk, OnErr, OnOk, IfSome, MatchOption};
+ghost use Rattle.lg_gram.specs.Levels.{IsFewest};
 ghost use Rattle.lg_gram.specs.Linkages.{Linkage as Seen, linkage_cmp};
 ghost use Rattle.lg_region.specs.Parts.{UnderWhole};
 ghost use Rattle.lg_forest.specs.Forests.{AreWorkers, IsForest};
@@ -23,6 +24,9 @@ use std::thread::Threads;
 // For how many more unlinked words than there are positions without disjuncts the problem is sharpened, before it is sharpened for any
 // number.
 const FEW: u32 = 2;
+
+// From how many disjuncts a word on average levels are searched one after another.
+const CROWDED: usize = 20;
 
 /// The good linkages of a problem with so many unlinked words, in order. The first are looked for among fewer disjuncts.
 ///
@@ -104,11 +108,27 @@ impl Search {
     {
         let words = words_of(&problem);
         let sharp = sharpen(alloc, problem, words)?;
-        let search = Search::at_fewest(rt, alloc, sharp, workers)?;
+        let search = Search::of_sharp(rt, alloc, sharp, workers)?;
         Ok(search)
     }
 
-    // The search of the level of the fewest unlinked words alone, which one pass tells.
+    fn of_sharp<R: Threads + Sync>(
+        rt: &R,
+        alloc: Global,
+        problem: Problem,
+        workers: u32,
+    ) -> Result<Search, NoMemory>
+        requires workers { AreWorkers workers }
+        ensures { IfOk result (Begins problem) }
+    {
+        if is_crowded(&problem) {
+            Search::whole(rt, alloc, problem, workers)
+        } else {
+            Search::at_fewest(rt, alloc, problem, workers)
+        }
+    }
+
+    // The search of the level of the fewest unlinked words, which one pass tells, by the problem that is sharpened for that number.
     fn at_fewest<R: Threads + Sync>(
         rt: &R,
         alloc: Global,
@@ -119,6 +139,29 @@ impl Search {
         ensures { IfOk result (Begins problem) }
     {
         let nulls = fewest(alloc, &problem)?;
+        let found = sharpened(alloc, &problem, nulls)?;
+        let Some(sharp) = found else {
+            return Search::at_level(rt, alloc, problem, nulls, workers);
+        };
+        let level = level_of(rt, alloc, &problem, sharp, nulls, workers)?;
+        match level {
+            Some(ranked) => Ok(Search::beside(problem, ranked)),
+            None => unreachable!(),
+        }
+    }
+
+    // The search of this level, which is that of the fewest unlinked words.
+    fn at_level<R: Threads + Sync>(
+        rt: &R,
+        alloc: Global,
+        problem: Problem,
+        nulls: u32,
+        workers: u32,
+    ) -> Result<Search, NoMemory>
+        requires workers { AreWorkers workers }
+        requires fewest { IsFewest problem nulls }
+        ensures { IfOk result (Begins problem) }
+    {
         let mut steps = Steps::<Own>::start();
         let forest = solve_at_by(rt, alloc, &problem, nulls, workers, &mut steps)?;
         let ranked = Ranked::new(alloc, problem, forest)?;
@@ -264,6 +307,17 @@ fn level_of<R: Threads + Sync>(
     }
     let ranked = Ranked::new(alloc, sharp, forest)?;
     Ok(Some(ranked))
+}
+
+// Whether a search of one level after another is faster than a pass for the least number of unlinked words. It remembers how regions
+// begin, which tells where words have many disjuncts.
+fn is_crowded(problem: &Problem) -> bool {
+    let positions = problem.positions();
+    let mut count: usize = 0;
+    for position in positions {
+        count = count.saturating_add(position.items().len());
+    }
+    count / CROWDED > positions.len()
 }
 
 fn words_of(problem: &Problem) -> u32

@@ -1,13 +1,12 @@
 use Rattle.std.proofs.Common.{◌≤◌, subst, length}
-use Rattle.lg_answer.proofs.Searching.{begins_fewest, few_unlinked}
+use Rattle.lg_answer.proofs.Searching.{few_unlinked, no_level}
 use Rattle.lg_answer.proofs.search.Search.at_fewest.Goals as goal
 
 -- no linkage leaves more words unlinked than there are
-pub solve_at_by-requires-clause-nulls : goal.solve_at_by-requires-clause-nulls
-solve_at_by-requires-clause-nulls g c κs within =
+pub level_of-requires-clause-few : goal.level_of-requires-clause-few
+level_of-requires-clause-few g c κs within =
     let least = c.in_ok-nulls.ensures.some in
     subst (λ z. z ≤ length c.args.problem) least.2 (few_unlinked c.args.problem least.0 least.1)
 
-pub returns : goal.returns
-returns g c =
-    begins_fewest c.args.problem c.in_ok-nulls.nulls c.in_ok-forest.forest.unused c.in_ok-ranked.ranked c.in_ok-nulls.ensures c.in_ok-forest.ensures.unused c.in_ok-ranked.ensures
+pub unreachable-requires : goal.unreachable-requires
+unreachable-requires g c = no_level c.args.problem c.in_ok-nulls.nulls c.in_ok-nulls.ensures (rw c.in-None.is at c.in_ok-level.ensures)
