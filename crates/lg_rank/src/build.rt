@@ -12,7 +12,7 @@ ghost use Rattle.lg_rank.specs.Keyed.{subject_of, subjects_of, IsNothing, IsBefo
 ghost use Rattle.lg_rank.specs.Meanings.{joint_link, IsWord, Cutting, IsWayFor, IsCutting};
 ghost use Rattle.lg_rank.specs.Rankings.{IsListing};
 ghost use Rattle.lg_rank.specs.Small.{IsShort, HasShortEnds};
-ghost use Rattle.lg_rank.specs.Values.{value_of};
+ghost use Rattle.lg_rank.specs.Values.{value_of, nothing_of};
 
 use crate::keys::Keys;
 use crate::node::Node;
@@ -292,6 +292,19 @@ fn nodes_of(
     Ok(nodes)
 }
 
+// The part of so many positions in which nothing is linked.
+fn nothing_part(alloc: Global, count: usize) -> Result<Part, NoMemory>
+    ensures { IfOk result (λ part. value_of part ≡ nothing_of count) }
+{
+    let choices = vec![in alloc; 0; count]?;
+    Ok(Part {
+        cost: 0,
+        span: 0,
+        choices,
+        links: Vec::new(alloc),
+    })
+}
+
 /// What a listing goes by: the part in which nothing is linked, the nodes, and the node of the whole sentence.
 #[derive(Drop)]
 pub(crate) struct Built {
@@ -306,7 +319,7 @@ pub(crate) fn build(alloc: Global, problem: &Problem, forest: &Forest) -> Result
     ensures { IfOk result (λ b. IsListing problem.now (value_of b.nothing) b.table.nodes.items forest.now.unused b.root) }
 {
     let count = problem.positions().len();
-    let nothing = Part::nothing(alloc, count)?;
+    let nothing = nothing_part(alloc, count)?;
     let mut keys = Keys::new(alloc);
     let root = root_of(problem, forest, &mut keys)?;
     let nodes = nodes_of(alloc, problem, forest, &keys)?;

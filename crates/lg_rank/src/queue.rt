@@ -10,7 +10,6 @@ ghost use Rattle.lg_rank.specs.Queues.{waiting_cmp, waiting_list, least_part, Is
 ghost use Rattle.lg_rank.specs.Values.{value_of};
 
 use crate::part::Part;
-use crate::ready::Ready;
 use lg_base::NoMemory;
 use std::cmp::Ordering;
 use std::collections::BinaryHeap;
@@ -19,7 +18,7 @@ use std::collections::BinaryHeap;
 #[derive(Debug, Drop)]
 pub struct Waiting {
     pub place: usize,
-    pub part: Ready,
+    pub part: Part,
 }
 
 impl PartialEq for Waiting {
@@ -82,7 +81,7 @@ pub fn least_count(queue: &BinaryHeap<Waiting>) -> usize
 }
 
 /// The part of the first. A row has to wait.
-pub fn least_of(queue: &BinaryHeap<Waiting>) -> &Ready
+pub fn least_of(queue: &BinaryHeap<Waiting>) -> &Part
     requires { heap_items queue.now ≢ [] }
     ensures { least_part (heap_items queue.now) ≡ value_of result.now ∷ [] }
 {
@@ -120,5 +119,5 @@ pub fn take_first(
     let first = queue.pop().unwrap();
     let _ = put_in(queue, again);
     let _ = put_in(queue, opened);
-    first.part.into_part()
+    first.part
 }
