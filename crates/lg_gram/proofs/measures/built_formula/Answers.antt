@@ -1,7 +1,7 @@
 use Rattle.std.proofs.Common.{sym, subst}
 use Rattle.lg_gram.specs.Formulas.{IsFormula}
 use Rattle.lg_gram.proofs.Filled.{sizes_fit}
-use Rattle.lg_gram.proofs.measures.filled_formula.Goals as goal
+use Rattle.lg_gram.proofs.measures.built_formula.Goals as goal
 
 pub of_measured-requires-clause-small : goal.of_measured-requires-clause-small
 of_measured-requires-clause-small g c = subst IsFormula (sym c.in_ok-expr.ensures) c.requires
