@@ -17,7 +17,7 @@ use Rattle.lg_region.specs.Laws.{RegionsAreCutOnce}
 use Rattle.lg_region.specs.Parts.{Region, part_of, choice_within, is_within}
 use Rattle.lg_region.specs.Whole.{First, IsFirst, SpellsFirst}
 use Rattle.lg_rank.specs.Meanings.{joint_link, unlinked_of}
-use Rattle.lg_rank.specs.Values.{comes_before, with_link}
+use Rattle.lg_rank.specs.Trees.{comes_before, with_link}
 use Rattle.lg_base.proofs.Elements.{contains_here, contains_later, contains_cases, contains_none, filter_out}
 use Rattle.lg_rank.proofs.Orders.{links_total}
 use Rattle.lg_gram.proofs.LinkSets.{IsSet, after_head, before_all, same_set}

@@ -10,6 +10,8 @@ pub mod Rows
 pub mod Growing
 pub mod Listed
 pub mod Placing
+pub mod Spelling
+pub mod Making
 pub mod Compared
 pub mod Places
 pub mod Choosing

@@ -23,7 +23,8 @@ use Rattle.lg_gram.specs.Rules.{chosen_at}
 use Rattle.lg_gram.specs.declared.disjunct.Disjunct.{Disjunct}
 use Rattle.lg_gram.specs.declared.linkage.Link.{Link}
 use Rattle.lg_rank.specs.Meanings.{IsCodeOf, IsPacked, IsWord, length_of}
-use Rattle.lg_rank.specs.Values.{Value, value_cmp, combine, with_link, comes_before}
+use Rattle.lg_rank.specs.Trees.{with_link, comes_before}
+use Rattle.lg_rank.specs.Values.{Value, value_cmp, combine}
 use Rattle.lg_rank.specs.declared.part.Way.{Way}
 use Rattle.lg_rank.proofs.Orders.{choices_total}
 

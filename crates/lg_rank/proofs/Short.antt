@@ -1,5 +1,5 @@
 -- What stands in a way has room in few bytes.
-use Rattle.std.proofs.Common.{◌≡◌, ℕ, ◌<◌, ◌≤◌, ◌⊎◌, inl, inr, length, get_or, ap, List, [], Option, None, Some, sym, subst, arith}
+use Rattle.std.proofs.Common.{◌≡◌, ℕ, ◌<◌, inl, inr, length, get_or, ap, List, [], Option, None, Some, sym, subst, arith}
 use Rattle.std.proofs.lemmas.Bool.{cases_lt}
 use Rattle.std.proofs.lemmas.List.{get_or_past}
 use Rattle.lg_gram.specs.Connectors.{Connector}
@@ -12,7 +12,7 @@ use Rattle.lg_region.specs.declared.key.Joint.{Joint}
 use Rattle.lg_region.specs.declared.key.Key.{Key}
 use Rattle.lg_region.specs.declared.key.Key.TheVariants.{Whole, Region as Between}
 use Rattle.lg_region.specs.declared.alternative.Alt.{Alt}
-use Rattle.lg_region.specs.declared.alternative.Alt.TheVariants.{AllNull, Split as At}
+use Rattle.lg_region.specs.declared.alternative.Alt.TheVariants.{Split as At}
 use Rattle.lg_rank.specs.Keyed.{near_link, far_link}
 use Rattle.lg_rank.specs.Meanings.{joint_link}
 use Rattle.lg_rank.specs.Small.{IsShort, HasShortEnds}

@@ -418,6 +418,11 @@ candidate_sound z n k r w x y forest table h way p q = (
   forest.small w.right y ((parts_front z n table w.right).sound r.at y q),
 )
 
+pub candidate_value : (z : Value) (n : List Node) (k : ℕ) (r : Row) (w : Way) (x y : Value) → IsWayOf n k r.way w → slice_get (parts z n w.left) r.next ≡ Some x → slice_get (parts z n w.right) r.at ≡ Some y → combine w x y ≡ value_at z n k r
+candidate_value z n k r w x y way p q =
+    sym (λ h. combine w (get_or_from_slice_get (parts z n w.left) r.next x z p h) (get_or_from_slice_get (parts z n w.right) r.at y z q h))
+    ∙ ap (λ (b : Way). combine b (get_or (parts z n b.left) r.next z) (get_or (parts z n b.right) r.at z)) way.is
+
 -- the least row makes something
 pub least_live : (z : Value) (n : List Node) (k m : ℕ) (r : Row) → IsLeastRow (held_by z n k) (rows_at n k) m → slice_get (rows_at n k) m ≡ Some r → r.live ≡ true
 least_live z n k m r b at =

@@ -1,7 +1,9 @@
 pub mod Joins
 pub mod Fronts
 pub mod Merges
+pub mod Trees
 pub mod Values
+pub mod Sources
 pub mod Candidates
 pub mod Nodes
 pub mod Queues

@@ -1,11 +1,11 @@
 -- Parts of linkages in numbers, their order, and what a way makes of two parts.
-use Rattle.std.specs.Prelude.{◌≡◌, ℕ, suc, ◌+◌, ◌<◌, ◌≤◌, ◌^◌, ◌==◌, ◌&&◌, ◌||◌, nat_lt, Bool, List, [], ◌∷◌, ◌++◌, length, take, drop, replicate, Option, None, Some, ℤ, pos, neg_ℤ, ◌+ℤ◌, ◌≤ℤ◌}
-use Rattle.std.specs.List.{count_by}
+use Rattle.std.specs.Prelude.{◌≡◌, ℕ, suc, ◌+◌, ◌<◌, ◌≤◌, ◌^◌, List, [], ◌∷◌, ◌++◌, length, take, drop, replicate, ℤ, pos, neg_ℤ, ◌+ℤ◌, ◌≤ℤ◌}
 use Rattle.std.specs.Ordering.{nat_cmp, int_cmp, on, then_cmp}
 use Rattle.std.specs.declared.cmp.Ordering.{Ordering}
 use Rattle.std.specs.Cmp.Lexicographic.{slice_cmp}
 use Rattle.lg_gram.specs.Linkages.{tie_cmp}
 use Rattle.lg_gram.specs.declared.linkage.Link.{Link}
+use Rattle.lg_rank.specs.Trees.{choices_from, links_of, with_link}
 use Rattle.lg_rank.specs.declared.part.Part.{Part}
 use Rattle.lg_rank.specs.declared.part.Way.{Way}
 
@@ -18,7 +18,7 @@ pub record Value : Type 0 where
   pub links : List Link
 
 abbrev pub value_of : Part → Value
-value_of p = record { cost = p.cost; span = p.span; choices = p.choices.items; links = p.links.items }
+value_of p = record { cost = p.cost; span = p.span; choices = choices_from p.tree.value 0 p.positions; links = links_of p.tree.value }
 
 -- the order of parts of one region, which have the same number of unlinked positions
 abbrev pub value_cmp : Value → Value → Ordering
@@ -30,15 +30,6 @@ value_cmp = then_cmp (on (λ v. v.cost) int_cmp)
 -- no position is linked
 abbrev pub nothing_of : ℕ → Value
 nothing_of n = record { cost = pos 0; span = 0; choices = replicate n 0; links = [] }
-
--- the pair of k stands before that of l
-abbrev pub comes_before : Link → Link → Bool
-comes_before l k = nat_lt k.left l.left || ((k.left == l.left) && nat_lt k.right l.right)
-
--- one more link, behind those of earlier pairs
-abbrev pub with_link : Option Link → List Link → List Link
-with_link None links = links
-with_link (Some l) links = let n = count_by (comes_before l) links in take n links ++ l ∷ drop n links
 
 -- What a way makes of a part on its left and a part on its right.
 abbrev pub combine : Way → Value → Value → Value

@@ -12,11 +12,10 @@ ghost use Rattle.lg_rank.specs.Keyed.{subject_of, subjects_of, IsNothing, IsBefo
 ghost use Rattle.lg_rank.specs.Meanings.{joint_link, IsWord, Cutting, IsWayFor, IsCutting};
 ghost use Rattle.lg_rank.specs.Rankings.{IsListing};
 ghost use Rattle.lg_rank.specs.Small.{IsShort, HasShortEnds};
-ghost use Rattle.lg_rank.specs.Values.{value_of, nothing_of};
+ghost use Rattle.lg_rank.specs.Values.{nothing_of};
 
 use crate::keys::Keys;
 use crate::node::Node;
-use crate::part::Part;
 use crate::small::SmallWay;
 use crate::table::Table;
 use lg_base::NoMemory;
@@ -292,23 +291,9 @@ fn nodes_of(
     Ok(nodes)
 }
 
-// The part of so many positions in which nothing is linked.
-fn nothing_part(alloc: Global, count: usize) -> Result<Part, NoMemory>
-    ensures { IfOk result (λ part. value_of part ≡ nothing_of count) }
-{
-    let choices = vec![in alloc; 0; count]?;
-    Ok(Part {
-        cost: 0,
-        span: 0,
-        choices,
-        links: Vec::new(alloc),
-    })
-}
-
-/// What a listing goes by: the part in which nothing is linked, the nodes, and the node of the whole sentence.
+/// What a listing goes by: the nodes, and the node of the whole sentence.
 #[derive(Drop)]
 pub(crate) struct Built {
-    pub nothing: Part,
     pub table: Table,
     pub root: Option<usize>,
 }
@@ -316,15 +301,14 @@ pub(crate) struct Built {
 /// The nodes of a forest of the problem.
 pub(crate) fn build(alloc: Global, problem: &Problem, forest: &Forest) -> Result<Built, NoMemory>
     requires { (from : ℕ) × IsForest problem.now from forest.now }
-    ensures { IfOk result (λ b. IsListing problem.now (value_of b.nothing) b.table.nodes.items forest.now.unused b.root) }
+    ensures { IfOk result (λ b. IsListing problem.now (nothing_of (length problem.now)) b.table.nodes.items forest.now.unused b.root) }
 {
-    let count = problem.positions().len();
-    let nothing = nothing_part(alloc, count)?;
+    // the call tells that the positions are those of a problem
+    let _positions = problem.positions();
     let mut keys = Keys::new(alloc);
     let root = root_of(problem, forest, &mut keys)?;
     let nodes = nodes_of(alloc, problem, forest, &keys)?;
     Ok(Built {
-        nothing,
         table: Table { nodes },
         root,
     })

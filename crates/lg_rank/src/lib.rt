@@ -9,8 +9,11 @@ mod node;
 mod part;
 mod queue;
 mod ranked;
+mod ready;
 mod small;
+mod source;
 mod table;
+mod tree;
 mod unpack;
 
 pub use law::{cuts_keep_order, joins_grow, values_are_linkages};

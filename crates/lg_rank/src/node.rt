@@ -5,15 +5,17 @@ ghost use Rattle.std.specs.Vec.{vec_len, vec_capacity};
 ghost use Rattle.lg_rank.specs.Fronts.{IsAll};
 ghost use Rattle.lg_rank.specs.Merges.{Advanced};
 ghost use Rattle.lg_rank.specs.Values.{value_of};
-ghost use Rattle.lg_rank.specs.Candidates.{made_by, positions_of, IsCandidate};
 ghost use Rattle.lg_rank.specs.Nodes.{Has, ways_of, IsForest};
+ghost use Rattle.lg_rank.specs.Sources.{value_in};
 ghost use Rattle.lg_rank.specs.Queues.{IsQueue, IsFirstAt, IsWaiting, IsOpened};
 ghost use Rattle.lg_rank.specs.Tables.{forest_of, parts, made_at, ready_at, IsTable, IsBegun, IsIdle, rows_at, queue_at, held_by, IsWayOf, Holds, value_at, Chosen, GoesOn, Begin, HasRoom, Puts, IsSameNode, Starts, Stepped, RowsOf, row_list};
 
 use crate::candidate::Candidate;
 use crate::part::{Part, Way};
 use crate::queue::{Waiting, first_place, least_count, least_of, put_in, take_first};
+use crate::ready::Ready;
 use crate::small::SmallWay;
+use crate::source::Source;
 use lg_base::NoMemory;
 use std::alloc::Global;
 use std::collections::BinaryHeap;
@@ -126,26 +128,31 @@ pub fn part_count(nothing: &Part, nodes: &[Node], part: Option<usize>) -> usize
 }
 
 /// The value at `i` of a part.
-pub fn part_of<'a>(nothing: &'a Part, nodes: &'a [Node], part: Option<usize>, i: usize) -> &'a Part
+pub fn part_of<'a>(
+    nothing: &'a Part,
+    nodes: &'a [Node],
+    part: Option<usize>,
+    i: usize,
+) -> Source<'a>
     requires { i < length (parts (value_of nothing.now) nodes.now part) }
-    ensures { slice_get (parts (value_of nothing.now) nodes.now part) i ≡ Some (value_of result.now) }
+    ensures { slice_get (parts (value_of nothing.now) nodes.now part) i ≡ Some (value_in result) }
 {
     match part {
-        None => nothing,
+        None => Source::Made(nothing),
         Some(k) => ready_part(nodes, k, i),
     }
 }
 
 // Part `i` of those of the node that can be read. Behind those that were made stands the least that waits.
-fn ready_part(nodes: &[Node], k: usize, i: usize) -> &Part
+fn ready_part(nodes: &[Node], k: usize, i: usize) -> Source<'_>
     requires { i < length (ready_at nodes.now k) }
-    ensures { slice_get (ready_at nodes.now k) i ≡ Some (value_of result.now) }
+    ensures { slice_get (ready_at nodes.now k) i ≡ Some (value_in result) }
 {
     let node = &nodes[k];
     if i < node.made.len() {
-        &node.made[i]
+        Source::Made(&node.made[i])
     } else {
-        least_of(&node.queue)
+        Source::Waiting(least_of(&node.queue))
     }
 }
 
@@ -163,20 +170,26 @@ fn row_of(nodes: &[Node], k: usize, i: usize) -> Row
     nodes[k].rows[i]
 }
 
-/// What a row of the node makes.
-pub fn candidate<'a>(nothing: &'a Part, nodes: &'a [Node], k: usize, row: Row) -> Candidate<'a>
+// The part that a row of the node makes.
+fn row_part(
+    alloc: Global,
+    nothing: &Part,
+    nodes: &[Node],
+    k: usize,
+    row: Row,
+) -> Result<Ready, NoMemory>
     requires within { k < length nodes.now }
     requires forest { IsForest (value_of nothing.now) (forest_of nodes.now) }
     requires table { IsTable (value_of nothing.now) nodes.now }
     requires holds { Holds (value_of nothing.now) nodes.now k row }
-    ensures value { made_by result ≡ value_at (value_of nothing.now) nodes.now k row }
-    ensures sound { IsCandidate (length nothing.now.choices.items) result }
-    ensures positions { positions_of result ≡ length nothing.now.choices.items }
+    ensures { IfOk result (λ part. value_of part ≡ value_at (value_of nothing.now) nodes.now k row) }
 {
     let way = way_of(nothing, nodes, k, row.way);
     let left = part_of(nothing, nodes, way.left, row.next);
     let right = part_of(nothing, nodes, way.right, row.at);
-    Candidate { way, left, right }
+    let candidate = Candidate { way, left, right };
+    let part = candidate.make(alloc)?;
+    Ok(part)
 }
 
 // The place of the live row with the least part, or none where no row is live.
@@ -223,7 +236,7 @@ fn with_part(
     if !row.live {
         return Ok(None);
     }
-    let part = candidate(nothing, nodes, k, row).make(alloc)?;
+    let part = row_part(alloc, nothing, nodes, k, row)?;
     Ok(Some(Waiting { place, part }))
 }
 

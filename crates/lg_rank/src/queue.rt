@@ -10,6 +10,7 @@ ghost use Rattle.lg_rank.specs.Queues.{waiting_cmp, waiting_list, least_part, Is
 ghost use Rattle.lg_rank.specs.Values.{value_of};
 
 use crate::part::Part;
+use crate::ready::Ready;
 use lg_base::NoMemory;
 use std::cmp::Ordering;
 use std::collections::BinaryHeap;
@@ -18,7 +19,7 @@ use std::collections::BinaryHeap;
 #[derive(Debug, Drop)]
 pub struct Waiting {
     pub place: usize,
-    pub part: Part,
+    pub part: Ready,
 }
 
 impl PartialEq for Waiting {
@@ -81,7 +82,7 @@ pub fn least_count(queue: &BinaryHeap<Waiting>) -> usize
 }
 
 /// The part of the first. A row has to wait.
-pub fn least_of(queue: &BinaryHeap<Waiting>) -> &Part
+pub fn least_of(queue: &BinaryHeap<Waiting>) -> &Ready
     requires { heap_items queue.now ≢ [] }
     ensures { least_part (heap_items queue.now) ≡ value_of result.now ∷ [] }
 {
@@ -119,5 +120,5 @@ pub fn take_first(
     let first = queue.pop().unwrap();
     let _ = put_in(queue, again);
     let _ = put_in(queue, opened);
-    first.part
+    first.part.into_part()
 }

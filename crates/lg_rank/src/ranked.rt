@@ -8,7 +8,7 @@ ghost use Rattle.lg_region.specs.Parts.{UnderWhole};
 ghost use Rattle.lg_rank.specs.Fronts.{IsFront, IsNext};
 ghost use Rattle.lg_rank.specs.Rankings.{Ranking, IsListing, IsLinkageAt, given, passed_over, IsThere};
 ghost use Rattle.lg_rank.specs.Tables.{parts};
-ghost use Rattle.lg_rank.specs.Values.{value_of};
+ghost use Rattle.lg_rank.specs.Values.{value_of, nothing_of};
 
 use crate::build::{Built, build};
 use crate::law::values_are_linkages;
@@ -42,8 +42,8 @@ fn linkage_at(
     linkage_of(alloc, problem, part)
 }
 
-/// The linkage at `i` of the level, counted from 0, or none where it has no more. After an error the next call goes on.
-pub(crate) fn nth_linkage(
+// The linkage at `i` of the level, counted from 0, or none where it has no more. After an error the next call goes on.
+fn nth_linkage(
     alloc: Global,
     problem: &Problem,
     nothing: &Part,
@@ -65,8 +65,8 @@ pub(crate) fn nth_linkage(
     Ok(Some(linkage))
 }
 
-/// Whether the level has a linkage at `i`, counted from 0. It is not written. After an error the next call goes on.
-pub(crate) fn has_linkage(
+// Whether the level has a linkage at `i`, counted from 0. It is not written. After an error the next call goes on.
+fn has_linkage(
     alloc: Global,
     nothing: &Part,
     table: &mut Table,
@@ -84,6 +84,51 @@ pub(crate) fn has_linkage(
     Ok(there)
 }
 
+// The part of the whole sentence in which nothing is linked.
+fn nothing_in(alloc: Global, problem: &Problem) -> Result<Part, NoMemory>
+    ensures { IfOk result (λ part. value_of part ≡ nothing_of (length problem.now)) }
+{
+    Part::nothing(alloc, problem.positions().len())
+}
+
+// The linkage at `i` of the level of the whole sentence, counted from 0, or none where it has no more. After an error the next call
+// goes on.
+fn listed_at(
+    alloc: Global,
+    problem: &Problem,
+    table: &mut Table,
+    root: Option<usize>,
+    i: usize,
+) -> Result<Option<Linkage>, NoMemory>
+    requires listing { (nulls : ℕ) × IsListing problem.now (nothing_of (length problem.now)) table.old.nodes.items nulls root }
+    ensures keeps { (nulls : ℕ) → IsListing problem.now (nothing_of (length problem.now)) table.old.nodes.items nulls root → IsListing problem.now (nothing_of (length problem.now)) table.new.nodes.items nulls root }
+    ensures next { (nulls : ℕ) (gs : List Seen) → IsListing problem.now (nothing_of (length problem.now)) table.old.nodes.items nulls root → IsFront linkage_cmp (UnderWhole problem.now nulls) gs → length gs ≡ i → IfOk result (λ g. IsNext linkage_cmp (UnderWhole problem.now nulls) gs g) }
+    ensures listed { (nulls : ℕ) (level : List Seen) → IsListing problem.now (nothing_of (length problem.now)) table.old.nodes.items nulls root → IsLevel problem.now nulls level → IfOk result (λ g. g ≡ slice_get level i) }
+{
+    let nothing = nothing_in(alloc, problem)?;
+    let found = nth_linkage(alloc, problem, &nothing, table, root, i)?;
+    Ok(found)
+}
+
+// Whether the level of the whole sentence has a linkage at `i`, counted from 0. It is not written. After an error the next call goes
+// on.
+fn is_listed_at(
+    alloc: Global,
+    problem: &Problem,
+    table: &mut Table,
+    root: Option<usize>,
+    i: usize,
+) -> Result<bool, NoMemory>
+    requires listing { (nulls : ℕ) × IsListing problem.now (nothing_of (length problem.now)) table.old.nodes.items nulls root }
+    ensures keeps { (nulls : ℕ) → IsListing problem.now (nothing_of (length problem.now)) table.old.nodes.items nulls root → IsListing problem.now (nothing_of (length problem.now)) table.new.nodes.items nulls root }
+    ensures next { (nulls : ℕ) (gs : List Seen) → IsListing problem.now (nothing_of (length problem.now)) table.old.nodes.items nulls root → IsFront linkage_cmp (UnderWhole problem.now nulls) gs → length gs ≡ i → IfOk result (IsThere (IsNext linkage_cmp (UnderWhole problem.now nulls) gs)) }
+    ensures listed { (nulls : ℕ) (level : List Seen) → IsListing problem.now (nothing_of (length problem.now)) table.old.nodes.items nulls root → IsLevel problem.now nulls level → IfOk result (λ there. there ≡ is_some (slice_get level i)) }
+{
+    let nothing = nothing_in(alloc, problem)?;
+    let there = has_linkage(alloc, &nothing, table, root, i)?;
+    Ok(there)
+}
+
 /// The good linkages of a problem with so many unlinked positions, in order: the next is made when it is asked for.
 ///
 /// Contracts see `{ positions, nulls, position }`: the problem, how many positions are unlinked, and how many linkages were
@@ -91,7 +136,6 @@ pub(crate) fn has_linkage(
 #[derive(Drop)]
 pub struct Ranked {
     problem: Problem,
-    nothing: Part,
     table: Table,
     root: Option<usize>,
     nulls: u32,
@@ -99,31 +143,25 @@ pub struct Ranked {
 }
 
 impl Model for Ranked {
+    ghost use Rattle.std.specs.Prelude.{length};
     ghost use Rattle.lg_rank.specs.Rankings.{Ranking, IsListing};
-    ghost use Rattle.lg_rank.specs.Values.{value_of};
+    ghost use Rattle.lg_rank.specs.Values.{nothing_of};
 
     ghost Value = { Ranking };
 
     ghost view = { λ r. record { positions = r.problem; nulls = r.nulls; position = r.position } };
 
-    ghost invariant = { λ r. IsListing r.problem (value_of r.nothing) r.table.nodes.items r.nulls r.root };
+    ghost invariant = { λ r. IsListing r.problem (nothing_of (length r.problem)) r.table.nodes.items r.nulls r.root };
 }
 
 impl Ranked {
     /// The listing of a table, from its first linkage.
-    pub(crate) fn of(
-        problem: Problem,
-        nothing: Part,
-        table: Table,
-        root: Option<usize>,
-        nulls: u32,
-    ) -> Ranked
-        requires { IsListing problem (value_of nothing) table.nodes.items nulls root }
+    pub(crate) fn of(problem: Problem, table: Table, root: Option<usize>, nulls: u32) -> Ranked
+        requires { IsListing problem (nothing_of (length problem)) table.nodes.items nulls root }
         ensures { result ≡ record { positions = problem; nulls = nulls; position = 0 } }
     {
         Ranked {
             problem,
-            nothing,
             table,
             root,
             nulls,
@@ -138,12 +176,8 @@ impl Ranked {
         ensures { IfOk result (λ ranked. ranked ≡ record { positions = problem; nulls = forest.unused; position = 0 }) }
     {
         let built = build(alloc, &problem, &forest)?;
-        let Built {
-            nothing,
-            table,
-            root,
-        } = built;
-        Ok(Ranked::of(problem, nothing, table, root, forest.unused()))
+        let Built { table, root } = built;
+        Ok(Ranked::of(problem, table, root, forest.unused()))
     }
 
     /// Turns to the level of another forest of the problem, before its first linkage. After an error nothing has changed.
@@ -159,15 +193,10 @@ impl Ranked {
 
     // Lists by other nodes of the same problem.
     fn turn_to(&mut self, built: Built, nulls: u32)
-        requires { IsListing self.old.positions (value_of built.nothing) built.table.nodes.items nulls built.root }
+        requires { IsListing self.old.positions (nothing_of (length self.old.positions)) built.table.nodes.items nulls built.root }
         ensures { self.new ≡ record { positions = self.old.positions; nulls = nulls; position = 0 } }
     {
-        let Built {
-            nothing,
-            table,
-            root,
-        } = built;
-        self.nothing = nothing;
+        let Built { table, root } = built;
         self.table = table;
         self.root = root;
         self.nulls = nulls;
@@ -183,14 +212,7 @@ impl Ranked {
         ensures unchanged { OnErr result (self.new ≡ self.old) }
     {
         let i = self.position as usize;
-        let found = nth_linkage(
-            alloc,
-            &self.problem,
-            &self.nothing,
-            &mut self.table,
-            self.root,
-            i,
-        )?;
+        let found = listed_at(alloc, &self.problem, &mut self.table, self.root, i)?;
         if found.is_some() {
             self.position += 1;
         }
@@ -206,7 +228,7 @@ impl Ranked {
         ensures unchanged { OnErr result (self.new ≡ self.old) }
     {
         let i = self.position as usize;
-        let there = has_linkage(alloc, &self.nothing, &mut self.table, self.root, i)?;
+        let there = is_listed_at(alloc, &self.problem, &mut self.table, self.root, i)?;
         if there {
             self.position += 1;
         }

@@ -147,7 +147,7 @@ impl SmallWay {
         ensures { result ≡ self.now }
     {
         Way {
-            word: usize::from(self.word),
+            word: self.word,
             choice: self.choice,
             cost: self.cost,
             span: span_of(self.near) + span_of(self.far),

@@ -3,10 +3,12 @@ ghost use Rattle.std.specs.Prelude.{◌≡◌, ◌<◌, ◌≤◌, [], ℕ, List
 ghost use Rattle.lg_gram.specs.Linkages.{Linkage as Seen, IsLinkage};
 ghost use Rattle.lg_gram.specs.declared.disjunct.Disjunct.{Disjunct as SeenDisjunct};
 ghost use Rattle.lg_rank.specs.Meanings.{IsCodeOf, IsPacked, AreCodesOf};
+ghost use Rattle.lg_rank.specs.Sources.{value_in};
 ghost use Rattle.lg_rank.specs.Values.{value_of};
 
 use crate::part::Part;
 use crate::small::SmallLink;
+use crate::source::Source;
 use lg_base::NoMemory;
 use lg_gram::{Chosen, Disjunct, Link, Linkage, Links, Problem};
 use std::alloc::Global;
@@ -60,11 +62,36 @@ fn choices_of(
 }
 
 /// The linkage of a part.
-pub fn linkage_of(alloc: Global, problem: &Problem, part: &Part) -> Result<Linkage, NoMemory>
-    requires { (g : Seen) × IsPacked problem.now g (value_of part.now) × IsLinkage g × (length g.chosen ≡ length problem.now) }
+pub fn linkage_of(alloc: Global, problem: &Problem, part: Source<'_>) -> Result<Linkage, NoMemory>
+    requires { (g : Seen) × IsPacked problem.now g (value_in part) × IsLinkage g × (length g.chosen ≡ length problem.now) }
+    ensures { (g : Seen) → IsPacked problem.now g (value_in part.entry) → length g.chosen ≡ length problem.now → IfOk result (λ linkage. linkage ≡ g) }
+{
+    match part {
+        Source::Made(part) => {
+            let codes = part.choices(alloc)?;
+            let links = part.links(alloc)?;
+            linkage_by(alloc, problem, part, codes.as_slice(), links.as_slice())
+        }
+        Source::Waiting(ready) => {
+            linkage_by(alloc, problem, ready.part(), ready.choices(), ready.links())
+        }
+    }
+}
+
+// The linkage of a part with these choices and links.
+fn linkage_by(
+    alloc: Global,
+    problem: &Problem,
+    part: &Part,
+    codes: &[u32],
+    small: &[SmallLink],
+) -> Result<Linkage, NoMemory>
+    requires codes { codes.now ≡ (value_of part.now).choices }
+    requires links { small.now ≡ (value_of part.now).links }
+    requires packed { (g : Seen) × IsPacked problem.now g (value_of part.now) × IsLinkage g × (length g.chosen ≡ length problem.now) }
     ensures { (g : Seen) → IsPacked problem.now g (value_of part.now) → length g.chosen ≡ length problem.now → IfOk result (λ linkage. linkage ≡ g) }
 {
-    let choices = choices_of(alloc, problem, part.choices.as_slice())?;
-    let links = links_of(alloc, part.links.as_slice())?;
+    let choices = choices_of(alloc, problem, codes)?;
+    let links = links_of(alloc, small)?;
     Ok(Linkage::of(Chosen::of(choices), Links::of(links)).unwrap())
 }

@@ -1,5 +1,4 @@
-use Rattle.std.proofs.Common.{◌≡◌, ◌+◌, w64, of_z, to_z, refl, sym, ap, subst, ◌∙◌, arith, rules}
-use Rattle.std.proofs.lemmas.Bool.{cases_lt}
+use Rattle.std.proofs.Common.{◌≡◌, w64, of_z, to_z, refl, sym, ap, subst, ◌∙◌, arith, rules}
 use Rattle.lg_gram.specs.declared.disjunct.Disjunct.{Disjunct}
 use Rattle.lg_rank.specs.Meanings.{IsWord}
 use Rattle.lg_rank.proofs.Keyed.{disjunct_at}

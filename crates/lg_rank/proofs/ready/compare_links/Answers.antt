@@ -1,7 +1,7 @@
 use Rattle.std.proofs.Common.{◌≡◌, length, min, sym, ◌∙◌, arith}
 use Rattle.lg_gram.specs.Linkages.{tie_cmp}
 use Rattle.lg_rank.proofs.Compared.{slice_cmp_ended}
-use Rattle.lg_rank.proofs.part.compare_links.Goals as goal
+use Rattle.lg_rank.proofs.ready.compare_links.Goals as goal
 
 -- where no links differ, the lengths decide
 pub returns : goal.returns
