@@ -190,7 +190,7 @@ fn searched(
     }
 }
 
-// What is left where formulas are pruned, expanded, and their disjuncts pruned.
+// What is left where formulas are pruned and expanded. Their disjuncts are pruned where the problem is sharpened.
 fn uncounted(
     alloc: Global,
     view: &View,
@@ -201,14 +201,12 @@ fn uncounted(
     requires uncounted { options.now.count ≡ false }
     ensures { IfOk result (λ both. IsSearched view.now tokens.now options.now both.0 both.1) }
 {
-    pruning_keeps_linkages();
     let problem = narrowed(alloc, view, tokens, options.idioms)?;
-    let alive = pprune(alloc, problem)?;
     let stats = Stats {
         disjuncts: 0,
         kept: 0,
     };
-    Ok((alive, stats))
+    Ok((problem, stats))
 }
 
 // All disjuncts, or what pruning leaves of them.

@@ -213,30 +213,47 @@ impl Search {
         Ok(there)
     }
 
-    /// Goes on to one more unlinked word, with all disjuncts of the problem. The only error is running out of memory, and then the
-    /// search is of no more use: its listing is gone.
+    /// Goes on to one more unlinked word. Where a sharper problem was searched, the problem is sharpened for that number. The only error
+    /// is running out of memory, and then the search is of no more use: its listing is gone.
     pub fn rise(&mut self, alloc: Global) -> Result<(), NoMemory>
         requires { self.old.nulls < length self.old.positions }
         ensures { OnOk result (self.new ≡ record { positions = self.old.positions; nulls = self.old.nulls + 1; position = 0 }) }
     {
         match self.wide.take() {
             Some(problem) => {
-                self.ranked = ranked_above(alloc, problem, self.ranked.nulls())?;
+                *self = Search::at(alloc, problem, self.ranked.nulls() + 1)?;
                 Ok(())
             }
             None => raise(alloc, &mut self.ranked),
         }
     }
+
+    // Before the first linkage of this level, by the problem that is sharpened for it, if it is not small.
+    fn at(alloc: Global, problem: Problem, nulls: u32) -> Result<Search, NoMemory>
+        requires { nulls ≤ length problem }
+        ensures { IfOk result (λ search. search ≡ record { positions = problem; nulls = nulls; position = 0 }) }
+    {
+        let found = sharpened(alloc, &problem, nulls)?;
+        let Some(sharp) = found else {
+            let ranked = ranked_at(alloc, problem, nulls)?;
+            return Ok(Search { ranked, wide: None });
+        };
+        let ranked = ranked_at(alloc, sharp, nulls)?;
+        Ok(Search {
+            ranked,
+            wide: Some(problem),
+        })
+    }
 }
 
-// The linkages of a problem with one more unlinked word than so many.
-fn ranked_above(alloc: Global, problem: Problem, nulls: u32) -> Result<Ranked, NoMemory>
-    requires { nulls < length problem }
-    ensures { IfOk result (λ ranked. ranked ≡ record { positions = problem; nulls = nulls + 1; position = 0 }) }
+// The linkages of a problem with so many unlinked words.
+fn ranked_at(alloc: Global, problem: Problem, nulls: u32) -> Result<Ranked, NoMemory>
+    requires { nulls ≤ length problem }
+    ensures { IfOk result (λ ranked. ranked ≡ record { positions = problem; nulls = nulls; position = 0 }) }
 {
     // the call tells that there are few positions
     let _positions = problem.positions();
-    let forest = solve_at(alloc, &problem, nulls + 1, &mut Steps::<Own>::start())?;
+    let forest = solve_at(alloc, &problem, nulls, &mut Steps::<Own>::start())?;
     Ranked::new(alloc, problem, forest)
 }
 
