@@ -1,0 +1,4 @@
+pub mod Wide
+pub mod Ends
+pub mod Climbs
+pub mod Reach

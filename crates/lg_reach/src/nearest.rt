@@ -1,0 +1,62 @@
+//! The nearest word at which a link may end.
+ghost use Rattle.std.specs.Prelude.{◌≤◌, ℕ};
+ghost use Rattle.lg_gram.specs.Linkages.{Linkage};
+ghost use Rattle.lg_reach.specs.Ends.{Ends, IsNear, Suits};
+
+use crate::site::{Site, Sites};
+use lg_gram::{Connector, matches};
+use lg_member::class_of;
+
+/// A position among so many words, and the sites that are known of before; none where nothing is known yet.
+#[derive(Clone, Copy)]
+pub(crate) struct Stand<'a> {
+    pub(crate) position: usize,
+    pub(crate) words: usize,
+    pub(crate) known: Option<&'a Sites>,
+}
+
+impl Stand<'_> {
+    /// The least length, from this one on, of a link of the connector. None where none can be so long.
+    pub(crate) fn nearest(&self, connector: &Connector, least: usize) -> Option<usize>
+        ensures { (g : Linkage) → Suits g self.now → (n : ℕ) → Ends g self.now.position connector.now n → least ≤ n → IsNear n result }
+    {
+        let end = self.end(connector.is_right());
+        match self.known {
+            None if least < end => Some(least),
+            None => None,
+            Some(sites) => (least..end).find(|n| self.meets(sites, connector, *n)),
+        }
+    }
+
+    // Below which length all links to the right are, or to the left.
+    fn end(&self, right: bool) -> usize {
+        if right {
+            self.words.saturating_sub(self.position)
+        } else {
+            self.position + 1
+        }
+    }
+
+    // Whether a partner of the connector stands so far away, and reaches back.
+    fn meets(&self, sites: &Sites, connector: &Connector, length: usize) -> bool {
+        let right = connector.is_right();
+        let position = if right {
+            self.position + length
+        } else {
+            self.position.saturating_sub(length)
+        };
+        let others = sites.at(!right, position, class_of(connector.caps()));
+        others
+            .iter()
+            .any(|other| other.least <= length && joins(right, connector, &other.connector))
+    }
+}
+
+// Whether the two may be linked, the first to the right of its word, or to the left.
+fn joins(right: bool, connector: &Connector, other: &Connector) -> bool {
+    if right {
+        matches(connector, other)
+    } else {
+        matches(other, connector)
+    }
+}

@@ -1,0 +1,167 @@
+//! A walk through an expression, from near to far.
+ghost use Rattle.std.specs.Prelude.{◌∷◌, [], OnOk, IfOk};
+ghost use Rattle.lg_gram.specs.Linkages.{Linkage};
+ghost use Rattle.lg_gram.specs.Measures.{single, choices_of, picks_of, choices_of_any};
+ghost use Rattle.lg_gram.specs.Trees.{tree_of, trees_in, expr_items};
+ghost use Rattle.lg_reach.specs.Climbs.{IsFewer, Leaves, seen};
+ghost use Rattle.lg_reach.specs.Ends.{Ends, HasSite, Keeps, Suits};
+
+use crate::nearest::Stand;
+use crate::site::Sites;
+use lg_base::NoMemory;
+use lg_gram::{Connector, Expr, Exprs};
+use std::alloc::Global;
+
+/// How long the next link is at least, to the left and to the right.
+#[derive(Clone, Copy, Debug)]
+pub(crate) struct Least {
+    pub(crate) left: usize,
+    pub(crate) right: usize,
+}
+
+impl Least {
+    /// At each side so long as the shorter of the two.
+    fn or(self, other: Least) -> Least {
+        Least {
+            left: self.left.min(other.left),
+            right: self.right.min(other.right),
+        }
+    }
+
+    /// After a link of this connector that is at least so long.
+    fn after(self, connector: &Connector, length: usize) -> Least {
+        if connector.is_right() {
+            Least {
+                right: length.saturating_add(1),
+                ..self
+            }
+        } else {
+            Least {
+                left: length.saturating_add(1),
+                ..self
+            }
+        }
+    }
+
+    fn on(self, right: bool) -> usize {
+        if right { self.right } else { self.left }
+    }
+}
+
+/// What is left of an expression, and how long links behind it are at least.
+#[derive(Drop)]
+pub(crate) struct Left<T> {
+    pub(crate) what: T,
+    pub(crate) least: Least,
+}
+
+/// The expression without the choices whose links cannot reach a partner. The sites get the connectors of what is left.
+#[cycle(reach)]
+pub(crate) fn reach(
+    alloc: Global,
+    e: &Expr,
+    stand: &Stand<'_>,
+    start: Least,
+    sites: &mut Sites,
+) -> Result<Option<Left<Expr>>, NoMemory>
+    ensures keeps { OnOk result (Keeps sites.old sites.new) }
+    ensures fewer { IfOk result (λ left. IsFewer (choices_of (tree_of e.now)) (seen left)) }
+    ensures leaves { (g : Linkage) → Suits g stand.now → IfOk result (λ left. Leaves (Ends g stand.now.position) (HasSite sites.new stand.now.position) start (choices_of (tree_of e.now)) (seen left)) }
+{
+    match e {
+        Expr::Empty => Ok(Some(Left {
+            what: Expr::Empty,
+            least: start,
+        })),
+        Expr::Conn(connector) => reach_leaf(connector, stand, start, sites),
+        Expr::And(members) => reach_all(alloc, members, stand, start, sites),
+        Expr::Or(members) => reach_any(alloc, members, stand, start, sites),
+        Expr::Priced(inner, cost) => match reach(alloc, inner, stand, start, sites)? {
+            Some(left) => Ok(Some(Left {
+                what: Expr::Priced(Box::new(alloc, left.what)?, *cost),
+                least: left.least,
+            })),
+            None => Ok(None),
+        },
+    }
+}
+
+fn reach_leaf(
+    connector: &Connector,
+    stand: &Stand<'_>,
+    start: Least,
+    sites: &mut Sites,
+) -> Result<Option<Left<Expr>>, NoMemory>
+    ensures keeps { OnOk result (Keeps sites.old sites.new) }
+    ensures fewer { IfOk result (λ left. IsFewer (single connector.now ∷ []) (seen left)) }
+    ensures leaves { (g : Linkage) → Suits g stand.now → IfOk result (λ left. Leaves (Ends g stand.now.position) (HasSite sites.new stand.now.position) start (single connector.now ∷ []) (seen left)) }
+{
+    let Some(length) = stand.nearest(connector, start.on(connector.is_right())) else {
+        return Ok(None);
+    };
+    sites.add(stand.position, connector, length)?;
+    Ok(Some(Left {
+        what: Expr::Conn(*connector),
+        least: start.after(connector, length),
+    }))
+}
+
+#[cycle(reach)]
+fn reach_all(
+    alloc: Global,
+    members: &Exprs,
+    stand: &Stand<'_>,
+    start: Least,
+    sites: &mut Sites,
+) -> Result<Option<Left<Expr>>, NoMemory>
+    ensures keeps { OnOk result (Keeps sites.old sites.new) }
+    ensures fewer { IfOk result (λ left. IsFewer (picks_of (trees_in (expr_items members.now))) (seen left)) }
+    ensures leaves { (g : Linkage) → Suits g stand.now → IfOk result (λ left. Leaves (Ends g stand.now.position) (HasSite sites.new stand.now.position) start (picks_of (trees_in (expr_items members.now))) (seen left)) }
+{
+    let mut kept = Vec::with_capacity(alloc, members.items().len())?;
+    let mut least = start;
+    for member in members.items() {
+        let Some(left) = reach(alloc, member, stand, least, sites)? else {
+            return Ok(None);
+        };
+        kept.push(left.what)?;
+        least = left.least;
+    }
+    Ok(Some(Left {
+        what: Expr::And(Exprs::of(kept)),
+        least,
+    }))
+}
+
+#[cycle(reach)]
+fn reach_any(
+    alloc: Global,
+    members: &Exprs,
+    stand: &Stand<'_>,
+    start: Least,
+    sites: &mut Sites,
+) -> Result<Option<Left<Expr>>, NoMemory>
+    ensures keeps { OnOk result (Keeps sites.old sites.new) }
+    ensures fewer { IfOk result (λ left. IsFewer (choices_of_any (trees_in (expr_items members.now))) (seen left)) }
+    ensures leaves { (g : Linkage) → Suits g stand.now → IfOk result (λ left. Leaves (Ends g stand.now.position) (HasSite sites.new stand.now.position) start (choices_of_any (trees_in (expr_items members.now))) (seen left)) }
+{
+    let mut kept = Vec::new(alloc);
+    let mut least: Option<Least> = None;
+    for member in members.items() {
+        let Some(left) = reach(alloc, member, stand, start, sites)? else {
+            continue;
+        };
+        kept.push(left.what)?;
+        least = match least {
+            None => Some(left.least),
+            Some(before) => Some(before.or(left.least)),
+        };
+    }
+    match least {
+        None => Ok(None),
+        Some(least) => Ok(Some(Left {
+            what: Expr::Or(Exprs::of(kept)),
+            least,
+        })),
+    }
+}
