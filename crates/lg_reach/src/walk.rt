@@ -1,10 +1,9 @@
 //! A walk through an expression, from near to far.
-ghost use Rattle.std.specs.Prelude.{◌∷◌, [], OnOk, IfOk};
-ghost use Rattle.lg_gram.specs.Linkages.{Linkage};
+ghost use Rattle.std.specs.Prelude.{◌≡◌, ◌∷◌, [], IfOk, Some, cond};
 ghost use Rattle.lg_gram.specs.Measures.{single, choices_of, picks_of, choices_of_any};
 ghost use Rattle.lg_gram.specs.Trees.{tree_of, trees_in, expr_items};
-ghost use Rattle.lg_reach.specs.Climbs.{IsFewer, Leaves, seen};
-ghost use Rattle.lg_reach.specs.Ends.{Ends, HasSite, Keeps, Suits};
+ghost use Rattle.lg_reach.specs.Climbs.{IsWithin, seen};
+ghost use Rattle.lg_reach.specs.Walks.{Walks, behind_link, nearer_by};
 
 use crate::nearest::Stand;
 use crate::site::Sites;
@@ -21,7 +20,9 @@ pub(crate) struct Least {
 
 impl Least {
     /// At each side so long as the shorter of the two.
-    fn or(self, other: Least) -> Least {
+    fn or(self, other: Least) -> Least
+        ensures { result ≡ nearer_by (Some self) other }
+    {
         Least {
             left: self.left.min(other.left),
             right: self.right.min(other.right),
@@ -29,7 +30,9 @@ impl Least {
     }
 
     /// After a link of this connector that is at least so long.
-    fn after(self, connector: &Connector, length: usize) -> Least {
+    fn after(self, connector: &Connector, length: usize) -> Least
+        ensures { IsWithin result (behind_link connector.now length self) }
+    {
         if connector.is_right() {
             Least {
                 right: length.saturating_add(1),
@@ -43,8 +46,20 @@ impl Least {
         }
     }
 
-    fn on(self, right: bool) -> usize {
+    fn on(self, right: bool) -> usize
+        ensures { result ≡ cond right self.right self.left }
+    {
         if right { self.right } else { self.left }
+    }
+}
+
+// The nearer of the two on each side, if there is one before.
+fn nearer(before: Option<Least>, next: Least) -> Least
+    ensures { result ≡ nearer_by before next }
+{
+    match before {
+        None => next,
+        Some(before) => before.or(next),
     }
 }
 
@@ -64,9 +79,7 @@ pub(crate) fn reach(
     start: Least,
     sites: &mut Sites,
 ) -> Result<Option<Left<Expr>>, NoMemory>
-    ensures keeps { OnOk result (Keeps sites.old sites.new) }
-    ensures fewer { IfOk result (λ left. IsFewer (choices_of (tree_of e.now)) (seen left)) }
-    ensures leaves { (g : Linkage) → Suits g stand.now → IfOk result (λ left. Leaves (Ends g stand.now.position) (HasSite sites.new stand.now.position) start (choices_of (tree_of e.now)) (seen left)) }
+    ensures { IfOk result (λ left. Walks sites.old sites.new stand.now start (choices_of (tree_of e.now)) (seen left)) }
 {
     match e {
         Expr::Empty => Ok(Some(Left {
@@ -92,9 +105,7 @@ fn reach_leaf(
     start: Least,
     sites: &mut Sites,
 ) -> Result<Option<Left<Expr>>, NoMemory>
-    ensures keeps { OnOk result (Keeps sites.old sites.new) }
-    ensures fewer { IfOk result (λ left. IsFewer (single connector.now ∷ []) (seen left)) }
-    ensures leaves { (g : Linkage) → Suits g stand.now → IfOk result (λ left. Leaves (Ends g stand.now.position) (HasSite sites.new stand.now.position) start (single connector.now ∷ []) (seen left)) }
+    ensures { IfOk result (λ left. Walks sites.old sites.new stand.now start (single connector.now ∷ []) (seen left)) }
 {
     let Some(length) = stand.nearest(connector, start.on(connector.is_right())) else {
         return Ok(None);
@@ -114,9 +125,7 @@ fn reach_all(
     start: Least,
     sites: &mut Sites,
 ) -> Result<Option<Left<Expr>>, NoMemory>
-    ensures keeps { OnOk result (Keeps sites.old sites.new) }
-    ensures fewer { IfOk result (λ left. IsFewer (picks_of (trees_in (expr_items members.now))) (seen left)) }
-    ensures leaves { (g : Linkage) → Suits g stand.now → IfOk result (λ left. Leaves (Ends g stand.now.position) (HasSite sites.new stand.now.position) start (picks_of (trees_in (expr_items members.now))) (seen left)) }
+    ensures { IfOk result (λ left. Walks sites.old sites.new stand.now start (picks_of (trees_in (expr_items members.now))) (seen left)) }
 {
     let mut kept = Vec::with_capacity(alloc, members.items().len())?;
     let mut least = start;
@@ -141,9 +150,7 @@ fn reach_any(
     start: Least,
     sites: &mut Sites,
 ) -> Result<Option<Left<Expr>>, NoMemory>
-    ensures keeps { OnOk result (Keeps sites.old sites.new) }
-    ensures fewer { IfOk result (λ left. IsFewer (choices_of_any (trees_in (expr_items members.now))) (seen left)) }
-    ensures leaves { (g : Linkage) → Suits g stand.now → IfOk result (λ left. Leaves (Ends g stand.now.position) (HasSite sites.new stand.now.position) start (choices_of_any (trees_in (expr_items members.now))) (seen left)) }
+    ensures { IfOk result (λ left. Walks sites.old sites.new stand.now start (choices_of_any (trees_in (expr_items members.now))) (seen left)) }
 {
     let mut kept = Vec::new(alloc);
     let mut least: Option<Least> = None;
@@ -152,10 +159,7 @@ fn reach_any(
             continue;
         };
         kept.push(left.what)?;
-        least = match least {
-            None => Some(left.least),
-            Some(before) => Some(before.or(left.least)),
-        };
+        least = Some(nearer(least, left.least));
     }
     match least {
         None => Ok(None),
