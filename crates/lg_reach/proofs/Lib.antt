@@ -1,3 +1,4 @@
 pub mod Joining
 pub mod Placing
 pub mod Narrowing
+pub mod Meeting

@@ -1,4 +1,5 @@
 pub mod Wide
 pub mod Ends
+pub mod Partners
 pub mod Climbs
 pub mod Reach
