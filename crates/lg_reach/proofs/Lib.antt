@@ -1,4 +1,5 @@
 pub mod Joining
 pub mod Placing
 pub mod Narrowing
+pub mod Adding
 pub mod Meeting

@@ -1,5 +1,5 @@
 -- Where a link ends, and the known partner there.
-use Rattle.std.proofs.Common.{◌≡◌, ℕ, suc, ◌+◌, ◌-◌, ◌<◌, ◌≤◌, min, Bool, true, false, not, cond, refl, sym, ap, ◌∙◌, subst, ◌↔◌, Option, Some, None, List, length, Contains, arith}
+use Rattle.std.proofs.Common.{◌≡◌, ℕ, suc, ◌+◌, ◌-◌, ◌<◌, ◌≤◌, min, Bool, true, false, not, cond, refl, sym, ap, ◌∙◌, subst, ◌↔◌, inl, inr, Option, Some, None, List, length, Contains, arith}
 use Rattle.std.specs.List.{slice_get, Any}
 use Rattle.std.proofs.lemmas.Bool.{cases_eq, iff_false}
 use Rattle.std.proofs.lemmas.Option.{same_Some}

@@ -1,5 +1,5 @@
 -- Where the links of a linkage end, and the tables of sites that know of them.
-use Rattle.std.specs.Prelude.{◌≡◌, ℕ, ◌≤◌, Bool, cond, List, length, Option, None, Some, slice_get, Unit}
+use Rattle.std.specs.Prelude.{◌≡◌, ℕ, ◌≤◌, Bool, cond, List, length, Option, None, Some, slice_get}
 use Rattle.std.specs.Borrow.{Bor}
 use Rattle.std.specs.List.{Contains}
 use Rattle.lg_eprune.specs.Live.{WordTree, AreOf}
