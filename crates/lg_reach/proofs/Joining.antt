@@ -9,7 +9,7 @@ use Rattle.lg_reach.specs.declared.walk.Least.{Least}
 
 -- each of the first choices joined with each of the second
 abbrev pub all_joined : List Choice → List Choice → List Choice
-all_joined as bs = flat_map (λ a. map (joined a) bs) as
+all_joined firsts bs = flat_map (λ a. map (joined a) bs) firsts
 
 -- on each side the nearer
 abbrev pub nearer : Least → Least → Least
@@ -44,21 +44,21 @@ axiom pub leaf_none : (Ok Seen : Connector → ℕ → Type 0) (s : Least) (c : 
 axiom pub dearer_leaves : (Ok Seen : Connector → ℕ → Type 0) (s : Least) (price : ℤ) (cs : List Choice) (o : Option (List Choice × Least)) → Leaves Ok Seen s cs o
     → Leaves Ok Seen s (map (dearer price) cs) (option_map (λ l. (map (dearer price) l.0, l.1)) o)
 
-axiom pub pick_leaves : (Ok Seen : Connector → ℕ → Type 0) (s t u : Least) (as kept bs more : List Choice) → Leaves Ok Seen s as (Some (kept, t)) → Leaves Ok Seen t bs (Some (more, u))
-    → Leaves Ok Seen s (all_joined as bs) (Some (all_joined kept more, u))
+axiom pub pick_leaves : (Ok Seen : Connector → ℕ → Type 0) (s t u : Least) (firsts kept bs more : List Choice) → Leaves Ok Seen s firsts (Some (kept, t)) → Leaves Ok Seen t bs (Some (more, u))
+    → Leaves Ok Seen s (all_joined firsts bs) (Some (all_joined kept more, u))
 
-axiom pub first_none : (Ok Seen : Connector → ℕ → Type 0) (s : Least) (as bs : List Choice) → Leaves Ok Seen s as None → Leaves Ok Seen s (all_joined as bs) None
+axiom pub first_none : (Ok Seen : Connector → ℕ → Type 0) (s : Least) (firsts bs : List Choice) → Leaves Ok Seen s firsts None → Leaves Ok Seen s (all_joined firsts bs) None
 
-axiom pub second_none : (Ok Seen : Connector → ℕ → Type 0) (s t : Least) (as kept bs : List Choice) → Leaves Ok Seen s as (Some (kept, t)) → Leaves Ok Seen t bs None
-    → Leaves Ok Seen s (all_joined as bs) None
+axiom pub second_none : (Ok Seen : Connector → ℕ → Type 0) (s t : Least) (firsts kept bs : List Choice) → Leaves Ok Seen s firsts (Some (kept, t)) → Leaves Ok Seen t bs None
+    → Leaves Ok Seen s (all_joined firsts bs) None
 
 axiom pub none_leaves : (Ok Seen : Connector → ℕ → Type 0) (s : Least) → Leaves Ok Seen s [] None
 
-axiom pub either_leaves : (Ok Seen : Connector → ℕ → Type 0) (s : Least) (as bs : List Choice) (o p : Option (List Choice × Least)) → Leaves Ok Seen s as o → Leaves Ok Seen s bs p
-    → Leaves Ok Seen s (as ++ bs) (either o p)
+axiom pub either_leaves : (Ok Seen : Connector → ℕ → Type 0) (s : Least) (firsts bs : List Choice) (o p : Option (List Choice × Least)) → Leaves Ok Seen s firsts o → Leaves Ok Seen s bs p
+    → Leaves Ok Seen s (firsts ++ bs) (either o p)
 
-axiom pub pick_fewer : (as kept bs more : List Choice) (t u v : Least) → IsFewer as (Some (kept, t)) → IsFewer bs (Some (more, u)) → IsFewer (all_joined as bs) (Some (all_joined kept more, v))
+axiom pub pick_fewer : (firsts kept bs more : List Choice) (t u v : Least) → IsFewer firsts (Some (kept, t)) → IsFewer bs (Some (more, u)) → IsFewer (all_joined firsts bs) (Some (all_joined kept more, v))
 
-axiom pub either_fewer : (as bs : List Choice) (o p : Option (List Choice × Least)) → IsFewer as o → IsFewer bs p → IsFewer (as ++ bs) (either o p)
+axiom pub either_fewer : (firsts bs : List Choice) (o p : Option (List Choice × Least)) → IsFewer firsts o → IsFewer bs p → IsFewer (firsts ++ bs) (either o p)
 
 axiom pub dearer_fewer : (price : ℤ) (cs : List Choice) (o : Option (List Choice × Least)) → IsFewer cs o → IsFewer (map (dearer price) cs) (option_map (λ l. (map (dearer price) l.0, l.1)) o)

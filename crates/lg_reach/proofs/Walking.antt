@@ -168,15 +168,15 @@ walks_link old new stand start near c m keeps has far within =
     nearer_end old new stand start (single c ∷ []) (single c ∷ []) (leaf_after c m start) near within (walks_leaf old new stand start c m keeps has far)
 
 -- what is left of either, in the sites of the later
-pub walks_either : (old now new : Sites) (stand : Stand) (start : Least) (as bs : List Choice) (o p : Option (List Choice × Least)) → Walks old now stand start as o → Walks now new stand start bs p
-    → Walks old new stand start (as ++ bs) (either o p)
-walks_either old now new stand start as bs o p v w = record {
+pub walks_either : (old now new : Sites) (stand : Stand) (start : Least) (firsts bs : List Choice) (o p : Option (List Choice × Least)) → Walks old now stand start firsts o → Walks now new stand start bs p
+    → Walks old new stand start (firsts ++ bs) (either o p)
+walks_either old now new stand start firsts bs o p v w = record {
   keeps = keeps_then old now new v.keeps w.keeps;
-  fewer = either_fewer as bs o p v.fewer w.fewer;
+  fewer = either_fewer firsts bs o p v.fewer w.fewer;
   leaves = λ g suits.
     let Ok = Ends g stand.position in
     let Seen = HasSite new stand.position in
-    either_leaves Ok Seen start as bs o p (seen_more Ok (HasSite now stand.position) Seen start as o (w.keeps stand.position) (v.leaves g suits)) (w.leaves g suits);
+    either_leaves Ok Seen start firsts bs o p (seen_more Ok (HasSite now stand.position) Seen start firsts o (w.keeps stand.position) (v.leaves g suits)) (w.leaves g suits);
 }
 
 -- of the members that were kept so far

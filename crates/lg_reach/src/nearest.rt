@@ -1,7 +1,8 @@
 //! The nearest word at which a link may end.
-ghost use Rattle.std.specs.Prelude.{◌≤◌, ℕ};
+ghost use Rattle.std.specs.Prelude.{◌≡◌, ◌≤◌, ◌<◌, ◌↔◌, ℕ, IsTrue};
 ghost use Rattle.lg_gram.specs.Linkages.{Linkage};
 ghost use Rattle.lg_reach.specs.Ends.{Ends, IsNear, Suits};
+ghost use Rattle.lg_reach.specs.Partners.{HasPartner, IsPartner, MatchOn, bound_on};
 
 use crate::site::{Site, Sites};
 use lg_gram::{Connector, matches};
@@ -24,21 +25,45 @@ impl Stand<'_> {
         match self.known {
             None if least < end => Some(least),
             None => None,
-            Some(sites) => (least..end).find(|n| self.meets(sites, connector, *n)),
+            Some(sites) => self.partner(sites, connector, least, end),
         }
     }
 
     // Below which length all links to the right are, or to the left.
-    fn end(&self, right: bool) -> usize {
+    fn end(&self, right: bool) -> usize
+        ensures { result ≡ bound_on right self.now }
+    {
         if right {
             self.words.saturating_sub(self.position)
         } else {
-            self.position + 1
+            self.words.min(self.position.saturating_add(1))
         }
     }
 
+    // The least length, of these, at which a partner of the connector stands.
+    fn partner(
+        &self,
+        sites: &Sites,
+        connector: &Connector,
+        least: usize,
+        end: usize,
+    ) -> Option<usize>
+        requires { end ≡ bound_on connector.now.right self.now }
+        ensures { (n : ℕ) → HasPartner sites.now self.now.position connector.now n → least ≤ n → n < end → IsNear n result }
+    {
+        for length in least..end {
+            if self.meets(sites, connector, length) {
+                return Some(length);
+            }
+        }
+        None
+    }
+
     // Whether a partner of the connector stands so far away, and reaches back.
-    fn meets(&self, sites: &Sites, connector: &Connector, length: usize) -> bool {
+    fn meets(&self, sites: &Sites, connector: &Connector, length: usize) -> bool
+        requires { length < bound_on connector.now.right self.now }
+        ensures { IsTrue result ↔ HasPartner sites.now self.now.position connector.now length }
+    {
         let right = connector.is_right();
         let position = if right {
             self.position + length
@@ -48,12 +73,21 @@ impl Stand<'_> {
         let others = sites.at(!right, position, class_of(connector.caps()));
         others
             .iter()
-            .any(|other| other.least <= length && joins(right, connector, &other.connector))
+            .any(|other| is_partner(connector, length, other))
     }
 }
 
+// Whether a link of the connector that is so long may end at the site, which reaches back.
+fn is_partner(connector: &Connector, length: usize, site: &Site) -> bool
+    ensures { IsTrue result ↔ IsPartner connector.now length site.now }
+{
+    site.least <= length && joins(connector.is_right(), connector, &site.connector)
+}
+
 // Whether the two may be linked, the first to the right of its word, or to the left.
-fn joins(right: bool, connector: &Connector, other: &Connector) -> bool {
+fn joins(right: bool, connector: &Connector, other: &Connector) -> bool
+    ensures { IsTrue result ↔ MatchOn right connector.now other.now }
+{
     if right {
         matches(connector, other)
     } else {

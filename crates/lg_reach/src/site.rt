@@ -1,6 +1,6 @@
 //! Sites: connectors at positions, with how long their links are at least.
-ghost use Rattle.std.specs.Prelude.{◌↔◌, ◌≡◌, ℕ, IfOk, IsTrue, OnOk, cond};
-ghost use Rattle.lg_gram.specs.Connectors.{Connector as Seen};
+ghost use Rattle.std.specs.Prelude.{◌↔◌, ◌≡◌, ◌<◌, IsTrue, OnOk, cond};
+ghost use Rattle.std.specs.List.{Contains};
 ghost use Rattle.lg_member.specs.Cells.{Stands};
 ghost use Rattle.lg_reach.specs.Ends.{HasSite, Keeps};
 ghost use Rattle.lg_reach.specs.Wide.{IsWider};
