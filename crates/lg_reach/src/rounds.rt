@@ -1,8 +1,9 @@
 //! Rounds of walks through all formulas of a sentence.
 ghost use Rattle.std.specs.Prelude.{IfOk};
 ghost use Rattle.lg_gram.specs.Linkages.{Linkage};
-ghost use Rattle.lg_reach.specs.Ends.{AreKnown, IsLinkageOf, Knows};
+ghost use Rattle.lg_reach.specs.Ends.{IsLinkageOf};
 ghost use Rattle.lg_reach.specs.Reach.{HaveFewer, HaveUsed};
+ghost use Rattle.lg_reach.specs.Rounds.{AreWalked};
 
 use crate::nearest::Stand;
 use crate::site::Sites;
@@ -44,9 +45,7 @@ fn walk_through(
     positions: &[WordExprs],
     known: Option<&Sites>,
 ) -> Result<Round, NoMemory>
-    ensures fewer { IfOk result (λ round. HaveFewer positions.now round.kept.items) }
-    ensures used { (g : Linkage) → IsLinkageOf positions.now g → AreKnown known.entry g → IfOk result (λ round. HaveUsed g positions.now round.kept.items) }
-    ensures knows { (g : Linkage) → IsLinkageOf positions.now g → AreKnown known.entry g → IfOk result (λ round. Knows round.sites g) }
+    ensures { IfOk result (λ round. AreWalked positions.now round.kept.items known.entry round.sites) }
 {
     let words = positions.len();
     let mut sites = Sites::new(alloc, words as u32)?;
