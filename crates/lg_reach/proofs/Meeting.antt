@@ -101,9 +101,8 @@ partner_there sites i n c right j class cell r q ej ec at found =
     let t : cond (not right) sites.rights sites.lefts ≡ cond c.right sites.lefts sites.rights = other_table right sites ∙ ap (λ z. cond z sites.lefts sites.rights) q in
     let far = ej ∙ ap (λ z. far_end z i n) q in
     let here = subst (λ z. (x : Site) → Contains cell x ↔ Stands z (far_end c.right i n) (class_of c.caps) x) t
-      (subst (λ z. (x : Site) → Contains cell x ↔ Stands (cond (not right) sites.rights sites.lefts) z (class_of c.caps) x) far
-      (subst (λ z. (x : Site) → Contains cell x ↔ Stands (cond (not right) sites.rights sites.lefts) j z x) ec at)) in
-    (
+    (subst (λ z. (x : Site) → Contains cell x ↔ Stands (cond (not right) sites.rights sites.lefts) z (class_of c.caps) x) far
+    (subst (λ z. (x : Site) → Contains cell x ↔ Stands (cond (not right) sites.rights sites.lefts) j z x) ec at)) in (
       (λ e. let a = found.0 e in record { site = a.1; there = (here a.1).0 (a.0, a.2, a.3); is = a.4 }),
       (λ p. let k = (here p.site).1 p.there in found.1 (k.0, p.site, k.1, k.2, p.is)),
     )
