@@ -1,5 +1,6 @@
 -- Where a link ends, and the known partner there.
 use Rattle.std.proofs.Common.{◌≡◌, ℕ, suc, ◌+◌, ◌-◌, ◌<◌, ◌≤◌, min, Bool, true, false, not, cond, refl, sym, ap, ◌∙◌, subst, ◌↔◌, inl, inr, Option, Some, None, List, length, Contains, arith}
+use Rattle.std.specs.Borrow.{Bor}
 use Rattle.std.specs.List.{slice_get, Any}
 use Rattle.std.proofs.lemmas.Bool.{cases_eq, iff_false}
 use Rattle.std.proofs.lemmas.Option.{same_Some}
@@ -10,7 +11,7 @@ use Rattle.lg_gram.specs.Rules.{HasLink, Rules, left_list, right_list, lefts_of,
 use Rattle.lg_gram.specs.declared.linkage.Link.{Link}
 use Rattle.lg_member.proofs.Linked.{linked_at}
 use Rattle.lg_member.specs.Cells.{Table, Stands, class_of}
-use Rattle.lg_reach.specs.Ends.{Ends, IsNear, Knows, Suits, list_at, own, place_on}
+use Rattle.lg_reach.specs.Ends.{AreKnown, Ends, IsNear, Knows, Suits, list_at, own, place_on}
 use Rattle.lg_reach.specs.Partners.{HasPartner, IsPartner, MatchOn, bound_on, far_end}
 use Rattle.lg_reach.specs.declared.nearest.Stand.{Stand}
 use Rattle.lg_reach.specs.declared.site.Site.{Site}
@@ -92,3 +93,29 @@ none_more sites i c least n r found here before m p l =
       | inl q ↦ absurd (iff_false found here (subst (λ z. HasPartner sites i c z) q p))
       | inr d ↦ (let y : n + 1 ≤ m = omega arith in y)
     ]
+
+-- where such a link would end, one of the sites of the class is a partner
+pub partner_there : (sites : Sites) (i n : ℕ) (c : Connector) (right : Bool) (j class : ℕ) (cell : List Site) (r : Bool) → right ≡ c.right → j ≡ far_end right i n → class ≡ class_of c.caps
+    → ((x : Site) → Contains cell x ↔ Stands (cond (not right) sites.rights sites.lefts) j class x) → ((r ≡ true) ↔ Any (IsPartner c n) cell) → (r ≡ true) ↔ HasPartner sites i c n
+partner_there sites i n c right j class cell r q ej ec at found =
+    let t : cond (not right) sites.rights sites.lefts ≡ cond c.right sites.lefts sites.rights = other_table right sites ∙ ap (λ z. cond z sites.lefts sites.rights) q in
+    let far = ej ∙ ap (λ z. far_end z i n) q in
+    let here = subst (λ z. (x : Site) → Contains cell x ↔ Stands z (far_end c.right i n) (class_of c.caps) x) t
+    (subst (λ z. (x : Site) → Contains cell x ↔ Stands (cond (not right) sites.rights sites.lefts) z (class_of c.caps) x) far
+    (subst (λ z. (x : Site) → Contains cell x ↔ Stands (cond (not right) sites.rights sites.lefts) j z x) ec at)) in (
+      (λ e. let a = found.0 e in record { site = a.1; there = (here a.1).0 (a.0, a.2, a.3); is = a.4 }),
+      (λ p. let k = (here p.site).1 p.there in found.1 (k.0, p.site, k.1, k.2, p.is)),
+    )
+
+-- no link is as long as the bound
+pub none_fits : (g : Linkage) (s : Stand) (c : Connector) (least end : ℕ) → end ≡ bound_on c.right s → end ≤ least → Suits g s → (n : ℕ) → Ends g s.position c n → least ≤ n → ⊥
+none_fits g s c least end q h suits n e l =
+    let b : n < end = subst (λ z. n < z) (sym q) (is_below g s suits c n e) in
+    absurd (omega arith)
+
+-- the nearest partner is no farther than any link
+pub partner_near : (g : Linkage) (s : Stand) (sites : Bor Sites) (c : Connector) (least end : ℕ) (r : Option ℕ) → s.known ≡ Some sites → end ≡ bound_on c.right s
+    → ((n : ℕ) → HasPartner sites.now s.position c n → least ≤ n → n < end → IsNear n r) → Suits g s → (n : ℕ) → Ends g s.position c n → least ≤ n → IsNear n r
+partner_near g s sites c least end r is q near suits n e l =
+    let known = subst (λ z. AreKnown z g) is suits.known in
+    near n (partner_of g sites.now s.position n c suits.rules known e) l (subst (λ z. n < z) (sym q) (is_below g s suits c n e))

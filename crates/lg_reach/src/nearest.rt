@@ -1,8 +1,9 @@
 //! The nearest word at which a link may end.
 ghost use Rattle.std.specs.Prelude.{◌≡◌, ◌≤◌, ◌<◌, ◌↔◌, ℕ, IsTrue};
+ghost use Rattle.std.specs.List.{Any};
 ghost use Rattle.lg_gram.specs.Linkages.{Linkage};
 ghost use Rattle.lg_reach.specs.Ends.{Ends, IsNear, Suits};
-ghost use Rattle.lg_reach.specs.Partners.{HasPartner, IsPartner, MatchOn, bound_on};
+ghost use Rattle.lg_reach.specs.Partners.{HasPartner, IsPartner, MatchOn, bound_on, far_end};
 
 use crate::site::{Site, Sites};
 use lg_gram::{Connector, matches};
@@ -65,16 +66,29 @@ impl Stand<'_> {
         ensures { IsTrue result ↔ HasPartner sites.now self.now.position connector.now length }
     {
         let right = connector.is_right();
-        let position = if right {
+        let position = self.far(right, length);
+        let others = sites.at(!right, position, class_of(connector.caps()));
+        has_partner(connector, length, others)
+    }
+
+    // The position at the other end of a link to the right that is so long, or to the left.
+    fn far(&self, right: bool, length: usize) -> usize
+        requires { length < bound_on right self.now }
+        ensures { result ≡ far_end right self.now.position length }
+    {
+        if right {
             self.position + length
         } else {
             self.position.saturating_sub(length)
-        };
-        let others = sites.at(!right, position, class_of(connector.caps()));
-        others
-            .iter()
-            .any(|other| is_partner(connector, length, other))
+        }
     }
+}
+
+// Whether a link of the connector that is so long may end at one of the sites.
+fn has_partner(connector: &Connector, length: usize, sites: &[Site]) -> bool
+    ensures { IsTrue result ↔ Any (IsPartner connector.now length) sites.now }
+{
+    sites.iter().any(|site| is_partner(connector, length, site))
 }
 
 // Whether a link of the connector that is so long may end at the site, which reaches back.
