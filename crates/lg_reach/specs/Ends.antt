@@ -1,5 +1,6 @@
 -- Where the links of a linkage end, and the tables of sites that know of them.
-use Rattle.std.specs.Prelude.{◌≡◌, ℕ, ◌≤◌, Bool, cond, List, length, Option, None, Some, slice_get, Unit}
+use Rattle.std.specs.Prelude.{◌≡◌, ℕ, ◌≤◌, Bool, cond, List, length, Option, None, Some, slice_get}
+use Rattle.std.specs.Borrow.{Bor}
 use Rattle.std.specs.List.{Contains}
 use Rattle.lg_eprune.specs.Live.{WordTree, AreOf}
 use Rattle.lg_gram.specs.Connectors.{Connector}
@@ -45,7 +46,7 @@ abbrev pub Knows : Sites → Linkage → Type 0
 Knows sites g = (i : ℕ) (c : Connector) (n : ℕ) → Ends g i c n → HasSite sites i c n
 
 -- nothing is known yet, or each link is
-abbrev pub AreKnown : Option (Ref Sites) → Linkage → Type 0
+abbrev pub AreKnown : Option (Bor Sites) → Linkage → Type 0
 AreKnown None g = Unit {0}
 AreKnown (Some sites) g = Knows sites.now g
 
