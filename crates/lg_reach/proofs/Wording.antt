@@ -1,7 +1,9 @@
 -- Words that are walked through one after another.
-use Rattle.std.proofs.Common.{◌≡◌, ◌∙◌, refl, sym, ap, subst, ℕ, zero, suc, ◌+◌, ◌<◌, Bool, true, false, cond, Option, Some, None, List, [], ◌∷◌, ◌++◌, slice_get, Contains, inl, inr, arith}
+use Rattle.std.proofs.Common.{◌≡◌, ◌∙◌, refl, sym, ap, subst, ℕ, zero, suc, ◌+◌, ◌<◌, Bool, true, false, cond, Option, Some, None, List, [], ◌∷◌, ◌++◌, length, get_or, take, slice_get, Contains, inl, inr, arith}
 use Rattle.std.specs.List.{AllZip}
+use Rattle.std.proofs.lemmas.List.{take_more}
 use Rattle.std.proofs.lemmas.List.Elements.{Contains-append_cases}
+use Rattle.std.proofs.lemmas.Slice.Zip.{AllZip-left}
 use Rattle.lg_base.proofs.Elements.{contains_cases, contains_none, contains_here}
 use Rattle.lg_eprune.specs.Live.{WordTree}
 use Rattle.lg_gram.specs.Connectors.{Connector}
@@ -41,6 +43,13 @@ narrowed_then old now new stand firsts bs cs ds v w = record {
       | inr m ↦ w.known g suits d chosen u m uses
     ];
 }
+
+-- one word more
+pub narrowed_more : (old now new : Sites) (stand : Stand) (words : List WordTree) (i : ℕ) (word : WordTree) → i < length words → word ≡ get_or words i word → (done left : List WordTree)
+    → AreNarrowed old now stand (take i words) done → AreNarrowed now new stand (word ∷ []) left → AreNarrowed old new stand (take (i + 1) words) (done ++ left)
+narrowed_more old now new stand words i word within read done left v w =
+    subst (λ ws. AreNarrowed old new stand ws (done ++ left)) (ap (λ x. take i words ++ x ∷ []) read ∙ sym (take_more words i word within))
+      (narrowed_then old now new stand (take i words) done (word ∷ []) left v w)
 
 -- what holds place by place holds at a place of both
 at_place : (R : Connector → ℕ → Type 0) (cs : List Connector) (ns : List ℕ) → AllZip R cs ns → (i : ℕ) (c : Connector) (n : ℕ) → slice_get cs i ≡ Some c → slice_get ns i ≡ Some n → R c n
