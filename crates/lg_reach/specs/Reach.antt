@@ -24,7 +24,7 @@ pub record HaveFewer (words kept : List (List WordTree)) : Type 0 where
 
 -- each position has all that the linkage uses there
 abbrev pub HaveUsed : Linkage → List (List WordTree) → List (List WordTree) → Type 0
-HaveUsed g words kept = (i : ℕ) → Narrows (Uses g i) (slice_index_or words i []) (slice_index_or kept i [])
+HaveUsed g words fewer = (i : ℕ) → Narrows (Uses g i) (slice_index_or words i []) (slice_index_or fewer i [])
 
 -- the word, if it is there
 abbrev pub one_word : Option WordTree → List WordTree
