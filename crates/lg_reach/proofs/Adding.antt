@@ -1,7 +1,7 @@
 -- A site more in one of the two tables.
-use Rattle.std.proofs.Common.{ℕ, Bool, true, false, cond, List}
+use Rattle.std.proofs.Common.{ℕ, Bool, true, false, cond}
 use Rattle.lg_member.specs.Cells.{Table, Stands, class_of}
-use Rattle.lg_reach.specs.Ends.{HasSite, Keeps}
+use Rattle.lg_reach.specs.Ends.{Keeps}
 use Rattle.lg_reach.specs.declared.site.Site.{Site}
 use Rattle.lg_reach.specs.declared.site.Sites.{Sites}
 

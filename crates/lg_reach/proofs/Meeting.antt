@@ -1,5 +1,5 @@
 -- Where a link ends, and the known partner there.
-use Rattle.std.proofs.Common.{◌≡◌, ℕ, suc, ◌+◌, ◌-◌, ◌<◌, ◌≤◌, min, Bool, true, false, not, cond, refl, sym, ap, ◌∙◌, subst, ◌↔◌, inl, inr, Option, Some, None, List, length, Contains, arith}
+use Rattle.std.proofs.Common.{◌≡◌, ℕ, suc, ◌+◌, ◌-◌, ◌<◌, ◌≤◌, min, Bool, true, false, not, cond, refl, sym, ap, ◌∙◌, subst, ◌↔◌, inl, inr, Option, Some, List, length, Contains, arith}
 use Rattle.std.specs.Borrow.{Bor}
 use Rattle.std.specs.List.{slice_get, Any}
 use Rattle.std.proofs.lemmas.Bool.{cases_eq, iff_false}
@@ -7,10 +7,10 @@ use Rattle.std.proofs.lemmas.Option.{same_Some}
 use Rattle.std.proofs.Math.Nat.{le-min}
 use Rattle.lg_gram.specs.Connectors.{Connector}
 use Rattle.lg_gram.specs.Linkages.{Linkage, link_length}
-use Rattle.lg_gram.specs.Rules.{HasLink, Rules, left_list, right_list, lefts_of, rights_of}
+use Rattle.lg_gram.specs.Rules.{HasLink, Rules, left_list, lefts_of, rights_of}
 use Rattle.lg_gram.specs.declared.linkage.Link.{Link}
 use Rattle.lg_member.proofs.Linked.{linked_at}
-use Rattle.lg_member.specs.Cells.{Table, Stands, class_of}
+use Rattle.lg_member.specs.Cells.{Stands, class_of}
 use Rattle.lg_reach.specs.Ends.{AreKnown, Ends, IsNear, Knows, Suits, list_at, own, place_on}
 use Rattle.lg_reach.specs.Partners.{HasPartner, IsPartner, MatchOn, bound_on, far_end}
 use Rattle.lg_reach.specs.declared.nearest.Stand.{Stand}

@@ -2,8 +2,8 @@
 use Rattle.std.proofs.Common.{◌≡◌, ◌∙◌, refl, sym, ap, subst, ℕ, zero, suc, ◌+◌, ◌<◌, ◌≤◌, ◌⊎◌, inl, inr, Bool, true, false, cond, Option, Some, None, List, [], ◌∷◌, ◌++◌, length, get_or, slice_get, slice_index_or, Contains, arith}
 use Rattle.std.specs.Borrow.{Bor}
 use Rattle.std.proofs.Math.Seq.{get_or-append_seam}
-use Rattle.std.proofs.lemmas.List.{get_or_append_left, get_or_past}
-use Rattle.std.proofs.lemmas.Option.{get_or_from_slice_get}
+use Rattle.std.proofs.lemmas.List.{get_or_append_left, get_or_past, length-append}
+use Rattle.std.proofs.lemmas.Option.{get_or_from_slice_get, slice_get_read, slice_get_within}
 use Rattle.lg_base.proofs.Elements.{contains_none}
 use Rattle.lg_eprune.specs.Live.{WordTree}
 use Rattle.lg_gram.specs.Connectors.{Connector}
@@ -38,7 +38,7 @@ walked_none words known sites = record {
   knows = λ g among before i low. absurd (omega (arith, low));
 }
 
-below_or_last : (i n : ℕ) → i < suc n → (i < n) ⊎ (i ≡ n)
+below_or_last : (i n : ℕ) → i < n + 1 → (i < n) ⊎ (i ≡ n)
 below_or_last i zero low = inr (omega (arith, low))
 below_or_last zero (suc n) low = inl (omega arith)
 below_or_last (suc i) (suc n) low =
@@ -47,13 +47,13 @@ below_or_last (suc i) (suc n) low =
       | inr same ↦ inr (ap suc same)
     ]
 
+nothing_at : (p : ℕ) (c : Connector) → slice_get [] p ≡ Some c → ⊥
+nothing_at p c is = let low = slice_get_within [] p c is in omega (arith, low)
+
 -- what uses this at a position of a linkage
 linked_choice : (right : Bool) (o : Option Disjunct) (p : ℕ) (c : Connector) → slice_get (cond right (right_list o) (left_list o)) p ≡ Some c → (d : Disjunct) × (o ≡ Some d)
 linked_choice true None p c is = absurd (nothing_at p c is)
-  where
-    nothing_at : (p : ℕ) (c : Connector) → slice_get [] p ≡ Some c → ⊥
-    nothing_at p c is = contains_none c (p, (omega arith), is)
-linked_choice false None p c is = linked_choice true None p c is
+linked_choice false None p c is = absurd (nothing_at p c is)
 linked_choice right (Some d) p c is = (d, refl)
 
 -- at the words that it has there
@@ -74,12 +74,12 @@ module _ (words kept : List (List WordTree)) (known : Option (Bor Sites)) (now n
   suited : (g : Linkage) → IsAmong words g → AreKnown known g → Suits g stand
   suited g among is = record { rules = among.rules; words = among.same_length ∙ sym long; known = subst (λ o. AreKnown o g) (sym before) is }
 
-  each : (P : ℕ → Type 0) → ((i : ℕ) → i < n → P i) → P n → (i : ℕ) → i < suc n → P i
+  each : (P : ℕ → Type 0) → ((i : ℕ) → i < n → P i) → P n → (i : ℕ) → i < n + 1 → P i
   each P less same i low = elim (below_or_last i n low) [ inl l ↦ less i l | inr is ↦ subst P (sym is) same ]
 
-  pub walked_more : AreWalkedTo words (kept ++ left ∷ []) known new (suc n)
+  pub walked_more : AreWalkedTo words (kept ++ left ∷ []) known new (n + 1)
   walked_more = record {
-    many = length-append kept (left ∷ []) ∙ ap (λ m. m + 1) to.many ∙ omega arith;
+    many = length-append kept (left ∷ []) ∙ ap (λ m. m + 1) to.many;
     fewer = each (λ i. Narrows Never (at words i) (at (kept ++ left ∷ []) i)) (λ i low. subst (Narrows Never (at words i)) (sym (earlier i low)) (to.fewer i low))
       (subst (Narrows Never (at words n)) (sym last) w.fewer);
     used = λ g among is.
@@ -152,3 +152,7 @@ walked_again words kept again sites more known same v w = record {
   now g among = still_among words kept g among v.fewer.same_length (v.used g among tt)
   learned : (g : Linkage) → IsAmong words g → Knows known.now g
   learned g among = subst (λ s. Knows s g) (sym same) (v.knows g among tt)
+
+-- what is read at a position
+pub read_at : (words : List (List WordTree)) (n : ℕ) (ws : List WordTree) → n < length words → ws ≡ get_or words n ws → ws ≡ slice_index_or words n []
+read_at words n ws within is = sym (get_or_from_slice_get words n ws [] (slice_get_read words (length words) n ws refl within is))

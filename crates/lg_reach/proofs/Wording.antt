@@ -1,5 +1,5 @@
 -- Words that are walked through one after another.
-use Rattle.std.proofs.Common.{◌≡◌, ◌∙◌, refl, sym, ap, subst, ℕ, zero, suc, ◌+◌, ◌<◌, Bool, true, false, cond, Option, Some, None, List, [], ◌∷◌, ◌++◌, length, get_or, take, slice_get, Contains, inl, inr, arith}
+use Rattle.std.proofs.Common.{◌≡◌, ◌∙◌, refl, sym, ap, subst, ℕ, zero, suc, ◌+◌, ◌<◌, Bool, true, false, cond, Option, Some, None, List, [], ◌∷◌, ◌++◌, length, get_or, take, slice_get, Contains, ◌⊎◌, inl, inr, arith}
 use Rattle.std.specs.List.{AllZip}
 use Rattle.std.proofs.lemmas.List.{take_more}
 use Rattle.std.proofs.lemmas.List.Elements.{Contains-append_cases}
@@ -61,10 +61,10 @@ list_of : Bool → Option Disjunct → List Connector
 list_of right o = cond right (right_list o) (left_list o)
 
 -- the links of what holds are seen
-seen_at : (Ok Seen : Connector → ℕ → Type 0) (s end after : Least) (cs kept : List Choice) (d : Disjunct) (ls rs : List ℕ) → Holds Ok Seen s cs kept after → Contains cs (choice_of d)
+seen_at : (Ok Seen : Connector → ℕ → Type 0) (s end after : Least) (cs left : List Choice) (d : Disjunct) (ls rs : List ℕ) → Holds Ok Seen s cs left after → Contains cs (choice_of d)
     → Fits Ok s end (choice_of d) ls rs → (right : Bool) (p : ℕ) (c : Connector) (n : ℕ) → slice_get (cond right d.right d.left) p ≡ Some c → slice_get (cond right rs ls) p ≡ Some n → Seen c n
-seen_at Ok Seen s end after cs kept d ls rs holds listed fits true p c n here there = at_place Seen d.right rs (holds.rights end (choice_of d) ls rs listed fits) p c n here there
-seen_at Ok Seen s end after cs kept d ls rs holds listed fits false p c n here there = at_place Seen d.left ls (holds.lefts end (choice_of d) ls rs listed fits) p c n here there
+seen_at Ok Seen s end after cs left d ls rs holds listed fits true p c n here there = at_place Seen d.right rs (holds.rights end (choice_of d) ls rs listed fits) p c n here there
+seen_at Ok Seen s end after cs left d ls rs holds listed fits false p c n here there = at_place Seen d.left ls (holds.lefts end (choice_of d) ls rs listed fits) p c n here there
 
 only : (v w : WordTree) → Contains (v ∷ []) w → v ≡ w
 only v w h = elim (contains_cases v [] w h) [ inl is ↦ is | inr m ↦ absurd (contains_none w m) ]
@@ -106,3 +106,11 @@ module _ (old new : Sites) (stand : Stand) (word : WordTree) where
         let here : slice_get (cond c.right d.right d.left) (place_on c.right link) ≡ Some c = ap (λ o. slice_get (cond c.right (right_list o) (left_list o)) (place_on c.right link)) (sym chosen) ∙ ends.connector in
         subst (HasSite new i c) ends.long
           (seen_at (Ends g i) (HasSite new i) first end after (choices_of word.tree) cs d ls rs (w.leaves g suits) m fits c.right (place_on c.right link) c (link_length link) here there)
+
+  -- with the tree of what is left, or with its own
+  pub narrowed_by : (what : Tree) (after : Least) (left : WordTree) → Walks old new stand first (choices_of word.tree) (Some (choices_of what, after)) → left.word ≡ word.word
+      → (left.tree ≡ what) ⊎ (left.tree ≡ word.tree) → AreNarrowed old new stand (word ∷ []) (left ∷ [])
+  narrowed_by what after left w named (inl same) =
+      narrowed_to (choices_of what) after left w named (λ c m. w.fewer c (subst (λ t. Contains (choices_of t) c) same m)) (λ c m. subst (λ t. Contains (choices_of t) c) (sym same) m)
+  narrowed_by what after left w named (inr same) =
+      narrowed_to (choices_of what) after left w named (λ c m. subst (λ t. Contains (choices_of t) c) same m) (λ c m. subst (λ t. Contains (choices_of t) c) (sym same) (w.fewer c m))

@@ -10,7 +10,7 @@ use Rattle.lg_gram.specs.Measures.{Choice, choices_of}
 use Rattle.lg_gram.specs.Rules.{Good, HasLink, Rules, chosen_at, lefts_of, rights_of}
 use Rattle.lg_gram.specs.declared.disjunct.Disjunct.{Disjunct}
 use Rattle.lg_gram.specs.declared.linkage.Link.{Link}
-use Rattle.lg_member.specs.Cells.{Table, Stands, class_of}
+use Rattle.lg_member.specs.Cells.{Stands, class_of}
 use Rattle.lg_reach.specs.declared.nearest.Stand.{Stand}
 use Rattle.lg_reach.specs.declared.site.Site.{Site}
 use Rattle.lg_reach.specs.declared.site.Sites.{Sites}

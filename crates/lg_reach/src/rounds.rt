@@ -48,7 +48,7 @@ fn walk_through(
     ensures { IfOk result (λ round. AreWalked positions.now round.kept.items known.entry round.sites) }
 {
     let words = positions.len();
-    let mut sites = Sites::new(alloc, words as u32)?;
+    let mut sites = Sites::new(alloc, u32::try_from(words).unwrap_or(u32::MAX))?;
     let mut kept = Vec::with_capacity(alloc, words)?;
     for position in 0..words {
         let stand = Stand {

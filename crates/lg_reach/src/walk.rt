@@ -1,7 +1,7 @@
 //! A walk through an expression, from near to far.
 ghost use Rattle.std.specs.Prelude.{◌≡◌, ◌∷◌, [], IfOk, Some, cond};
-ghost use Rattle.lg_gram.specs.Measures.{single, choices_of, picks_of, choices_of_any};
-ghost use Rattle.lg_gram.specs.Trees.{tree_of, trees_in, expr_items};
+ghost use Rattle.lg_gram.specs.Measures.{no_connectors, single, choices_of, picks_of, choices_of_any};
+ghost use Rattle.lg_gram.specs.Trees.{empty, leaf, all_of, one_of, priced, tree_of, trees_in, expr_items};
 ghost use Rattle.lg_reach.specs.Climbs.{IsWithin, seen};
 ghost use Rattle.lg_reach.specs.Walks.{Walks, behind_link, nearer_by};
 
@@ -82,21 +82,27 @@ pub(crate) fn reach(
     ensures { IfOk result (λ left. Walks sites.old sites.new stand.now start (choices_of (tree_of e.now)) (seen left)) }
 {
     match e {
-        Expr::Empty => Ok(Some(Left {
-            what: Expr::Empty,
-            least: start,
-        })),
+        Expr::Empty => Ok(reach_nothing(stand, start, sites)),
         Expr::Conn(connector) => reach_leaf(connector, stand, start, sites),
         Expr::And(members) => reach_all(alloc, members, stand, start, sites),
         Expr::Or(members) => reach_any(alloc, members, stand, start, sites),
         Expr::Priced(inner, cost) => match reach(alloc, inner, stand, start, sites)? {
             Some(left) => Ok(Some(Left {
-                what: Expr::Priced(Box::new(alloc, left.what)?, *cost),
+                what: priced(alloc, left.what, *cost)?,
                 least: left.least,
             })),
             None => Ok(None),
         },
     }
+}
+
+fn reach_nothing(stand: &Stand<'_>, start: Least, sites: &Sites) -> Option<Left<Expr>>
+    ensures { Walks sites.now sites.now stand.now start (no_connectors ∷ []) (seen result) }
+{
+    Some(Left {
+        what: nothing(),
+        least: start,
+    })
 }
 
 fn reach_leaf(
@@ -112,7 +118,7 @@ fn reach_leaf(
     };
     sites.add(stand.position, connector, length)?;
     Ok(Some(Left {
-        what: Expr::Conn(*connector),
+        what: leaf(connector),
         least: start.after(connector, length),
     }))
 }
@@ -137,7 +143,7 @@ fn reach_all(
         least = left.least;
     }
     Ok(Some(Left {
-        what: Expr::And(Exprs::of(kept)),
+        what: all_of(Exprs::of(kept)),
         least,
     }))
 }
@@ -164,8 +170,38 @@ fn reach_any(
     match least {
         None => Ok(None),
         Some(least) => Ok(Some(Left {
-            what: Expr::Or(Exprs::of(kept)),
+            what: one_of(Exprs::of(kept)),
             least,
         })),
     }
+}
+
+fn nothing() -> Expr
+    ensures { tree_of result ≡ empty }
+{
+    Expr::Empty
+}
+
+fn leaf(connector: &Connector) -> Expr
+    ensures { tree_of result ≡ leaf connector.now }
+{
+    Expr::Conn(*connector)
+}
+
+fn all_of(members: Exprs) -> Expr
+    ensures { tree_of result ≡ all_of (trees_in (expr_items members)) }
+{
+    Expr::And(members)
+}
+
+fn one_of(members: Exprs) -> Expr
+    ensures { tree_of result ≡ one_of (trees_in (expr_items members)) }
+{
+    Expr::Or(members)
+}
+
+fn priced(alloc: Global, e: Expr, cost: i64) -> Result<Expr, NoMemory>
+    ensures { IfOk result (λ all. tree_of all ≡ priced (tree_of e) cost) }
+{
+    Ok(Expr::Priced(Box::new(alloc, e)?, cost))
 }

@@ -1,10 +1,10 @@
 use Rattle.std.proofs.Common.{rules, ◌≡◌, ◌+◌, ◌∷◌, ◌++◌, [], Some, None, drop, map, take, ap, sym, subst, ◌∙◌}
 use Rattle.lg_gram.specs.Measures.{choices_of, choices_of_any, picks_of}
-use Rattle.lg_gram.specs.Trees.{all_of, empty, expr_items, one_of, priced, tree_of, trees_in}
-use Rattle.lg_gram.specs.declared.expr.Expr.{And, Empty, Or, Priced}
+use Rattle.lg_gram.specs.Trees.{all_of, expr_items, one_of, priced, tree_of, trees_in}
 use Rattle.lg_reach.specs.Climbs.{seen}
 use Rattle.lg_reach.specs.Walks.{Walks, nearer_by}
-use Rattle.lg_reach.proofs.Walking.{WalksOn, WalksTo, all_end, all_more, all_none, on_start, so_far, to_end, to_more, to_same, to_start, walks_dearer, walks_nothing}
+use Rattle.lg_reach.proofs.Walking.{WalksOn, WalksTo, all_end, all_more, all_none, on_start, so_far, to_end, to_more, to_same, to_start, walks_dearer}
+use Rattle.lg_reach.proofs.Folding.{tree_of-Priced}
 use Rattle.lg_reach.proofs.walk.+reach.Goals as goal
 
 pub reach_all-loop-member-init : goal.reach_all-loop-member-init
@@ -44,8 +44,7 @@ reach_all-returns t c =
     let at = c.loop-member in
     let stand = c.args.stand.now in
     let all = trees_in (expr_items c.args.members.now) in
-    let whole : tree_of (And c.of.result) ≡ all_of (trees_in (expr_items c.of.result)) = search rules in
-    subst (λ t. Walks c.args.sites.now at.sites stand c.args.start (picks_of all) (Some (choices_of t, at.least))) (ap (λ ks. all_of (trees_in ks)) (sym c.of.ensures) ∙ sym whole)
+    subst (λ t. Walks c.args.sites.now at.sites stand c.args.start (picks_of all) (Some (choices_of t, at.least))) (ap (λ ks. all_of (trees_in ks)) (sym c.of.ensures) ∙ sym c.all_of.ensures)
       (all_end c.args.sites.now at.sites stand c.args.start at.least all c.items-member-items.result.now at.kept.items at.member-index c.loop-member-test.false at.invariant)
 
 pub reach_any-loop-member-init : goal.reach_any-loop-member-init
@@ -95,24 +94,13 @@ reach_any-returns-in-Some-least t c =
     let start = c.args.start in
     let es = c.items-member-items.result.now in
     let least = c.in-Some-least.least in
-    let whole : tree_of (Or c.of.result) ≡ one_of (trees_in (expr_items c.of.result)) = search rules in
-    subst (λ t. Walks s at.sites stand start (choices_of_any (trees_in (expr_items c.args.members.now))) (Some (choices_of t, least))) (ap (λ ks. one_of (trees_in ks)) (sym c.of.ensures) ∙ sym whole)
+    subst (λ t. Walks s at.sites stand start (choices_of_any (trees_in (expr_items c.args.members.now))) (Some (choices_of t, least))) (ap (λ ks. one_of (trees_in ks)) (sym c.of.ensures) ∙ sym c.one_of.ensures)
       (subst (λ xs. Walks s at.sites stand start (choices_of_any (trees_in xs)) (Some (choices_of_any (trees_in at.kept.items), least))) c.items-member-items.ensures
         (subst (λ o. Walks s at.sites stand start (choices_of_any (trees_in es)) (so_far at.kept.items o)) c.in-Some-least.is
           (to_end s at.sites stand start es at.kept.items at.least at.member-index c.loop-member-test.false at.invariant)))
 
-pub reach-returns-in-Empty : goal.reach-returns-in-Empty
-reach-returns-in-Empty t c =
-    let s = c.args.sites.now in
-    let stand = c.args.stand.now in
-    let start = c.args.start in
-    let of : tree_of c.args.e.now ≡ empty = search rules in
-    let now : tree_of Empty ≡ empty = search rules in
-    subst (λ t. Walks s s stand start (choices_of t) (Some (choices_of (tree_of Empty), start))) (sym of)
-      (subst (λ t. Walks s s stand start (choices_of empty) (Some (choices_of t, start))) (sym now) (walks_nothing s stand start))
-
-pub reach-returns-in_ok-new-in-Some : goal.reach-returns-in_ok-new-in-Some
-reach-returns-in_ok-new-in-Some t c =
+pub reach-returns-in_ok-priced-in-Some : goal.reach-returns-in_ok-priced-in-Some
+reach-returns-in_ok-priced-in-Some t c =
     let s = c.args.sites.now in
     let new = c.reach.new.sites in
     let stand = c.args.stand.now in
@@ -120,13 +108,12 @@ reach-returns-in_ok-new-in-Some t c =
     let cost = c.in-Priced.cost in
     let inner = c.in-Priced.inner.value in
     let left = c.in-Some.left in
-    let of : tree_of c.args.e.now ≡ priced (tree_of inner) cost = search rules in
-    let now : tree_of (Priced c.in_ok-new-in-Some.field-0 cost) ≡ priced (tree_of c.in_ok-new-in-Some.field-0.value) cost = search rules in
+    let of : tree_of c.args.e.now ≡ priced (tree_of inner) cost = ap tree_of c.in-Priced.is ∙ tree_of-Priced _ inner cost in
     let walked : Walks s new stand start (choices_of (tree_of inner)) (Some (choices_of (tree_of left.what), left.least)) =
       subst (λ e. Walks s new stand start (choices_of (tree_of e)) (Some (choices_of (tree_of left.what), left.least))) c.deref.ensures
         (subst (λ o. Walks s new stand start (choices_of (tree_of c.deref.result.now)) (seen o)) c.in-Some.is c.in_ok-left-in-Priced.ensures) in
-    subst (λ t. Walks s new stand start (choices_of t) (Some (choices_of (tree_of (Priced c.in_ok-new-in-Some.field-0 cost)), left.least))) (sym of)
-      (subst (λ t. Walks s new stand start (choices_of (priced (tree_of inner) cost)) (Some (choices_of t, left.least))) (ap (λ e. priced (tree_of e) cost) (sym c.in_ok-new-in-Some.ensures.ok) ∙ sym now)
+    subst (λ t. Walks s new stand start (choices_of t) (Some (choices_of (tree_of c.in_ok-priced-in-Some.field-0), left.least))) (sym of)
+      (subst (λ t. Walks s new stand start (choices_of (priced (tree_of inner) cost)) (Some (choices_of t, left.least))) (sym c.in_ok-priced-in-Some.ensures)
         (walks_dearer s new stand start (choices_of (tree_of inner)) (Some (choices_of (tree_of left.what), left.least)) cost walked))
 
 pub reach-returns-in-None : goal.reach-returns-in-None
@@ -137,7 +124,7 @@ reach-returns-in-None t c =
     let start = c.args.start in
     let cost = c.in-Priced.cost in
     let inner = c.in-Priced.inner.value in
-    let of : tree_of c.args.e.now ≡ priced (tree_of inner) cost = search rules in
+    let of : tree_of c.args.e.now ≡ priced (tree_of inner) cost = ap tree_of c.in-Priced.is ∙ tree_of-Priced _ inner cost in
     let walked : Walks s new stand start (choices_of (tree_of inner)) None =
       subst (λ e. Walks s new stand start (choices_of (tree_of e)) None) c.deref.ensures
         (subst (λ o. Walks s new stand start (choices_of (tree_of c.deref.result.now)) (seen o)) c.in-None.is c.in_ok-left-in-Priced.ensures) in

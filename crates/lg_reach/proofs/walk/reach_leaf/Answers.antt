@@ -1,7 +1,5 @@
-use Rattle.std.proofs.Common.{rules, ◌≡◌, ◌≤◌, ◌∙◌, ◌∷◌, [], Some, ap, sym, subst, cond}
+use Rattle.std.proofs.Common.{◌≡◌, ◌≤◌, ◌∙◌, ◌∷◌, [], Some, ap, sym, subst, cond}
 use Rattle.lg_gram.specs.Measures.{choices_of, single}
-use Rattle.lg_gram.specs.Trees.{leaf, tree_of}
-use Rattle.lg_gram.specs.declared.expr.Expr.{Conn}
 use Rattle.lg_reach.specs.Walks.{Walks}
 use Rattle.lg_reach.proofs.Joining.{least_on}
 use Rattle.lg_reach.proofs.Walking.{walks_link, walks_none}
@@ -17,7 +15,6 @@ pub returns : goal.returns
 returns c =
     let start = c.args.start in
     let from : c.on.result ≡ least_on c.args.connector.now.right start = c.on.ensures ∙ ap (λ b. cond b start.right start.left) c.is_right.ensures in
-    let now : tree_of (Conn c.args.connector.now) ≡ leaf c.args.connector.now = search rules in
-    subst (λ t. Walks c.args.sites.now c.add.new.self c.args.stand.now start (single c.args.connector.now ∷ []) (Some (choices_of t, c.after.result))) (sym now)
+    subst (λ t. Walks c.args.sites.now c.add.new.self c.args.stand.now start (single c.args.connector.now ∷ []) (Some (choices_of t, c.after.result))) (sym c.leaf.ensures)
     (walks_link c.args.sites.now c.add.new.self c.args.stand.now start c.after.result c.args.connector.now c.in-Some.length c.in_ok-add.ensures.keeps c.in_ok-add.ensures.added
       (λ g suits n ends long. c.in-Some.ensures g suits n ends (subst (λ m. m ≤ n) (sym from) long)) c.after.ensures)
