@@ -7,7 +7,7 @@ ghost use Rattle.lg_reach.specs.Walks.{Walks, behind_link, nearer_by};
 
 use crate::nearest::Stand;
 use crate::site::Sites;
-use lg_base::NoMemory;
+use lg_base::{Cost, NoMemory};
 use lg_gram::{Connector, Expr, Exprs};
 use std::alloc::Global;
 
@@ -200,7 +200,7 @@ fn one_of(members: Exprs) -> Expr
     Expr::Or(members)
 }
 
-fn priced(alloc: Global, e: Expr, cost: i64) -> Result<Expr, NoMemory>
+fn priced(alloc: Global, e: Expr, cost: Cost) -> Result<Expr, NoMemory>
     ensures { IfOk result (λ all. tree_of all ≡ priced (tree_of e) cost) }
 {
     Ok(Expr::Priced(Box::new(alloc, e)?, cost))
