@@ -27,6 +27,17 @@ pub(crate) fn expanded(alloc: Global, positions: &[WordExprs]) -> Result<Positio
     Ok(Positions::of(all))
 }
 
+/// The disjuncts of the words of each position, those of one word after those of another. The only error is running out of memory.
+pub(crate) fn spelled(alloc: Global, positions: &[WordExprs]) -> Result<Positions, NoMemory>
+    ensures { IfOk result (AllZip AreSpelled positions.now) }
+{
+    let mut all = Vec::with_capacity(alloc, positions.len())?;
+    for words in positions {
+        all.push(Disjuncts::of(listed(alloc, words.items())?))?;
+    }
+    Ok(Positions::of(all))
+}
+
 // The disjuncts of all these words. A sentence's own words increase by bytes and disjuncts by their words first, so that the
 // lists of the words stand in order one after another; those of idioms may not.
 fn disjuncts_of(alloc: Global, words: &[WordExpr]) -> Result<Disjuncts, NoMemory>

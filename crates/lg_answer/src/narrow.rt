@@ -2,15 +2,16 @@
 ghost use Rattle.std.specs.Prelude.{IfOk};
 ghost use Rattle.lg_answer.specs.Steps.{AreOfSentence, HaveProblem, IsNarrowed};
 
-use crate::expanded::expanded;
+use crate::expanded::{expanded, spelled};
 use crate::exprs::exprs_in_use;
 use lg_base::NoMemory;
 use lg_dict::View;
 use lg_disj::expressions_have_disjuncts;
-use lg_eprune::{eprune, linkages_are_live};
+use lg_eprune::{WordExprs, eprune, linkages_are_live};
 use lg_gram::law::choices_are_counted;
 use lg_gram::{Problem, Tokens};
 use lg_idiom::added_are_few;
+use lg_reach::within_reach;
 use std::alloc::Global;
 
 /// The problem of these tokens, with idioms or without: a position for each, with the disjuncts of all its words and of what idioms
@@ -49,6 +50,16 @@ pub(crate) fn narrowed(
     added_are_few();
     let words = exprs_in_use(alloc, view, tokens, idioms)?;
     let live = eprune(alloc, words)?;
+    if let Some(problem) = within(alloc, live.items())? {
+        return Ok(problem);
+    }
     let positions = expanded(alloc, live.items())?;
     Ok(Problem::of_known(positions))
+}
+
+// The problem of the choices that are within reach. None where the words of some position do not increase, as those of idioms may not.
+fn within(alloc: Global, live: &[WordExprs]) -> Result<Option<Problem>, NoMemory> {
+    let near = within_reach(alloc, live)?;
+    let positions = spelled(alloc, near.items())?;
+    Ok(Problem::of(positions))
 }

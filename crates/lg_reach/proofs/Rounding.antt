@@ -1,0 +1,158 @@
+-- Walks through the words of all positions, and rounds of them.
+use Rattle.std.proofs.Common.{◌≡◌, ◌∙◌, refl, sym, ap, subst, ℕ, zero, suc, ◌+◌, ◌<◌, ◌≤◌, ◌⊎◌, inl, inr, Bool, true, false, cond, Option, Some, None, List, [], ◌∷◌, ◌++◌, length, get_or, slice_get, slice_index_or, Contains, arith}
+use Rattle.std.specs.Borrow.{Bor}
+use Rattle.std.proofs.Math.Seq.{get_or-append_seam}
+use Rattle.std.proofs.lemmas.List.{get_or_append_left, get_or_past, length-append}
+use Rattle.std.proofs.lemmas.Option.{get_or_from_slice_get, slice_get_read, slice_get_within}
+use Rattle.lg_base.proofs.Elements.{contains_none}
+use Rattle.lg_eprune.specs.Live.{WordTree}
+use Rattle.lg_gram.specs.Connectors.{Connector}
+use Rattle.lg_gram.specs.Disjuncts.{choice_of}
+use Rattle.lg_gram.specs.Linkages.{Linkage}
+use Rattle.lg_gram.specs.Measures.{Choice, choices_of}
+use Rattle.lg_gram.specs.Rules.{chosen_at, left_list, right_list}
+use Rattle.lg_gram.specs.declared.disjunct.Disjunct.{Disjunct}
+use Rattle.lg_reach.specs.Ends.{AreKnown, Ends, HasSite, HaveChosen, IsLinkageOf, Keeps, Knows, KnowsAt, Suits, Uses, place_on}
+use Rattle.lg_reach.specs.Narrowed.{AreNarrowed}
+use Rattle.lg_reach.specs.Reach.{HaveFewer, HaveUsed, Narrows, Never, nothing}
+use Rattle.lg_reach.specs.Rounds.{AreWalked, IsAmong}
+use Rattle.lg_reach.specs.declared.nearest.Stand.{Stand}
+use Rattle.lg_reach.specs.declared.site.Sites.{Sites}
+use Rattle.lg_reach.proofs.Narrowing.{narrows_finds, narrows_then}
+
+abbrev at : List (List WordTree) → ℕ → List WordTree
+at words i = slice_index_or words i []
+
+-- the positions below this one are walked through
+pub record AreWalkedTo (words kept : List (List WordTree)) (known : Option (Bor Sites)) (sites : Sites) (n : ℕ) : Type 0 where
+  pub many : length kept ≡ n
+  pub fewer : (i : ℕ) → i < n → Narrows Never (at words i) (at kept i)
+  pub used : (g : Linkage) → IsAmong words g → AreKnown known g → (i : ℕ) → i < n → Narrows (Uses g i) (at words i) (at kept i)
+  pub knows : (g : Linkage) → IsAmong words g → AreKnown known g → (i : ℕ) → i < n → KnowsAt sites g i
+
+pub walked_none : (words : List (List WordTree)) (known : Option (Bor Sites)) (sites : Sites) → AreWalkedTo words [] known sites 0
+walked_none words known sites = record {
+  many = refl;
+  fewer = λ i low. absurd (omega (arith, low));
+  used = λ g among before i low. absurd (omega (arith, low));
+  knows = λ g among before i low. absurd (omega (arith, low));
+}
+
+below_or_last : (i n : ℕ) → i < n + 1 → (i < n) ⊎ (i ≡ n)
+below_or_last i zero low = inr (omega (arith, low))
+below_or_last zero (suc n) low = inl (omega arith)
+below_or_last (suc i) (suc n) low =
+    elim (below_or_last i n (omega (arith, low))) [
+      | inl less ↦ inl (omega (arith, less))
+      | inr same ↦ inr (ap suc same)
+    ]
+
+nothing_at : (p : ℕ) (c : Connector) → slice_get [] p ≡ Some c → ⊥
+nothing_at p c is = let low = slice_get_within [] p c is in omega (arith, low)
+
+-- what uses this at a position of a linkage
+linked_choice : (right : Bool) (o : Option Disjunct) (p : ℕ) (c : Connector) → slice_get (cond right (right_list o) (left_list o)) p ≡ Some c → (d : Disjunct) × (o ≡ Some d)
+linked_choice true None p c is = absurd (nothing_at p c is)
+linked_choice false None p c is = absurd (nothing_at p c is)
+linked_choice right (Some d) p c is = (d, refl)
+
+-- at the words that it has there
+knows_by : (old new : Sites) (stand : Stand) (words kept : List WordTree) → AreNarrowed old new stand words kept → (g : Linkage) → Suits g stand → HaveChosen g stand.position words → KnowsAt new g stand.position
+knows_by old new stand words kept w g suits has c n ends =
+    let (d, chosen) = linked_choice c.right (chosen_at g stand.position) (place_on c.right ends.link) c ends.connector in
+    let (v, listed, uses) = has d chosen in
+    w.known g suits d chosen v listed uses c n ends
+
+module _ (words kept : List (List WordTree)) (known : Option (Bor Sites)) (now new : Sites) (n : ℕ) (to : AreWalkedTo words kept known now n) (stand : Stand) (here : stand.position ≡ n)
+    (long : stand.words ≡ length words) (before : stand.known ≡ known) (left : List WordTree) (w : AreNarrowed now new stand (at words n) left) where
+  earlier : (i : ℕ) → i < n → at (kept ++ left ∷ []) i ≡ at kept i
+  earlier i low = get_or_append_left kept (left ∷ []) [] i (let many = to.many in omega (arith, many, low))
+
+  last : at (kept ++ left ∷ []) n ≡ left
+  last = ap (at (kept ++ left ∷ [])) (sym to.many) ∙ get_or-append_seam kept left [] []
+
+  suited : (g : Linkage) → IsAmong words g → AreKnown known g → Suits g stand
+  suited g among is = record { rules = among.rules; words = among.same_length ∙ sym long; known = subst (λ o. AreKnown o g) (sym before) is }
+
+  each : (P : ℕ → Type 0) → ((i : ℕ) → i < n → P i) → P n → (i : ℕ) → i < n + 1 → P i
+  each P less same i low = elim (below_or_last i n low) [ inl l ↦ less i l | inr is ↦ subst P (sym is) same ]
+
+  pub walked_more : AreWalkedTo words (kept ++ left ∷ []) known new (n + 1)
+  walked_more = record {
+    many = length-append kept (left ∷ []) ∙ ap (λ m. m + 1) to.many;
+    fewer = each (λ i. Narrows Never (at words i) (at (kept ++ left ∷ []) i)) (λ i low. subst (Narrows Never (at words i)) (sym (earlier i low)) (to.fewer i low))
+      (subst (Narrows Never (at words n)) (sym last) w.fewer);
+    used = λ g among is.
+      each (λ i. Narrows (Uses g i) (at words i) (at (kept ++ left ∷ []) i)) (λ i low. subst (Narrows (Uses g i) (at words i)) (sym (earlier i low)) (to.used g among is i low))
+        (subst (Narrows (Uses g n) (at words n)) (sym last) (subst (λ p. Narrows (Uses g p) (at words n) left) here (w.used g (suited g among is))));
+    knows = λ g among is.
+      each (λ i. KnowsAt new g i) (λ i low c m ends. w.keeps i c m (to.knows g among is i low c m ends))
+        (subst (λ p. KnowsAt new g p) here (knows_by now new stand (at words n) left w g (suited g among is) (subst (λ p. HaveChosen g p (at words n)) (sym here) (among.chosen n))));
+  }
+
+within_or_past : (i n : ℕ) → (i < n) ⊎ (n ≤ i)
+within_or_past i zero = inr (omega arith)
+within_or_past zero (suc n) = inl (omega arith)
+within_or_past (suc i) (suc n) = elim (within_or_past i n) [ inl l ↦ inl (omega (arith, l)) | inr l ↦ inr (omega (arith, l)) ]
+
+pub walked_all : (words kept : List (List WordTree)) (known : Option (Bor Sites)) (sites : Sites) → AreWalkedTo words kept known sites (length words) → AreWalked words kept known sites
+walked_all words kept known sites to = record {
+  fewer = record { same_length = to.many; each = λ i. all Never (to.fewer) i };
+  used = λ g among is i. all_of (λ i. Uses g i) (to.used g among is) i;
+  knows = λ g among is i c n ends.
+    elim (within_or_past i (length words)) [
+      | inl low ↦ to.knows g among is i low c n ends
+      | inr past ↦ (
+          let (d, chosen) = linked_choice c.right (chosen_at g i) (place_on c.right ends.link) c ends.connector in
+          let (v, listed, uses) = among.chosen i d chosen in
+          absurd (contains_none v (subst (λ ws. Contains ws v) (get_or_past words i [] past) listed)))
+    ];
+} where
+  all_of : (Used : ℕ → Choice → Type 0) → ((i : ℕ) → i < length words → Narrows (Used i) (at words i) (at kept i)) → (i : ℕ) → Narrows (Used i) (at words i) (at kept i)
+  all_of Used low i =
+      elim (within_or_past i (length words)) [
+        | inl l ↦ low i l
+        | inr past ↦ subst (λ ws. Narrows (Used i) ws (at kept i)) (sym (get_or_past words i [] past))
+          (subst (Narrows (Used i) []) (sym (get_or_past kept i [] (let many = to.many in omega (arith, many, past)))) nothing)
+      ]
+  all : (Used : Choice → Type 0) → ((i : ℕ) → i < length words → Narrows Used (at words i) (at kept i)) → (i : ℕ) → Narrows Used (at words i) (at kept i)
+  all Used = all_of (λ i. Used)
+
+-- a good linkage is such a linkage
+pub good_among : (words : List (List WordTree)) (g : Linkage) → IsLinkageOf words g → IsAmong words g
+good_among words g is = record {
+  rules = is.good.rules;
+  same_length = is.good.belongs.same_length ∙ is.same_length;
+  chosen = λ i d chosen.
+    let at_i = is.of i d (is.good.belongs.listed i d chosen) in
+    (at_i.word, subst (λ ws. Contains ws at_i.word) (sym (get_or_from_slice_get words i at_i.words [] at_i.here)) at_i.listed, at_i.chosen);
+}
+
+-- and so it is where all that it uses is kept
+still_among : (words kept : List (List WordTree)) (g : Linkage) → IsAmong words g → length kept ≡ length words → HaveUsed g words kept → IsAmong kept g
+still_among words kept g among same used = record {
+  rules = among.rules;
+  same_length = among.same_length ∙ sym same;
+  chosen = λ i d chosen.
+    let (w, listed, uses) = among.chosen i d chosen in
+    narrows_finds (Uses g i) (at words i) (at kept i) (used i) w (choice_of d) listed uses (d, chosen, refl);
+}
+
+-- one round after others
+pub walked_again : (words kept again : List (List WordTree)) (sites more : Sites) (known : Bor Sites) → known.now ≡ sites → AreWalked words kept None sites → AreWalked kept again (Some known) more → AreWalked words again None more
+walked_again words kept again sites more known same v w = record {
+  fewer = record {
+    same_length = w.fewer.same_length ∙ v.fewer.same_length;
+    each = λ i. narrows_then Never (at words i) (at kept i) (at again i) (v.fewer.each i) (w.fewer.each i);
+  };
+  used = λ g among is i. narrows_then (Uses g i) (at words i) (at kept i) (at again i) (v.used g among is i) (w.used g (now g among) (learned g among) i);
+  knows = λ g among is. w.knows g (now g among) (learned g among);
+} where
+  now : (g : Linkage) → IsAmong words g → IsAmong kept g
+  now g among = still_among words kept g among v.fewer.same_length (v.used g among tt)
+  learned : (g : Linkage) → IsAmong words g → Knows known.now g
+  learned g among = subst (λ s. Knows s g) (sym same) (v.knows g among tt)
+
+-- what is read at a position
+pub read_at : (words : List (List WordTree)) (n : ℕ) (ws : List WordTree) → n < length words → ws ≡ get_or words n ws → ws ≡ slice_index_or words n []
+read_at words n ws within is = sym (get_or_from_slice_get words n ws [] (slice_get_read words (length words) n ws refl within is))

@@ -1,0 +1,207 @@
+//! A walk through an expression, from near to far.
+ghost use Rattle.std.specs.Prelude.{◌≡◌, ◌∷◌, [], IfOk, Some, cond};
+ghost use Rattle.lg_gram.specs.Measures.{no_connectors, single, choices_of, picks_of, choices_of_any};
+ghost use Rattle.lg_gram.specs.Trees.{empty, leaf, all_of, one_of, priced, tree_of, trees_in, expr_items};
+ghost use Rattle.lg_reach.specs.Climbs.{IsWithin, seen};
+ghost use Rattle.lg_reach.specs.Walks.{Walks, behind_link, nearer_by};
+
+use crate::nearest::Stand;
+use crate::site::Sites;
+use lg_base::{Cost, NoMemory};
+use lg_gram::{Connector, Expr, Exprs};
+use std::alloc::Global;
+
+/// How long the next link is at least, to the left and to the right.
+#[derive(Clone, Copy, Debug)]
+pub(crate) struct Least {
+    pub(crate) left: usize,
+    pub(crate) right: usize,
+}
+
+impl Least {
+    /// At each side so long as the shorter of the two.
+    fn or(self, other: Least) -> Least
+        ensures { result ≡ nearer_by (Some self) other }
+    {
+        Least {
+            left: self.left.min(other.left),
+            right: self.right.min(other.right),
+        }
+    }
+
+    /// After a link of this connector that is at least so long.
+    fn after(self, connector: &Connector, length: usize) -> Least
+        ensures { IsWithin result (behind_link connector.now length self) }
+    {
+        if connector.is_right() {
+            Least {
+                right: length.saturating_add(1),
+                ..self
+            }
+        } else {
+            Least {
+                left: length.saturating_add(1),
+                ..self
+            }
+        }
+    }
+
+    fn on(self, right: bool) -> usize
+        ensures { result ≡ cond right self.right self.left }
+    {
+        if right { self.right } else { self.left }
+    }
+}
+
+// The nearer of the two on each side, if there is one before.
+fn nearer(before: Option<Least>, next: Least) -> Least
+    ensures { result ≡ nearer_by before next }
+{
+    match before {
+        None => next,
+        Some(before) => before.or(next),
+    }
+}
+
+/// What is left of an expression, and how long links behind it are at least.
+#[derive(Drop)]
+pub(crate) struct Left<T> {
+    pub(crate) what: T,
+    pub(crate) least: Least,
+}
+
+/// The expression without the choices whose links cannot reach a partner. The sites get the connectors of what is left.
+#[cycle(reach)]
+pub(crate) fn reach(
+    alloc: Global,
+    e: &Expr,
+    stand: &Stand<'_>,
+    start: Least,
+    sites: &mut Sites,
+) -> Result<Option<Left<Expr>>, NoMemory>
+    ensures { IfOk result (λ left. Walks sites.old sites.new stand.now start (choices_of (tree_of e.now)) (seen left)) }
+{
+    match e {
+        Expr::Empty => Ok(reach_nothing(stand, start, sites)),
+        Expr::Conn(connector) => reach_leaf(connector, stand, start, sites),
+        Expr::And(members) => reach_all(alloc, members, stand, start, sites),
+        Expr::Or(members) => reach_any(alloc, members, stand, start, sites),
+        Expr::Priced(inner, cost) => match reach(alloc, inner, stand, start, sites)? {
+            Some(left) => Ok(Some(Left {
+                what: priced(alloc, left.what, *cost)?,
+                least: left.least,
+            })),
+            None => Ok(None),
+        },
+    }
+}
+
+fn reach_nothing(stand: &Stand<'_>, start: Least, sites: &Sites) -> Option<Left<Expr>>
+    ensures { Walks sites.now sites.now stand.now start (no_connectors ∷ []) (seen result) }
+{
+    Some(Left {
+        what: nothing(),
+        least: start,
+    })
+}
+
+fn reach_leaf(
+    connector: &Connector,
+    stand: &Stand<'_>,
+    start: Least,
+    sites: &mut Sites,
+) -> Result<Option<Left<Expr>>, NoMemory>
+    ensures { IfOk result (λ left. Walks sites.old sites.new stand.now start (single connector.now ∷ []) (seen left)) }
+{
+    let Some(length) = stand.nearest(connector, start.on(connector.is_right())) else {
+        return Ok(None);
+    };
+    sites.add(stand.position, connector, length)?;
+    Ok(Some(Left {
+        what: leaf(connector),
+        least: start.after(connector, length),
+    }))
+}
+
+#[cycle(reach)]
+fn reach_all(
+    alloc: Global,
+    members: &Exprs,
+    stand: &Stand<'_>,
+    start: Least,
+    sites: &mut Sites,
+) -> Result<Option<Left<Expr>>, NoMemory>
+    ensures { IfOk result (λ left. Walks sites.old sites.new stand.now start (picks_of (trees_in (expr_items members.now))) (seen left)) }
+{
+    let mut kept = Vec::with_capacity(alloc, members.items().len())?;
+    let mut least = start;
+    for member in members.items() {
+        let Some(left) = reach(alloc, member, stand, least, sites)? else {
+            return Ok(None);
+        };
+        kept.push(left.what)?;
+        least = left.least;
+    }
+    Ok(Some(Left {
+        what: all_of(Exprs::of(kept)),
+        least,
+    }))
+}
+
+#[cycle(reach)]
+fn reach_any(
+    alloc: Global,
+    members: &Exprs,
+    stand: &Stand<'_>,
+    start: Least,
+    sites: &mut Sites,
+) -> Result<Option<Left<Expr>>, NoMemory>
+    ensures { IfOk result (λ left. Walks sites.old sites.new stand.now start (choices_of_any (trees_in (expr_items members.now))) (seen left)) }
+{
+    let mut kept = Vec::new(alloc);
+    let mut least: Option<Least> = None;
+    for member in members.items() {
+        let Some(left) = reach(alloc, member, stand, start, sites)? else {
+            continue;
+        };
+        kept.push(left.what)?;
+        least = Some(nearer(least, left.least));
+    }
+    match least {
+        None => Ok(None),
+        Some(least) => Ok(Some(Left {
+            what: one_of(Exprs::of(kept)),
+            least,
+        })),
+    }
+}
+
+fn nothing() -> Expr
+    ensures { tree_of result ≡ empty }
+{
+    Expr::Empty
+}
+
+fn leaf(connector: &Connector) -> Expr
+    ensures { tree_of result ≡ leaf connector.now }
+{
+    Expr::Conn(*connector)
+}
+
+fn all_of(members: Exprs) -> Expr
+    ensures { tree_of result ≡ all_of (trees_in (expr_items members)) }
+{
+    Expr::And(members)
+}
+
+fn one_of(members: Exprs) -> Expr
+    ensures { tree_of result ≡ one_of (trees_in (expr_items members)) }
+{
+    Expr::Or(members)
+}
+
+fn priced(alloc: Global, e: Expr, cost: Cost) -> Result<Expr, NoMemory>
+    ensures { IfOk result (λ all. tree_of all ≡ priced (tree_of e) cost) }
+{
+    Ok(Expr::Priced(Box::new(alloc, e)?, cost))
+}
