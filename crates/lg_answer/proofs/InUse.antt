@@ -22,10 +22,11 @@ use Rattle.lg_answer.proofs.Few.{few_words}
 use Rattle.lg_answer.proofs.Lists.{zip_at, zip_each}
 use Rattle.lg_answer.proofs.Made.{expanded_none, are_expanded, have_expanded}
 use Rattle.lg_answer.proofs.Narrowed.{keeps_linkages}
+use Rattle.lg_answer.proofs.Within.{reach_keeps_linkages}
 use Rattle.lg_answer.proofs.Words.{trees_out, trees_in}
 use Rattle.lg_token.specs.Problems.{IsOfWords}
 use Rattle.lg_answer.specs.Problems.{IsProblemInUse}
-use Rattle.lg_answer.specs.Steps.{AreOfSentence, word_trees, AreNamed, AreWordTrees, AreWordTreesFor, AreExprsInUse, behind, IsOfTrees, AreApart, AreExpanded, AreMade, HaveProblem, IsNarrowed}
+use Rattle.lg_answer.specs.Steps.{AreOfSentence, word_trees, AreNamed, AreWordTrees, AreWordTreesFor, AreExprsInUse, behind, IsOfTrees, AreApart, AreListedOf, AreExpanded, AreMade, HaveProblem, IsNarrowed, IsWithin}
 
 -- ---- the formulas in use
 
@@ -214,4 +215,16 @@ module _ (exist : ExpressionsHaveDisjuncts) (dict : Dictionary) (tokens : List T
         of_tokens = have_problem idioms exprs has whole.0 whole.1;
         keeps = keeps_linkages law exprs live narrow whole.0 kept whole.1 (zip_each AreExpanded expanded_none live kept expanded) (AllZip-long AreMade live kept made);
         same_length = AllZip-long AreMade live kept made ∙ narrow.same_length ∙ exprs_length dict tokens idioms exprs has;
+      }
+
+  -- so has what is left of them within reach
+  pub within_problem : (idioms : Bool) (exprs : List (List WordTree)) → AreExprsInUse idioms dict tokens exprs → LinkagesAreLive → (live : List (List WordTree)) → AreNarrowed exprs live
+      → (left : List (List Disjunct)) → IsWithin live left → IsNarrowed idioms dict tokens left
+  within_problem idioms exprs has law live narrow left within =
+      let whole = have_whole idioms exprs has in
+      record {
+        problem = whole.0;
+        of_tokens = have_problem idioms exprs has whole.0 whole.1;
+        keeps = reach_keeps_linkages law exprs live narrow whole.0 left whole.1 within;
+        same_length = AllZip-long AreListedOf within.kept left within.listed ∙ within.fewer.same_length ∙ narrow.same_length ∙ exprs_length dict tokens idioms exprs has;
       }

@@ -13,5 +13,6 @@ pub mod Apart
 pub mod Few
 pub mod InUse
 pub mod Narrowed
+pub mod Within
 pub mod Wholes
 pub mod AliveKept

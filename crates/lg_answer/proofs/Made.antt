@@ -26,7 +26,7 @@ use Rattle.lg_answer.specs.Steps.{AreNamed, IsOfTrees, AreApart, AreToldApart, A
 
 -- ---- one word after another
 
-listed_none : AreListedOf [] []
+pub listed_none : AreListedOf [] []
 listed_none = record { exactly = λ d. (λ h. absurd (contains_none d h), λ h. absurd (contains_none h.0 h.1)); fit = All-nil FitsProblem }
 
 -- disjuncts of some words, and of one word more

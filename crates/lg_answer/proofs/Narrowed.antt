@@ -1,5 +1,5 @@
 -- A problem of narrowed formulas has the good linkages of the problem of the whole ones.
-use Rattle.std.proofs.Common.{◌≡◌, ℕ, zero, suc, ◌<◌, List, [], ◌∷◌, length, Contains, All, inl, inr, sym, ap, ◌∙◌, subst, arith}
+use Rattle.std.proofs.Common.{◌≡◌, ◌↔◌, ℕ, zero, suc, ◌<◌, List, [], ◌∷◌, length, Contains, All, inl, inr, sym, ap, ◌∙◌, subst, arith}
 use Rattle.std.specs.Prelude.{slice_index_or}
 use Rattle.std.specs.List.{AllZip}
 use Rattle.std.proofs.lemmas.List.{get_or_default}
@@ -15,7 +15,7 @@ use Rattle.lg_answer.proofs.Made.{expanded_none}
 use Rattle.lg_answer.specs.Pages.{HasLinkagesOf}
 use Rattle.lg_answer.specs.Steps.{IsOfTrees, AreApart, AreExpanded}
 
-inside : {X : Type 0} (xs : List (List X)) (i : ℕ) (x : X) → Contains (slice_index_or xs i []) x → i < length xs
+pub inside : {X : Type 0} (xs : List (List X)) (i : ℕ) (x : X) → Contains (slice_index_or xs i []) x → i < length xs
 inside [] i x h = absurd (contains_none x h)
 inside (ys ∷ xs) zero x h = omega arith
 inside (ys ∷ xs) (suc i) x h = let less = inside xs i x h in omega arith
@@ -81,6 +81,19 @@ module _ (words : List (List WordTree)) (i : ℕ) where
         },
       )
 
+-- the disjuncts of words are choices of theirs
+pub are_of : (words : List (List WordTree)) (whole : List (List Disjunct)) → ((i : ℕ) (d : Disjunct) → Contains (slice_index_or whole i []) d ↔ IsOfTrees (slice_index_or words i []) d)
+    → AreOf words whole
+are_of words whole exactly i d h =
+    let r = (exactly i d).0 h in
+    record { words = slice_index_or words i []; word = r.0; here = slice_get-get_or words i [] (inside words i r.0 r.1); listed = r.1; chosen = r.2.chosen }
+
+-- a disjunct whose connectors are live is left
+pub live_of : (words pruned : List (List WordTree)) → AreNarrowed words pruned → (i : ℕ) (d : Disjunct) → IsOfTrees (slice_index_or words i []) d → IsLiveChoice words i (choice_of d)
+    → IsOfTrees (slice_index_or pruned i []) d
+live_of words pruned narrow i d (w, m, is) live =
+    live_disjunct words i (slice_index_or words i []) (slice_index_or pruned i []) (narrow.each i (inside words i w m)) w m d is live
+
 module _ (live : LinkagesAreLive) (words pruned : List (List WordTree)) (narrow : AreNarrowed words pruned) (whole left : List (List Disjunct))
     (all : AllZip AreExpanded words whole) (some : (i : ℕ) → AreExpanded (slice_index_or pruned i []) (slice_index_or left i [])) (long : length left ≡ length pruned) where
   at_whole : (i : ℕ) → AreExpanded (slice_index_or words i []) (slice_index_or whole i [])
@@ -93,14 +106,7 @@ module _ (live : LinkagesAreLive) (words pruned : List (List WordTree)) (narrow 
       ((at_whole i).exactly d).1 (narrowed_disjunct words i (slice_index_or words i []) (slice_index_or pruned i []) (narrow.each i less) r.0 r.1 d r.2)
 
   to_left : (i : ℕ) (d : Disjunct) → Contains (slice_index_or whole i []) d → IsLiveChoice words i (choice_of d) → Contains (slice_index_or left i []) d
-  to_left i d h is_live =
-      let r = ((at_whole i).exactly d).0 h in
-      ((some i).exactly d).1 (live_disjunct words i (slice_index_or words i []) (slice_index_or pruned i []) (narrow.each i (inside words i r.0 r.1)) r.0 r.1 d r.2 is_live)
-
-  are_of : AreOf words whole
-  are_of i d h =
-      let r = ((at_whole i).exactly d).0 h in
-      record { words = slice_index_or words i []; word = r.0; here = slice_get-get_or words i [] (inside words i r.0 r.1); listed = r.1; chosen = r.2.chosen }
+  to_left i d h is_live = ((some i).exactly d).1 (live_of words pruned narrow i d (((at_whole i).exactly d).0 h) is_live)
 
   same_long : length left ≡ length whole
   same_long = long ∙ narrow.same_length ∙ sym (AllZip-long AreExpanded words whole all)
@@ -110,7 +116,7 @@ module _ (live : LinkagesAreLive) (words pruned : List (List WordTree)) (narrow 
     λ good. record {
       belongs = record {
         same_length = good.belongs.same_length ∙ sym same_long;
-        listed = λ i d at. to_left i d (good.belongs.listed i d at) (live words whole are_of g good i d at);
+        listed = λ i d at. to_left i d (good.belongs.listed i d at) (live words whole (are_of words whole (λ j. (at_whole j).exactly)) g good i d at);
         set = good.belongs.set;
       };
       rules = good.rules;

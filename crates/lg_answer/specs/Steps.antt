@@ -8,7 +8,7 @@ use Rattle.std.specs.declared.cmp.Ordering.TheVariants.{Equal}
 use Rattle.std.specs.Ordering.{nat_cmp, on}
 use Rattle.std.specs.Cmp.Lexicographic.{slice_cmp}
 use Rattle.lg_gram.specs.Disjuncts.{disjunct_cmp, IsDisjunctOf}
-use Rattle.lg_gram.specs.Problems.{FitsProblem}
+use Rattle.lg_gram.specs.Problems.{FitsProblem, IsProblem}
 use Rattle.lg_gram.specs.Trees.{Tree}
 use Rattle.lg_gram.specs.Linkages.{Linkage}
 use Rattle.lg_gram.specs.declared.disjunct.Disjunct.{Disjunct}
@@ -21,6 +21,8 @@ use Rattle.lg_eprune.specs.Live.{WordTree}
 use Rattle.lg_knowread.specs.declared.knowledge.Knowledge.{Knowledge}
 use Rattle.lg_pp.specs.Breaks.{Judges}
 use Rattle.lg_token.specs.Bounds.{AreListed}
+use Rattle.lg_reach.specs.Ends.{IsLinkageOf}
+use Rattle.lg_reach.specs.Reach.{HaveFewer, HaveUsed}
 use Rattle.lg_idiom.specs.Sentences.{AddIdioms}
 use Rattle.lg_token.specs.Problems.{IsProblemOf}
 use Rattle.lg_answer.specs.Problems.{IsProblemInUse}
@@ -111,6 +113,14 @@ pub record AreExpanded (ws : List WordTree) (ds : List Disjunct) : Type 0 where
 pub record AreMade (ws : List WordTree) (ds : List Disjunct) : Type 0 where
   pub expanded : AreExpanded ws ds
   pub fit : All FitsProblem ds
+
+-- A problem of some of the choices of these words, among them all that any good linkage uses.
+pub record IsWithin (words : List (List WordTree)) (problem : List (List Disjunct)) : Type 0 where
+  pub kept : List (List WordTree)
+  pub fewer : HaveFewer words kept
+  pub used : (g : Linkage) → IsLinkageOf words g → HaveUsed g words kept
+  pub listed : AllZip AreListedOf kept problem
+  pub limits : IsProblem problem
 
 -- these tokens have this problem in use, and also one without idioms
 pub record HaveProblem (idioms : Bool) (dict : Dictionary) (tokens : List Token) (problem : List (List Disjunct)) : Type 0 where

@@ -29,7 +29,7 @@ pub(crate) fn expanded(alloc: Global, positions: &[WordExprs]) -> Result<Positio
 
 /// The disjuncts of the words of each position, those of one word after those of another. The only error is running out of memory.
 pub(crate) fn spelled(alloc: Global, positions: &[WordExprs]) -> Result<Positions, NoMemory>
-    ensures { IfOk result (AllZip AreSpelled positions.now) }
+    ensures { IfOk result (AllZip AreListedOf positions.now) }
 {
     let mut all = Vec::with_capacity(alloc, positions.len())?;
     for words in positions {

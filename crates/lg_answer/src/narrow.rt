@@ -1,6 +1,6 @@
 //! The problem of a sentence, whole or without the choices that no linkage can use.
-ghost use Rattle.std.specs.Prelude.{IfOk};
-ghost use Rattle.lg_answer.specs.Steps.{AreOfSentence, HaveProblem, IsNarrowed};
+ghost use Rattle.std.specs.Prelude.{IfOk, IfSome};
+ghost use Rattle.lg_answer.specs.Steps.{AreOfSentence, HaveProblem, IsNarrowed, IsWithin};
 
 use crate::expanded::{expanded, spelled};
 use crate::exprs::exprs_in_use;
@@ -58,7 +58,9 @@ pub(crate) fn narrowed(
 }
 
 // The problem of the choices that are within reach. None where the words of some position do not increase, as those of idioms may not.
-fn within(alloc: Global, live: &[WordExprs]) -> Result<Option<Problem>, NoMemory> {
+fn within(alloc: Global, live: &[WordExprs]) -> Result<Option<Problem>, NoMemory>
+    ensures { IfOk result (λ found. IfSome found (IsWithin live.now)) }
+{
     let near = within_reach(alloc, live)?;
     let positions = spelled(alloc, near.items())?;
     Ok(Problem::of(positions))
