@@ -38,7 +38,7 @@ impl Known {
 
     /// Whether the alternatives of a key are here. It only chooses the way on.
     pub fn has(&self, key: &Key) -> bool {
-        self.found.contains_key(key)
+        !self.found.is_empty() && self.found.contains_key(key)
     }
 
     /// Takes the alternatives of a key out. None where the key is not there. No memory.

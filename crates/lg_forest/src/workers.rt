@@ -21,11 +21,14 @@ use std::thread::{Threads, join};
 /// Where there are fewer disjuncts than these, threads cost more than they save.
 const FEW_DISJUNCTS: usize = 400;
 
+/// Where words have more disjuncts than these on average, they do too: one walk remembers how regions begin, and workers do not.
+const CROWDED: usize = 20;
+
 /// The shards of a memo: so many that two workers seldom want the same one.
 const SHARDS: u32 = 1_024;
 
 /// The alternatives that these workers find from the whole sentence with these numbers of unlinked words. One worker finds none, and
-/// none are found where there are few disjuncts. The only error is running out of memory.
+/// none are found where there are few disjuncts, or many a word. The only error is running out of memory.
 pub(crate) fn known_of<R: Threads + Sync>(
     rt: &R,
     alloc: Global,
@@ -41,7 +44,7 @@ pub(crate) fn known_of<R: Threads + Sync>(
     ensures alone { workers ≡ 1 → IfOk result (λ known. known ≡ []) }
 {
     let positions = problem.positions();
-    if workers == 1 || are_few(positions) {
+    if workers == 1 || is_one_enough(positions) {
         return Ok(Known::nothing(alloc));
     }
     let (memo, seats) = Memo::make(alloc, problem, SHARDS, workers)?;
@@ -50,13 +53,13 @@ pub(crate) fn known_of<R: Threads + Sync>(
     gathered(alloc, lists, shards)
 }
 
-// Whether there are so few disjuncts that one worker does better.
-fn are_few(positions: &[Disjuncts]) -> bool {
+// Whether there are so few disjuncts, or so many a word, that one worker does better.
+fn is_one_enough(positions: &[Disjuncts]) -> bool {
     let mut count = 0usize;
     for position in positions {
         count = count.saturating_add(position.items().len());
     }
-    count < FEW_DISJUNCTS
+    count < FEW_DISJUNCTS || count / CROWDED > positions.len()
 }
 
 // Lets a worker walk from each seat, in two halves at once, and each half so again. The seats come back in the same order.
