@@ -139,7 +139,7 @@ still_among words kept g among same used = record {
 }
 
 -- one round after others
-pub walked_again : (words kept again : List (List WordTree)) (sites more : Sites) (known : Bor Sites) → known.now ≡ sites → AreWalked words kept None sites → AreWalked kept again (Some known) more → AreWalked words again None more
+walked_again : (words kept again : List (List WordTree)) (sites more : Sites) (known : Bor Sites) → known.now ≡ sites → AreWalked words kept None sites → AreWalked kept again (Some known) more → AreWalked words again None more
 walked_again words kept again sites more known same v w = record {
   fewer = record {
     same_length = w.fewer.same_length ∙ v.fewer.same_length;
@@ -156,3 +156,7 @@ walked_again words kept again sites more known same v w = record {
 -- what is read at a position
 pub read_at : (words : List (List WordTree)) (n : ℕ) (ws : List WordTree) → n < length words → ws ≡ get_or words n ws → ws ≡ slice_index_or words n []
 read_at words n ws within is = sym (get_or_from_slice_get words n ws [] (slice_get_read words (length words) n ws refl within is))
+
+pub walked_next : (words kept given again : List (List WordTree)) (sites more : Sites) (known : Bor Sites) → given ≡ kept → known.now ≡ sites → AreWalked words kept None sites
+    → AreWalked given again (Some known) more → AreWalked words again None more
+walked_next words kept given again sites more known is same v w = walked_again words kept again sites more known same v (subst (λ ws. AreWalked ws again (Some known) more) is w)

@@ -1,11 +1,13 @@
-use Rattle.std.proofs.Common.{◌≡◌, None, sym, ap, subst, ◌∙◌}
+use Rattle.std.proofs.Common.{refl, sym, subst}
 use Rattle.lg_reach.specs.Reach.{HaveFewer, HaveUsed}
-use Rattle.lg_reach.specs.Rounds.{AreWalked}
-use Rattle.lg_reach.proofs.Rounding.{good_among, walked_again}
+use Rattle.lg_reach.proofs.Rounding.{good_among, walked_next}
 use Rattle.lg_reach.proofs.rounds.within_reach.Goals as goal
 
 pub loop-round-preserved : goal.loop-round-preserved
-loop-round-preserved c = ?
+loop-round-preserved c =
+    let at = c.loop-round in
+    let next = c.in_ok-round-2.round in
+    walked_next c.args.positions.now at.round.kept.items c.deref.result.now next.kept.items at.round.sites next.sites _ c.deref.ensures.value refl at.invariant c.in_ok-round-2.ensures
 
 pub returns-clause-fewer : goal.returns-clause-fewer
 returns-clause-fewer c = subst (HaveFewer c.args.positions.now) (sym c.of.ensures) c.loop-round.invariant.fewer
