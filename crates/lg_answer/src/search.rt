@@ -239,10 +239,8 @@ impl Search {
             return Ok(Search { ranked, wide: None });
         };
         let ranked = ranked_at(alloc, sharp, nulls)?;
-        Ok(Search {
-            ranked,
-            wide: Some(problem),
-        })
+        let wide = Some(problem);
+        Ok(Search { ranked, wide })
     }
 }
 

@@ -16,6 +16,8 @@ mod pruned;
 #[cfg(test)]
 mod ranked;
 #[cfg(test)]
+mod reached;
+#[cfg(test)]
 mod sharpened;
 #[cfg(test)]
 mod workers;

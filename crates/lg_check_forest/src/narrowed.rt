@@ -17,8 +17,8 @@ fn choice(alloc: Global, letters: &[u8]) -> Result<Expr, Fail> {
     Ok(Expr::And(Exprs::of(members)))
 }
 
-// The choices of a word, joined by `or`.
-fn choices(alloc: Global, word: &str) -> Result<Expr, Fail> {
+/// The choices of a word, joined by `or`.
+pub fn choices(alloc: Global, word: &str) -> Result<Expr, Fail> {
     let mut members = Vec::new(alloc);
     for letters in word.as_bytes().split(|byte| *byte == b'|') {
         members.push(choice(alloc, letters)?)?;
@@ -41,8 +41,8 @@ fn word(alloc: Global, seed: u32) -> Result<WordExprs, Fail> {
     Ok(WordExprs::of(words))
 }
 
-// One of a family of sentences of two to eight words.
-fn sentence(alloc: Global, seed: u32) -> Result<PositionExprs, Fail> {
+/// One of a family of sentences of two to eight words.
+pub fn sentence(alloc: Global, seed: u32) -> Result<PositionExprs, Fail> {
     let mut rest = seed;
     let mut positions = Vec::new(alloc);
     for _ in 0..2 + seed % 7 {
@@ -52,7 +52,8 @@ fn sentence(alloc: Global, seed: u32) -> Result<PositionExprs, Fail> {
     Ok(PositionExprs::of(positions))
 }
 
-fn problem(alloc: Global, sentence: &PositionExprs) -> Result<Problem, Fail> {
+/// The problem of these words, at most one a position.
+pub fn problem(alloc: Global, sentence: &PositionExprs) -> Result<Problem, Fail> {
     let mut positions = Vec::new(alloc);
     for words in sentence.items() {
         match words.items() {

@@ -9,8 +9,8 @@ use std::alloc::Global;
 use std::process::Abort;
 use std::test::Fail;
 
-// All linkages with exactly so many unlinked words.
-fn level(alloc: Global, problem: &Problem, nulls: u32) -> Result<Vec<Linkage>, Fail> {
+/// All linkages with exactly so many unlinked words.
+pub fn level(alloc: Global, problem: &Problem, nulls: u32) -> Result<Vec<Linkage>, Fail> {
     if nulls as usize > problem.positions().len() {
         return Err("too many unlinked words")?;
     }
@@ -121,7 +121,8 @@ fn as_the_whole_problem_from_400(rt: HostRuntime) -> Result<(), Fail> {
     Ok(())
 }
 
-fn expect_counts<R: Abort>(rt: &R, problem: &Problem, counts: [usize; 3]) {
+/// Wants so many disjuncts at each of three positions.
+pub fn expect_counts<R: Abort>(rt: &R, problem: &Problem, counts: [usize; 3]) {
     match problem.positions() {
         [first, second, third] => {
             assert!(rt; first.items().len() == counts[0]);

@@ -21,8 +21,8 @@ loop-position-preserved c =
     let left = c.in_ok-reach_words.field-0 in
     let same : c.items.result.now ≡ slice_index_or words at.position [] = c.items.ensures ∙ read_at words at.position c.index-positions-position.result c.loop-position-test.true c.index-positions-position.is in
     subst (λ ks. AreWalkedTo words ks known new (at.position + 1)) (sym c.in_ok-push.ensures.items)
-      (walked_more words at.kept.items known at.sites new at.position at.invariant stand refl refl refl left
-        (subst (λ ws. AreNarrowed at.sites new stand ws left) same c.in_ok-reach_words.ensures))
+    (walked_more words at.kept.items known at.sites new at.position at.invariant stand refl refl refl left
+    (subst (λ ws. AreNarrowed at.sites new stand ws left) same c.in_ok-reach_words.ensures))
 
 pub returns : goal.returns
 returns c =
