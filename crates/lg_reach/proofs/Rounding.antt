@@ -9,12 +9,12 @@ use Rattle.lg_eprune.specs.Live.{WordTree}
 use Rattle.lg_gram.specs.Connectors.{Connector}
 use Rattle.lg_gram.specs.Disjuncts.{choice_of}
 use Rattle.lg_gram.specs.Linkages.{Linkage}
-use Rattle.lg_gram.specs.Measures.{Choice, choices_of}
+use Rattle.lg_gram.specs.Measures.{Choice}
 use Rattle.lg_gram.specs.Rules.{chosen_at, left_list, right_list}
 use Rattle.lg_gram.specs.declared.disjunct.Disjunct.{Disjunct}
-use Rattle.lg_reach.specs.Ends.{AreKnown, Ends, HasSite, HaveChosen, IsLinkageOf, Keeps, Knows, KnowsAt, Suits, Uses, place_on}
+use Rattle.lg_reach.specs.Ends.{AreKnown, HaveChosen, IsLinkageOf, Knows, KnowsAt, Suits, Uses, place_on}
 use Rattle.lg_reach.specs.Narrowed.{AreNarrowed}
-use Rattle.lg_reach.specs.Reach.{HaveFewer, HaveUsed, Narrows, Never, nothing}
+use Rattle.lg_reach.specs.Reach.{HaveUsed, Narrows, Never, nothing}
 use Rattle.lg_reach.specs.Rounds.{AreWalked, IsAmong}
 use Rattle.lg_reach.specs.declared.nearest.Stand.{Stand}
 use Rattle.lg_reach.specs.declared.site.Sites.{Sites}
@@ -81,12 +81,12 @@ module _ (words kept : List (List WordTree)) (known : Option (Bor Sites)) (now n
   walked_more = record {
     many = length-append kept (left ∷ []) ∙ ap (λ m. m + 1) to.many;
     fewer = each (λ i. Narrows Never (at words i) (at (kept ++ left ∷ []) i)) (λ i low. subst (Narrows Never (at words i)) (sym (earlier i low)) (to.fewer i low))
-      (subst (Narrows Never (at words n)) (sym last) w.fewer);
+        (subst (Narrows Never (at words n)) (sym last) w.fewer);
     used = λ g among is.
-      each (λ i. Narrows (Uses g i) (at words i) (at (kept ++ left ∷ []) i)) (λ i low. subst (Narrows (Uses g i) (at words i)) (sym (earlier i low)) (to.used g among is i low))
+        each (λ i. Narrows (Uses g i) (at words i) (at (kept ++ left ∷ []) i)) (λ i low. subst (Narrows (Uses g i) (at words i)) (sym (earlier i low)) (to.used g among is i low))
         (subst (Narrows (Uses g n) (at words n)) (sym last) (subst (λ p. Narrows (Uses g p) (at words n) left) here (w.used g (suited g among is))));
     knows = λ g among is.
-      each (λ i. KnowsAt new g i) (λ i low c m ends. w.keeps i c m (to.knows g among is i low c m ends))
+        each (λ i. KnowsAt new g i) (λ i low c m ends. w.keeps i c m (to.knows g among is i low c m ends))
         (subst (λ p. KnowsAt new g p) here (knows_by now new stand (at words n) left w g (suited g among is) (subst (λ p. HaveChosen g p (at words n)) (sym here) (among.chosen n))));
   }
 
@@ -100,21 +100,22 @@ walked_all words kept known sites to = record {
   fewer = record { same_length = to.many; each = λ i. all Never (to.fewer) i };
   used = λ g among is i. all_of (λ i. Uses g i) (to.used g among is) i;
   knows = λ g among is i c n ends.
-    elim (within_or_past i (length words)) [
-      | inl low ↦ to.knows g among is i low c n ends
-      | inr past ↦ (
-          let (d, chosen) = linked_choice c.right (chosen_at g i) (place_on c.right ends.link) c ends.connector in
-          let (v, listed, uses) = among.chosen i d chosen in
-          absurd (contains_none v (subst (λ ws. Contains ws v) (get_or_past words i [] past) listed)))
-    ];
+      elim (within_or_past i (length words)) [
+        | inl low ↦ to.knows g among is i low c n ends
+        | inr past ↦ (
+            let (d, chosen) = linked_choice c.right (chosen_at g i) (place_on c.right ends.link) c ends.connector in
+            let (v, listed, uses) = among.chosen i d chosen in
+            absurd (contains_none v (subst (λ ws. Contains ws v) (get_or_past words i [] past) listed)))
+      ];
 } where
   all_of : (Used : ℕ → Choice → Type 0) → ((i : ℕ) → i < length words → Narrows (Used i) (at words i) (at kept i)) → (i : ℕ) → Narrows (Used i) (at words i) (at kept i)
   all_of Used low i =
       elim (within_or_past i (length words)) [
         | inl l ↦ low i l
         | inr past ↦ subst (λ ws. Narrows (Used i) ws (at kept i)) (sym (get_or_past words i [] past))
-          (subst (Narrows (Used i) []) (sym (get_or_past kept i [] (let many = to.many in omega (arith, many, past)))) nothing)
+            (subst (Narrows (Used i) []) (sym (get_or_past kept i [] (let many = to.many in omega (arith, many, past)))) nothing)
       ]
+
   all : (Used : Choice → Type 0) → ((i : ℕ) → i < length words → Narrows Used (at words i) (at kept i)) → (i : ℕ) → Narrows Used (at words i) (at kept i)
   all Used = all_of (λ i. Used)
 
@@ -124,8 +125,8 @@ good_among words g is = record {
   rules = is.good.rules;
   same_length = is.good.belongs.same_length ∙ is.same_length;
   chosen = λ i d chosen.
-    let at_i = is.of i d (is.good.belongs.listed i d chosen) in
-    (at_i.word, subst (λ ws. Contains ws at_i.word) (sym (get_or_from_slice_get words i at_i.words [] at_i.here)) at_i.listed, at_i.chosen);
+      let at_i = is.of i d (is.good.belongs.listed i d chosen) in
+      (at_i.word, subst (λ ws. Contains ws at_i.word) (sym (get_or_from_slice_get words i at_i.words [] at_i.here)) at_i.listed, at_i.chosen);
 }
 
 -- and so it is where all that it uses is kept
@@ -134,8 +135,8 @@ still_among words kept g among same used = record {
   rules = among.rules;
   same_length = among.same_length ∙ sym same;
   chosen = λ i d chosen.
-    let (w, listed, uses) = among.chosen i d chosen in
-    narrows_finds (Uses g i) (at words i) (at kept i) (used i) w (choice_of d) listed uses (d, chosen, refl);
+      let (w, listed, uses) = among.chosen i d chosen in
+      narrows_finds (Uses g i) (at words i) (at kept i) (used i) w (choice_of d) listed uses (d, chosen, refl);
 }
 
 -- one round after others
@@ -150,6 +151,7 @@ walked_again words kept again sites more known same v w = record {
 } where
   now : (g : Linkage) → IsAmong words g → IsAmong kept g
   now g among = still_among words kept g among v.fewer.same_length (v.used g among tt)
+
   learned : (g : Linkage) → IsAmong words g → Knows known.now g
   learned g among = subst (λ s. Knows s g) (sym same) (v.knows g among tt)
 

@@ -1,5 +1,5 @@
 -- Walks through the parts of an expression make one through the whole.
-use Rattle.std.proofs.Common.{◌≡◌, ◌∙◌, refl, sym, ap, subst, ℕ, suc, ◌+◌, ◌≤◌, ◌<◌, ℤ, Bool, true, false, true≢false, cond, Option, Some, None, List, [], ◌∷◌, ◌++◌, length, get_or, drop, take, map, Contains, arith}
+use Rattle.std.proofs.Common.{◌≡◌, ◌∙◌, refl, sym, ap, subst, ℕ, ◌+◌, ◌≤◌, ◌<◌, ℤ, Bool, true, false, true≢false, Option, Some, None, List, [], ◌∷◌, ◌++◌, length, get_or, drop, take, map, arith}
 use Rattle.std.specs.Option.{option_map}
 use Rattle.std.proofs.lemmas.List.{append_assoc, append-nil, drop_more, drop_all, map-append, take_all, take_more}
 use Rattle.lg_gram.specs.Connectors.{Connector}
@@ -8,7 +8,7 @@ use Rattle.lg_gram.specs.Measures.{Choice, choices_of, choices_of_any, dearer, n
 use Rattle.lg_gram.specs.Trees.{Tree, Trees, no_trees, tree, tree_of, trees_of, trees_in}
 use Rattle.lg_gram.specs.declared.expr.Expr.{Expr}
 use Rattle.lg_reach.specs.Climbs.{IsFewer, IsWithin, Leaves}
-use Rattle.lg_reach.specs.Ends.{Ends, HasSite, IsNear, Keeps, Suits}
+use Rattle.lg_reach.specs.Ends.{Ends, HasSite, Keeps, Suits}
 use Rattle.lg_reach.specs.Walks.{Walks, behind_link, nearer_by}
 use Rattle.lg_reach.specs.declared.nearest.Stand.{Stand}
 use Rattle.lg_reach.specs.declared.site.Sites.{Sites}
@@ -96,7 +96,7 @@ module _ (old now new : Sites) (stand : Stand) (start least : Least) (all : Tree
   more_fewer u next w None h = tt
   more_fewer u next w (Some l) h =
       subst (λ cs. IsFewer (picks_of all) (Some (cs, l.1))) (sym (behind_push kept u l.0))
-        (on.fewer (Some (all_joined (choices_of u) l.0, l.1)) (pick_fewer (choices_of t) (choices_of u) (picks_of rest) l.0 next l.1 l.1 w.fewer h))
+      (on.fewer (Some (all_joined (choices_of u) l.0, l.1)) (pick_fewer (choices_of t) (choices_of u) (picks_of rest) l.0 next l.1 l.1 w.fewer h))
 
   more_leaves : (u : Tree) (next : Least) (w : Walks now new stand least (choices_of t) (Some (choices_of u, next))) (g : Linkage) → Suits g stand → (more : Sites) → Keeps new more
       → (o : Option (List Choice × Least)) → Leaves (Ends g stand.position) (HasSite more stand.position) next (picks_of rest) o
@@ -105,15 +105,15 @@ module _ (old now new : Sites) (stand : Stand) (start least : Least) (all : Tree
       let Ok = Ends g stand.position in
       let Seen = HasSite more stand.position in
       on.leaves g suits more (keeps_then now new more w.keeps keeps) None
-        (second_none Ok Seen least next (choices_of t) (choices_of u) (picks_of rest)
-          (seen_more Ok (HasSite new stand.position) Seen least (choices_of t) (Some (choices_of u, next)) (keeps stand.position) (w.leaves g suits)) h)
+      (second_none Ok Seen least next (choices_of t) (choices_of u) (picks_of rest)
+      (seen_more Ok (HasSite new stand.position) Seen least (choices_of t) (Some (choices_of u, next)) (keeps stand.position) (w.leaves g suits)) h)
   more_leaves u next w g suits more keeps (Some l) h =
       let Ok = Ends g stand.position in
       let Seen = HasSite more stand.position in
       subst (λ cs. Leaves Ok Seen start (picks_of all) (Some (cs, l.1))) (sym (behind_push kept u l.0))
-        (on.leaves g suits more (keeps_then now new more w.keeps keeps) (Some (all_joined (choices_of u) l.0, l.1))
-          (pick_leaves Ok Seen least next l.1 (choices_of t) (choices_of u) (picks_of rest) l.0
-            (seen_more Ok (HasSite new stand.position) Seen least (choices_of t) (Some (choices_of u, next)) (keeps stand.position) (w.leaves g suits)) h))
+      (on.leaves g suits more (keeps_then now new more w.keeps keeps) (Some (all_joined (choices_of u) l.0, l.1))
+      (pick_leaves Ok Seen least next l.1 (choices_of t) (choices_of u) (picks_of rest) l.0
+      (seen_more Ok (HasSite new stand.position) Seen least (choices_of t) (Some (choices_of u, next)) (keeps stand.position) (w.leaves g suits)) h))
 
   pub on_more : (u : Tree) (next : Least) → Walks now new stand least (choices_of t) (Some (choices_of u, next)) → WalksOn old new stand start all (kept ++ u ∷ []) next rest
   on_more u next w = record {
@@ -127,7 +127,7 @@ module _ (old now new : Sites) (stand : Stand) (start least : Least) (all : Tree
     keeps = keeps_then old now new on.keeps w.keeps;
     fewer = tt;
     leaves = λ g suits.
-      on.leaves g suits new w.keeps None (first_none (Ends g stand.position) (HasSite new stand.position) least (choices_of t) (picks_of rest) (w.leaves g suits));
+        on.leaves g suits new w.keeps None (first_none (Ends g stand.position) (HasSite new stand.position) least (choices_of t) (picks_of rest) (w.leaves g suits));
   }
 
 pub on_end : (old now : Sites) (stand : Stand) (start : Least) (all : Trees) (kept : List Tree) (least : Least) → WalksOn old now stand start all kept least no_trees
@@ -136,7 +136,7 @@ on_end old now stand start all kept least on = record {
   keeps = on.keeps;
   fewer = subst (λ cs. IsFewer (picks_of all) (Some (cs, least))) (behind_nothing kept) (on.fewer (Some (no_connectors ∷ [], least)) (λ c h. h));
   leaves = λ g suits. subst (λ cs. Leaves (Ends g stand.position) (HasSite now stand.position) start (picks_of all) (Some (cs, least))) (behind_nothing kept)
-    (on.leaves g suits now (λ i c n h. h) (Some (no_connectors ∷ [], least)) (nothing_leaves (Ends g stand.position) (HasSite now stand.position) least));
+      (on.leaves g suits now (λ i c n h. h) (Some (no_connectors ∷ [], least)) (nothing_leaves (Ends g stand.position) (HasSite now stand.position) least));
 }
 
 -- what was said of the end is said of what lies no farther
@@ -146,19 +146,19 @@ nearer_end old now stand start cs kept after near within w = record {
   keeps = w.keeps;
   fewer = w.fewer;
   leaves = λ g suits.
-    let h = w.leaves g suits in
-    record {
-      stays = h.stays;
-      within = λ end c ls rs listed fits.
-        let by = h.within end c ls rs listed fits in
-        let a = within.left in
-        let b = by.left in
-        let d = within.right in
-        let e = by.right in
-        record { left = omega (arith, a, b); right = omega (arith, d, e) };
-      lefts = h.lefts;
-      rights = h.rights;
-    };
+      let h = w.leaves g suits in
+      record {
+        stays = h.stays;
+        within = λ end c ls rs listed fits.
+            let by = h.within end c ls rs listed fits in
+            let a = within.left in
+            let b = by.left in
+            let d = within.right in
+            let e = by.right in
+            record { left = omega (arith, a, b); right = omega (arith, d, e) };
+        lefts = h.lefts;
+        rights = h.rights;
+      };
 }
 
 pub walks_link : (old new : Sites) (stand : Stand) (start near : Least) (c : Connector) (m : ℕ) → Keeps old new → HasSite new stand.position c m
@@ -174,9 +174,9 @@ walks_either old now new stand start firsts bs o p v w = record {
   keeps = keeps_then old now new v.keeps w.keeps;
   fewer = either_fewer firsts bs o p v.fewer w.fewer;
   leaves = λ g suits.
-    let Ok = Ends g stand.position in
-    let Seen = HasSite new stand.position in
-    either_leaves Ok Seen start firsts bs o p (seen_more Ok (HasSite now stand.position) Seen start firsts o (w.keeps stand.position) (v.leaves g suits)) (w.leaves g suits);
+      let Ok = Ends g stand.position in
+      let Seen = HasSite new stand.position in
+      either_leaves Ok Seen start firsts bs o p (seen_more Ok (HasSite now stand.position) Seen start firsts o (w.keeps stand.position) (v.leaves g suits)) (w.leaves g suits);
 }
 
 -- of the members that were kept so far
@@ -225,7 +225,7 @@ module _ (old now new : Sites) (stand : Stand) (start : Least) (es : List Expr) 
       → WalksTo old new stand start (take (i + 1) es) (kept ++ left ∷ []) (Some (nearer_by least next))
   to_more left next w = record {
     walks = subst (Walks old new stand start (choices_of_any (trees_in (take (i + 1) es)))) (so_far_more kept least left next to.empty)
-      (subst (λ cs. Walks old new stand start cs (either (so_far kept least) (Some (choices_of (tree_of left), next)))) one_more
+        (subst (λ cs. Walks old new stand start cs (either (so_far kept least) (Some (choices_of (tree_of left), next)))) one_more
         (walks_either old now new stand start (choices_of_any (trees_in (take i es))) (choices_of (tree_of e)) (so_far kept least) (Some (choices_of (tree_of left), next)) to.walks w));
     empty = λ is. absurd (true≢false (ap is_there is));
   }
@@ -233,7 +233,7 @@ module _ (old now new : Sites) (stand : Stand) (start : Least) (es : List Expr) 
   pub to_same : Walks now new stand start (choices_of (tree_of e)) None → WalksTo old new stand start (take (i + 1) es) kept least
   to_same w = record {
     walks = subst (Walks old new stand start (choices_of_any (trees_in (take (i + 1) es)))) (so_far_same kept least)
-      (subst (λ cs. Walks old new stand start cs (either (so_far kept least) None)) one_more
+        (subst (λ cs. Walks old new stand start cs (either (so_far kept least) None)) one_more
         (walks_either old now new stand start (choices_of_any (trees_in (take i es))) (choices_of (tree_of e)) (so_far kept least) None to.walks w));
     empty = to.empty;
   }
@@ -254,7 +254,7 @@ module _ (old now new : Sites) (stand : Stand) (start least : Least) (all : Tree
       → WalksOn old new stand start all (map tree_of (kept ++ left ∷ [])) next (trees_in (drop (i + 1) es))
   all_more left next w =
       subst (λ ts. WalksOn old new stand start all ts next (trees_in (drop (i + 1) es))) (sym (map-append tree_of kept (left ∷ [])))
-        (on_more old now new stand start least all (map tree_of kept) (tree_of e) (trees_in (drop (i + 1) es)) here (tree_of left) next w)
+      (on_more old now new stand start least all (map tree_of kept) (tree_of e) (trees_in (drop (i + 1) es)) here (tree_of left) next w)
 
   pub all_none : Walks now new stand least (choices_of (tree_of e)) None → Walks old new stand start (picks_of all) None
   all_none w = on_none old now new stand start least all (map tree_of kept) (tree_of e) (trees_in (drop (i + 1) es)) here w

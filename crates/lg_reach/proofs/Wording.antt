@@ -1,10 +1,10 @@
 -- Words that are walked through one after another.
-use Rattle.std.proofs.Common.{◌≡◌, ◌∙◌, refl, sym, ap, subst, ℕ, zero, suc, ◌+◌, ◌<◌, Bool, true, false, cond, Option, Some, None, List, [], ◌∷◌, ◌++◌, length, get_or, take, slice_get, Contains, ◌⊎◌, inl, inr, arith}
+use Rattle.std.proofs.Common.{◌≡◌, ◌∙◌, refl, sym, ap, subst, ℕ, ◌+◌, ◌<◌, Bool, true, false, cond, Option, Some, None, List, [], ◌∷◌, ◌++◌, length, get_or, take, slice_get, Contains, ◌⊎◌, inl, inr}
 use Rattle.std.specs.List.{AllZip}
 use Rattle.std.proofs.lemmas.List.{take_more}
 use Rattle.std.proofs.lemmas.List.Elements.{Contains-append_cases}
 use Rattle.std.proofs.lemmas.Slice.Zip.{AllZip-left}
-use Rattle.lg_base.proofs.Elements.{contains_cases, contains_none, contains_here}
+use Rattle.lg_base.proofs.Elements.{contains_cases, contains_none}
 use Rattle.lg_eprune.specs.Live.{WordTree}
 use Rattle.lg_gram.specs.Connectors.{Connector}
 use Rattle.lg_gram.specs.Disjuncts.{choice_of}
@@ -13,10 +13,10 @@ use Rattle.lg_gram.specs.Measures.{Choice, choices_of}
 use Rattle.lg_gram.specs.Rules.{chosen_at, left_list, right_list}
 use Rattle.lg_gram.specs.Trees.{Tree}
 use Rattle.lg_gram.specs.declared.disjunct.Disjunct.{Disjunct}
-use Rattle.lg_reach.specs.Climbs.{Fits, Holds, IsFewer}
-use Rattle.lg_reach.specs.Ends.{Ends, HasSite, Keeps, KnowsAt, Suits, Uses, own, place_on}
+use Rattle.lg_reach.specs.Climbs.{Fits, Holds}
+use Rattle.lg_reach.specs.Ends.{Ends, HasSite, Suits, Uses, place_on}
 use Rattle.lg_reach.specs.Narrowed.{AreNarrowed}
-use Rattle.lg_reach.specs.Reach.{Narrows, Never, dropped, kept, nothing, one_word}
+use Rattle.lg_reach.specs.Reach.{Never, dropped, kept, nothing}
 use Rattle.lg_reach.specs.Walks.{Walks}
 use Rattle.lg_reach.specs.declared.nearest.Stand.{Stand}
 use Rattle.lg_reach.specs.declared.site.Sites.{Sites}
@@ -38,10 +38,10 @@ narrowed_then old now new stand firsts bs cs ds v w = record {
   fewer = narrows_append Never firsts bs cs ds v.fewer w.fewer;
   used = λ g suits. narrows_append (Uses g stand.position) firsts bs cs ds (v.used g suits) (w.used g suits);
   known = λ g suits d chosen u listed uses.
-    elim (Contains-append_cases firsts cs u listed) [
-      | inl m ↦ λ c n e. w.keeps stand.position c n (v.known g suits d chosen u m uses c n e)
-      | inr m ↦ w.known g suits d chosen u m uses
-    ];
+      elim (Contains-append_cases firsts cs u listed) [
+        | inl m ↦ λ c n e. w.keeps stand.position c n (v.known g suits d chosen u m uses c n e)
+        | inr m ↦ w.known g suits d chosen u m uses
+      ];
 }
 
 -- one word more
@@ -49,7 +49,7 @@ pub narrowed_more : (old now new : Sites) (stand : Stand) (words : List WordTree
     → AreNarrowed old now stand (take i words) done → AreNarrowed now new stand (word ∷ []) left → AreNarrowed old new stand (take (i + 1) words) (done ++ left)
 narrowed_more old now new stand words i word within read done left v w =
     subst (λ ws. AreNarrowed old new stand ws (done ++ left)) (ap (λ x. take i words ++ x ∷ []) read ∙ sym (take_more words i word within))
-      (narrowed_then old now new stand (take i words) done (word ∷ []) left v w)
+    (narrowed_then old now new stand (take i words) done (word ∷ []) left v w)
 
 -- what holds place by place holds at a place of both
 at_place : (R : Connector → ℕ → Type 0) (cs : List Connector) (ns : List ℕ) → AllZip R cs ns → (i : ℕ) (c : Connector) (n : ℕ) → slice_get cs i ≡ Some c → slice_get ns i ≡ Some n → R c n
@@ -97,6 +97,7 @@ module _ (old new : Sites) (stand : Stand) (word : WordTree) where
     stays g suits c m d chosen is =
         let (end, ls, rs, fits) = placed g suits.rules stand.position d chosen in
         subst (Contains cs) is ((w.leaves g suits).stays end (choice_of d) ls rs (subst (Contains (choices_of word.tree)) (sym is) m) fits)
+
     known : (g : Linkage) → Suits g stand → (d : Disjunct) → chosen_at g stand.position ≡ Some d → Contains (choices_of word.tree) (choice_of d) → (c : Connector) (n : ℕ)
         → Ends g stand.position c n → HasSite new stand.position c n
     known g suits d chosen m c n ends =
@@ -105,7 +106,7 @@ module _ (old new : Sites) (stand : Stand) (word : WordTree) where
         let (end, ls, rs, fits, there) = placed_with g suits.rules i d chosen c.right link ends.has ends.at in
         let here : slice_get (cond c.right d.right d.left) (place_on c.right link) ≡ Some c = ap (λ o. slice_get (cond c.right (right_list o) (left_list o)) (place_on c.right link)) (sym chosen) ∙ ends.connector in
         subst (HasSite new i c) ends.long
-          (seen_at (Ends g i) (HasSite new i) first end after (choices_of word.tree) cs d ls rs (w.leaves g suits) m fits c.right (place_on c.right link) c (link_length link) here there)
+        (seen_at (Ends g i) (HasSite new i) first end after (choices_of word.tree) cs d ls rs (w.leaves g suits) m fits c.right (place_on c.right link) c (link_length link) here there)
 
   -- with the tree of what is left, or with its own
   pub narrowed_by : (what : Tree) (after : Least) (left : WordTree) → Walks old new stand first (choices_of word.tree) (Some (choices_of what, after)) → left.word ≡ word.word

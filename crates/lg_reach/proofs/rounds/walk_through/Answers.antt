@@ -1,5 +1,4 @@
-use Rattle.std.proofs.Common.{◌≡◌, ◌+◌, ◌∷◌, ◌++◌, [], length, refl, sym, ap, subst, ◌∙◌, slice_index_or, arith}
-use Rattle.lg_eprune.specs.Live.{WordTree}
+use Rattle.std.proofs.Common.{◌≡◌, ◌+◌, [], length, refl, sym, subst, ◌∙◌, slice_index_or, arith}
 use Rattle.lg_reach.specs.Narrowed.{AreNarrowed}
 use Rattle.lg_reach.specs.declared.nearest.Stand.{Stand}
 use Rattle.lg_reach.proofs.Rounding.{AreWalkedTo, read_at, walked_all, walked_more, walked_none}
@@ -21,8 +20,8 @@ loop-position-preserved c =
     let left = c.in_ok-reach_words.field-0 in
     let same : c.items.result.now ≡ slice_index_or words at.position [] = c.items.ensures ∙ read_at words at.position c.index-positions-position.result c.loop-position-test.true c.index-positions-position.is in
     subst (λ ks. AreWalkedTo words ks known new (at.position + 1)) (sym c.in_ok-push.ensures.items)
-      (walked_more words at.kept.items known at.sites new at.position at.invariant stand refl refl refl left
-        (subst (λ ws. AreNarrowed at.sites new stand ws left) same c.in_ok-reach_words.ensures))
+    (walked_more words at.kept.items known at.sites new at.position at.invariant stand refl refl refl left
+    (subst (λ ws. AreNarrowed at.sites new stand ws left) same c.in_ok-reach_words.ensures))
 
 pub returns : goal.returns
 returns c =

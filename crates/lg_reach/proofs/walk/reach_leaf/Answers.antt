@@ -17,4 +17,4 @@ returns c =
     let from : c.on.result ≡ least_on c.args.connector.now.right start = c.on.ensures ∙ ap (λ b. cond b start.right start.left) c.is_right.ensures in
     subst (λ t. Walks c.args.sites.now c.add.new.self c.args.stand.now start (single c.args.connector.now ∷ []) (Some (choices_of t, c.after.result))) (sym c.leaf.ensures)
     (walks_link c.args.sites.now c.add.new.self c.args.stand.now start c.after.result c.args.connector.now c.in-Some.length c.in_ok-add.ensures.keeps c.in_ok-add.ensures.added
-      (λ g suits n ends long. c.in-Some.ensures g suits n ends (subst (λ m. m ≤ n) (sym from) long)) c.after.ensures)
+    (λ g suits n ends long. c.in-Some.ensures g suits n ends (subst (λ m. m ≤ n) (sym from) long)) c.after.ensures)

@@ -1,4 +1,4 @@
-use Rattle.std.proofs.Common.{◌≡◌, ◌∷◌, ◌⊎◌, inl, inr, [], Some, None, ap, sym, subst, ◌∙◌}
+use Rattle.std.proofs.Common.{◌≡◌, inl, inr, Some, None, ap, subst, ◌∙◌}
 use Rattle.lg_eprune.specs.Live.{WordTree}
 use Rattle.lg_gram.specs.Measures.{choices_of}
 use Rattle.lg_gram.specs.Trees.{tree_of}
@@ -15,8 +15,8 @@ returns-in_default c =
     let stand = c.args.stand.now in
     let same : tree_of c.expr.result.now ≡ c.args.word.now.tree = ap tree_of c.expr.ensures.value ∙ ap (λ (w : WordTree). w.tree) c.word.view_is in
     narrowed_away s new stand c.args.word.now
-      (subst (λ t. Walks s new stand first (choices_of t) None) same
-        (subst (λ o. Walks s new stand first (choices_of (tree_of c.expr.result.now)) (seen o)) c.in_default.is c.in_ok-left.ensures))
+    (subst (λ t. Walks s new stand first (choices_of t) None) same
+    (subst (λ o. Walks s new stand first (choices_of (tree_of c.expr.result.now)) (seen o)) c.in_default.is c.in_ok-left.ensures))
 
 pub returns : goal.returns
 returns c =
@@ -29,10 +29,10 @@ returns c =
     let same : tree_of c.expr.result.now ≡ c.args.word.now.tree = ap tree_of c.expr.ensures.value ∙ own in
     let named : c.in_ok-of.field-0 ≡ c.args.word.now.word = c.in_ok-of.ensures ∙ c.bytes.ensures ∙ ap (λ (w : WordTree). w.word) c.word.view_is in
     narrowed_by s new stand c.args.word.now what after (record { word = c.in_ok-of.field-0; tree = tree_of c.in_ok-formula.formula })
-      (subst (λ t. Walks s new stand first (choices_of t) (Some (choices_of what, after))) same
-        (subst (λ o. Walks s new stand first (choices_of (tree_of c.expr.result.now)) (seen o)) c.in-Some.is c.in_ok-left.ensures))
-      named
-      (elim c.in_ok-formula.ensures [
-        | inl is ↦ inl is
-        | inr is ↦ inr (is ∙ own)
-      ])
+    (subst (λ t. Walks s new stand first (choices_of t) (Some (choices_of what, after))) same
+    (subst (λ o. Walks s new stand first (choices_of (tree_of c.expr.result.now)) (seen o)) c.in-Some.is c.in_ok-left.ensures))
+    named
+    (elim c.in_ok-formula.ensures [
+      | inl is ↦ inl is
+      | inr is ↦ inr (is ∙ own)
+    ])

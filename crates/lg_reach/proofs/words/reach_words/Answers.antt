@@ -1,4 +1,4 @@
-use Rattle.std.proofs.Common.{◌+◌, ◌++◌, ◌∷◌, [], append-nil, sym, subst, take}
+use Rattle.std.proofs.Common.{◌+◌, ◌∷◌, [], append-nil, sym, subst, take}
 use Rattle.std.proofs.lemmas.List.{take_all}
 use Rattle.lg_reach.specs.Narrowed.{AreNarrowed}
 use Rattle.lg_reach.specs.Reach.{one_word}
@@ -19,8 +19,8 @@ loop-word-preserved c =
     let words = c.args.words.now in
     let word = c.word-item.result in
     subst (λ ks. AreNarrowed old new stand (take (at.word-index + 1) words) ks) (sym c.in_ok-push.ensures.items)
-      (narrowed_more old at.sites new stand words at.word-index word c.loop-word-test.true c.word-item.is at.kept.items (c.in-Some.left ∷ []) at.invariant
-        (subst (λ o. AreNarrowed at.sites new stand (word ∷ []) (one_word o)) c.in-Some.is c.in_ok-left.ensures))
+    (narrowed_more old at.sites new stand words at.word-index word c.loop-word-test.true c.word-item.is at.kept.items (c.in-Some.left ∷ []) at.invariant
+    (subst (λ o. AreNarrowed at.sites new stand (word ∷ []) (one_word o)) c.in-Some.is c.in_ok-left.ensures))
 
 pub loop-word-preserved-in_default : goal.loop-word-preserved-in_default
 loop-word-preserved-in_default c =
@@ -31,12 +31,12 @@ loop-word-preserved-in_default c =
     let words = c.args.words.now in
     let word = c.word-item.result in
     subst (λ ks. AreNarrowed old new stand (take (at.word-index + 1) words) ks) (append-nil at.kept.items)
-      (narrowed_more old at.sites new stand words at.word-index word c.loop-word-test.true c.word-item.is at.kept.items [] at.invariant
-        (subst (λ o. AreNarrowed at.sites new stand (word ∷ []) (one_word o)) c.in_default.is c.in_ok-left.ensures))
+    (narrowed_more old at.sites new stand words at.word-index word c.loop-word-test.true c.word-item.is at.kept.items [] at.invariant
+    (subst (λ o. AreNarrowed at.sites new stand (word ∷ []) (one_word o)) c.in_default.is c.in_ok-left.ensures))
 
 pub returns : goal.returns
 returns c =
     let at = c.loop-word in
     let words = c.args.words.now in
     subst (λ ks. AreNarrowed c.args.sites.now at.sites c.args.stand.now words ks) (sym c.of.ensures)
-      (subst (λ ws. AreNarrowed c.args.sites.now at.sites c.args.stand.now ws at.kept.items) (take_all at.word-index words c.loop-word-test.false) at.invariant)
+    (subst (λ ws. AreNarrowed c.args.sites.now at.sites c.args.stand.now ws at.kept.items) (take_all at.word-index words c.loop-word-test.false) at.invariant)
