@@ -9,12 +9,12 @@ use Rattle.lg_eprune.specs.Live.{WordTree}
 use Rattle.lg_gram.specs.Connectors.{Connector}
 use Rattle.lg_gram.specs.Disjuncts.{choice_of}
 use Rattle.lg_gram.specs.Linkages.{Linkage}
-use Rattle.lg_gram.specs.Measures.{Choice, choices_of}
+use Rattle.lg_gram.specs.Measures.{Choice}
 use Rattle.lg_gram.specs.Rules.{chosen_at, left_list, right_list}
 use Rattle.lg_gram.specs.declared.disjunct.Disjunct.{Disjunct}
-use Rattle.lg_reach.specs.Ends.{AreKnown, Ends, HasSite, HaveChosen, IsLinkageOf, Keeps, Knows, KnowsAt, Suits, Uses, place_on}
+use Rattle.lg_reach.specs.Ends.{AreKnown, HaveChosen, IsLinkageOf, Knows, KnowsAt, Suits, Uses, place_on}
 use Rattle.lg_reach.specs.Narrowed.{AreNarrowed}
-use Rattle.lg_reach.specs.Reach.{HaveFewer, HaveUsed, Narrows, Never, nothing}
+use Rattle.lg_reach.specs.Reach.{HaveUsed, Narrows, Never, nothing}
 use Rattle.lg_reach.specs.Rounds.{AreWalked, IsAmong}
 use Rattle.lg_reach.specs.declared.nearest.Stand.{Stand}
 use Rattle.lg_reach.specs.declared.site.Sites.{Sites}

@@ -1,5 +1,5 @@
 -- Walks through the parts of an expression make one through the whole.
-use Rattle.std.proofs.Common.{◌≡◌, ◌∙◌, refl, sym, ap, subst, ℕ, suc, ◌+◌, ◌≤◌, ◌<◌, ℤ, Bool, true, false, true≢false, cond, Option, Some, None, List, [], ◌∷◌, ◌++◌, length, get_or, drop, take, map, Contains, arith}
+use Rattle.std.proofs.Common.{◌≡◌, ◌∙◌, refl, sym, ap, subst, ℕ, ◌+◌, ◌≤◌, ◌<◌, ℤ, Bool, true, false, true≢false, Option, Some, None, List, [], ◌∷◌, ◌++◌, length, get_or, drop, take, map, arith}
 use Rattle.std.specs.Option.{option_map}
 use Rattle.std.proofs.lemmas.List.{append_assoc, append-nil, drop_more, drop_all, map-append, take_all, take_more}
 use Rattle.lg_gram.specs.Connectors.{Connector}
@@ -8,7 +8,7 @@ use Rattle.lg_gram.specs.Measures.{Choice, choices_of, choices_of_any, dearer, n
 use Rattle.lg_gram.specs.Trees.{Tree, Trees, no_trees, tree, tree_of, trees_of, trees_in}
 use Rattle.lg_gram.specs.declared.expr.Expr.{Expr}
 use Rattle.lg_reach.specs.Climbs.{IsFewer, IsWithin, Leaves}
-use Rattle.lg_reach.specs.Ends.{Ends, HasSite, IsNear, Keeps, Suits}
+use Rattle.lg_reach.specs.Ends.{Ends, HasSite, Keeps, Suits}
 use Rattle.lg_reach.specs.Walks.{Walks, behind_link, nearer_by}
 use Rattle.lg_reach.specs.declared.nearest.Stand.{Stand}
 use Rattle.lg_reach.specs.declared.site.Sites.{Sites}

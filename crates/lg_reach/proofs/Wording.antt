@@ -1,10 +1,10 @@
 -- Words that are walked through one after another.
-use Rattle.std.proofs.Common.{◌≡◌, ◌∙◌, refl, sym, ap, subst, ℕ, zero, suc, ◌+◌, ◌<◌, Bool, true, false, cond, Option, Some, None, List, [], ◌∷◌, ◌++◌, length, get_or, take, slice_get, Contains, ◌⊎◌, inl, inr, arith}
+use Rattle.std.proofs.Common.{◌≡◌, ◌∙◌, refl, sym, ap, subst, ℕ, ◌+◌, ◌<◌, Bool, true, false, cond, Option, Some, None, List, [], ◌∷◌, ◌++◌, length, get_or, take, slice_get, Contains, ◌⊎◌, inl, inr}
 use Rattle.std.specs.List.{AllZip}
 use Rattle.std.proofs.lemmas.List.{take_more}
 use Rattle.std.proofs.lemmas.List.Elements.{Contains-append_cases}
 use Rattle.std.proofs.lemmas.Slice.Zip.{AllZip-left}
-use Rattle.lg_base.proofs.Elements.{contains_cases, contains_none, contains_here}
+use Rattle.lg_base.proofs.Elements.{contains_cases, contains_none}
 use Rattle.lg_eprune.specs.Live.{WordTree}
 use Rattle.lg_gram.specs.Connectors.{Connector}
 use Rattle.lg_gram.specs.Disjuncts.{choice_of}
@@ -13,10 +13,10 @@ use Rattle.lg_gram.specs.Measures.{Choice, choices_of}
 use Rattle.lg_gram.specs.Rules.{chosen_at, left_list, right_list}
 use Rattle.lg_gram.specs.Trees.{Tree}
 use Rattle.lg_gram.specs.declared.disjunct.Disjunct.{Disjunct}
-use Rattle.lg_reach.specs.Climbs.{Fits, Holds, IsFewer}
-use Rattle.lg_reach.specs.Ends.{Ends, HasSite, Keeps, KnowsAt, Suits, Uses, own, place_on}
+use Rattle.lg_reach.specs.Climbs.{Fits, Holds}
+use Rattle.lg_reach.specs.Ends.{Ends, HasSite, Suits, Uses, place_on}
 use Rattle.lg_reach.specs.Narrowed.{AreNarrowed}
-use Rattle.lg_reach.specs.Reach.{Narrows, Never, dropped, kept, nothing, one_word}
+use Rattle.lg_reach.specs.Reach.{Never, dropped, kept, nothing}
 use Rattle.lg_reach.specs.Walks.{Walks}
 use Rattle.lg_reach.specs.declared.nearest.Stand.{Stand}
 use Rattle.lg_reach.specs.declared.site.Sites.{Sites}

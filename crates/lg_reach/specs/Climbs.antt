@@ -1,5 +1,5 @@
 -- Links from near to far: each connector of a list ends farther than the one before it.
-use Rattle.std.specs.Prelude.{◌≡◌, ℕ, suc, ◌≤◌, List, [], ◌∷◌, Option, Some, None}
+use Rattle.std.specs.Prelude.{ℕ, suc, ◌≤◌, List, [], ◌∷◌, Option, Some, None}
 use Rattle.std.specs.List.{AllZip, Contains}
 use Rattle.lg_gram.specs.Connectors.{Connector}
 use Rattle.std.specs.Option.{option_map}

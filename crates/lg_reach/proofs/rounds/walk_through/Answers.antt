@@ -1,5 +1,4 @@
-use Rattle.std.proofs.Common.{◌≡◌, ◌+◌, ◌∷◌, ◌++◌, [], length, refl, sym, ap, subst, ◌∙◌, slice_index_or, arith}
-use Rattle.lg_eprune.specs.Live.{WordTree}
+use Rattle.std.proofs.Common.{◌≡◌, ◌+◌, [], length, refl, sym, subst, ◌∙◌, slice_index_or, arith}
 use Rattle.lg_reach.specs.Narrowed.{AreNarrowed}
 use Rattle.lg_reach.specs.declared.nearest.Stand.{Stand}
 use Rattle.lg_reach.proofs.Rounding.{AreWalkedTo, read_at, walked_all, walked_more, walked_none}

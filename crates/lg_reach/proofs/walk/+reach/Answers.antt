@@ -2,7 +2,7 @@ use Rattle.std.proofs.Common.{rules, ◌≡◌, ◌+◌, ◌∷◌, ◌++◌, []
 use Rattle.lg_gram.specs.Measures.{choices_of, choices_of_any, picks_of}
 use Rattle.lg_gram.specs.Trees.{all_of, expr_items, one_of, priced, tree_of, trees_in}
 use Rattle.lg_reach.specs.Climbs.{seen}
-use Rattle.lg_reach.specs.Walks.{Walks, nearer_by}
+use Rattle.lg_reach.specs.Walks.{Walks}
 use Rattle.lg_reach.proofs.Walking.{WalksOn, WalksTo, all_end, all_more, all_none, on_start, so_far, to_end, to_more, to_same, to_start, walks_dearer}
 use Rattle.lg_reach.proofs.Folding.{tree_of-Priced}
 use Rattle.lg_reach.proofs.walk.+reach.Goals as goal

@@ -1,4 +1,4 @@
-use Rattle.std.proofs.Common.{◌≡◌, ◌∷◌, ◌⊎◌, inl, inr, [], Some, None, ap, sym, subst, ◌∙◌}
+use Rattle.std.proofs.Common.{◌≡◌, inl, inr, Some, None, ap, subst, ◌∙◌}
 use Rattle.lg_eprune.specs.Live.{WordTree}
 use Rattle.lg_gram.specs.Measures.{choices_of}
 use Rattle.lg_gram.specs.Trees.{tree_of}

@@ -1,4 +1,4 @@
-use Rattle.std.proofs.Common.{◌+◌, ◌++◌, ◌∷◌, [], append-nil, sym, subst, take}
+use Rattle.std.proofs.Common.{◌+◌, ◌∷◌, [], append-nil, sym, subst, take}
 use Rattle.std.proofs.lemmas.List.{take_all}
 use Rattle.lg_reach.specs.Narrowed.{AreNarrowed}
 use Rattle.lg_reach.specs.Reach.{one_word}
