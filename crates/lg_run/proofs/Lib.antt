@@ -48,3 +48,4 @@ pub mod SolidPages
 pub mod SolidAnswers
 pub mod UsageLines
 pub mod AuditedRuns
+pub mod Sends

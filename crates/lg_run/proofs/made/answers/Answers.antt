@@ -5,6 +5,9 @@ use Rattle.lg_answer.specs.Pages.{default_options}
 use Rattle.lg_run.specs.Words.{HasCounts}
 use Rattle.lg_run.specs.Documents.{listings, no_knowledge}
 use Rattle.lg_run.specs.Listers.{Lister}
+use denote.Param.Send.{sendable}
+use Rattle.std.proofs.Crossing.{crosses}
+use Rattle.lg_run.proofs.Sends.{problem_sends, ranked_sends}
 use Rattle.lg_run.proofs.made.answers.Goals as goal
 
 -- there are no rules, and the usual numbers are in their range
@@ -20,3 +23,7 @@ returns-clause-legal g c =
     let usual : Lister = record { know = no_knowledge; options = default_options } in
     let is : c.new-lister.result ≡ usual = c.new-lister.ensures ∙ (λ i. record { know = c.no_knowledge-know.ensures i; options = c.default.ensures i }) in
     subst (λ (l : Lister). IfOk c.run_sessions.result (λ outcome. IsLegal (run_of (listings l.know l.options) c.args.scripts.now c.args.dict.now outcome.journal) outcome.replies)) is c.run_sessions.ensures.legal
+
+-- a listing may go to another thread with its session
+pub run_sessions-requires-send-E-Held : goal.run_sessions-requires-send-E-Held
+run_sessions-requires-send-E-Held g c κs within = search (sendable, crosses, problem_sends, ranked_sends) depth 80 fits 20000

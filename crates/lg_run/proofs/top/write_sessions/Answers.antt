@@ -5,6 +5,9 @@ use Rattle.lg_run.specs.Documents.{listings}
 use Rattle.lg_run.specs.Listers.{Lister}
 use Rattle.lg_run.specs.Written.{AreAllPrintable}
 use Rattle.lg_run.proofs.Printed.{all_printed}
+use denote.Param.Send.{sendable}
+use Rattle.std.proofs.Crossing.{crosses}
+use Rattle.lg_run.proofs.Sends.{problem_sends, ranked_sends}
 use Rattle.lg_run.proofs.top.write_sessions.Goals as goal
 
 -- what is answered is legal, so it can be printed
@@ -21,3 +24,7 @@ write_outcome-requires-clause-printable g c =
     let journal = c.in-Ok.outcome.journal in
     let legal = subst (λ (l : Lister). IsLegal (run_of (listings l.know l.options) c.args.scripts.now c.args.dict.now journal) replies) c.new-lister.ensures c.in-Ok.ensures.legal in
     all_printed c.args.know.now c.args.setup.listing (script_views c.args.scripts.now) c.args.dict.now journal replies legal
+
+-- a listing may go to another thread with its session
+pub run_sessions-requires-send-E-Held : goal.run_sessions-requires-send-E-Held
+run_sessions-requires-send-E-Held g c κs within = search (sendable, crosses, problem_sends, ranked_sends) depth 80 fits 20000
