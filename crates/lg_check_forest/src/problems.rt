@@ -3,8 +3,8 @@
 //! A disjunct is a text of one letter for each connector, from near to far: a capital for one to the right, a small
 //! letter for one to the left, and `@` before one that is multi. So `@adS` is `@A- & D- & S+`. The disjuncts of a position
 //! are written with `|` between them, in the order of their texts.
-use lg_base::{Cost, Text};
-use lg_gram::{Connector, Connectors, Disjunct, Disjuncts, Linkage, Positions, Problem};
+use lg_base::Cost;
+use lg_gram::{Connector, Connectors, Disjunct, Disjuncts, Linkage, Positions, Problem, Word};
 use std::alloc::Global;
 use std::test::Fail;
 
@@ -36,9 +36,9 @@ fn disjunct(alloc: Global, letters: &[u8]) -> Result<Disjunct, Fail> {
         }
     }
     Ok(Disjunct {
-        word: Text::of(alloc, letters)?,
-        left: Connectors::of(left),
-        right: Connectors::of(right),
+        word: Word::of(alloc, letters)?,
+        left: Connectors::of(alloc, left)?,
+        right: Connectors::of(alloc, right)?,
         cost: Cost::of(0),
     })
 }

@@ -180,9 +180,9 @@ fn disjunct(alloc: Global, word: &[u8], side: usize, cost: Cost) -> Result<Disju
         left.push(connector("A", "", false)?)?;
     }
     Ok(Disjunct {
-        word: Text::of(alloc, word)?,
-        left: Connectors::of(left),
-        right: Connectors::of(Vec::new(alloc)),
+        word: Word::of(alloc, word)?,
+        left: Connectors::of(alloc, left)?,
+        right: Connectors::of(alloc, Vec::new(alloc))?,
         cost,
     })
 }

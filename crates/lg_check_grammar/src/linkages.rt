@@ -2,9 +2,10 @@
 //!
 //! A disjunct is a text of one letter for each connector, from near to far: a capital for one to the right, a small
 //! letter for one to the left, and `@` before one that is multi. So `@adS` is `@A- & D- & S+`.
-use lg_base::{Cost, Text};
+use lg_base::Cost;
 use lg_gram::{
     Chosen, Connector, Connectors, Disjunct, Disjuncts, Link, Linkage, Links, Positions, Problem,
+    Word,
 };
 use std::alloc::Global;
 use std::test::Fail;
@@ -29,9 +30,9 @@ fn disjunct(alloc: Global, letters: &str) -> Result<Disjunct, Fail> {
         }
     }
     Ok(Disjunct {
-        word: Text::of(alloc, letters.as_bytes())?,
-        left: Connectors::of(left),
-        right: Connectors::of(right),
+        word: Word::of(alloc, letters.as_bytes())?,
+        left: Connectors::of(alloc, left)?,
+        right: Connectors::of(alloc, right)?,
         cost: Cost::of(0),
     })
 }

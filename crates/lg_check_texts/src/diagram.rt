@@ -5,7 +5,9 @@
 ghost use Rattle.std.specs.Prelude.{◌≡◌, ◌≤◌, length};
 
 use lg_base::{Cost, Text, Texts};
-use lg_gram::{Connector, Connectors, Disjunct, Disjuncts, Positions, Problem, Token, Tokens};
+use lg_gram::{
+    Connector, Connectors, Disjunct, Disjuncts, Positions, Problem, Token, Tokens, Word,
+};
 use lg_rules::{PLAIN_POSITIONS, plain_list};
 use lg_text::diagram;
 use std::alloc::Global;
@@ -51,9 +53,9 @@ fn disjunct(alloc: Global, text: &str) -> Result<Disjunct, Fail> {
         }
     }
     Ok(Disjunct {
-        word: Text::of(alloc, text.as_bytes())?,
-        left: Connectors::of(left),
-        right: Connectors::of(right),
+        word: Word::of(alloc, text.as_bytes())?,
+        left: Connectors::of(alloc, left)?,
+        right: Connectors::of(alloc, right)?,
         cost: Cost::of(0),
     })
 }

@@ -7,7 +7,7 @@ ghost use Rattle.lg_text.specs.Replies.{IsAnswerTo, IsPrintableReply};
 use lg_base::{Cost, Text, Texts};
 use lg_gram::{
     Bound, Chosen, CommandKind, Connector, Connectors, Disjunct, EditRefusal, Link, Linkage, Links,
-    Page, PageItem, PageItems, Place, Reply, Stats, Token, Tokens, Violation, matches,
+    Page, PageItem, PageItems, Place, Reply, Stats, Token, Tokens, Violation, Word, matches,
 };
 use lg_text::{Look, bound_text, journal_text, linkage_text, listing_text, page_text, reply_text};
 use std::alloc::Global;
@@ -43,7 +43,8 @@ fn side(alloc: Global, one: Connector) -> Result<Connectors, Fail>
 {
     let mut items = Vec::new(alloc);
     items.push(one)?;
-    Ok(Connectors::of(items))
+    let side = Connectors::of(alloc, items)?;
+    Ok(side)
 }
 
 fn pair(alloc: Global, near: Connector, far: Connector) -> Result<Connectors, Fail>
@@ -52,7 +53,8 @@ fn pair(alloc: Global, near: Connector, far: Connector) -> Result<Connectors, Fa
     let mut items = Vec::new(alloc);
     items.push(near)?;
     items.push(far)?;
-    Ok(Connectors::of(items))
+    let side = Connectors::of(alloc, items)?;
+    Ok(side)
 }
 
 // What a position uses.
@@ -65,7 +67,7 @@ fn word(
 ) -> Result<Option<Disjunct>, Fail>
     ensures { IfOk result (λ word. word ≡ Some (record { word = text.now; left = left; right = right; cost = cost })) }
 {
-    let word = Text::of(alloc, text)?;
+    let word = Word::of(alloc, text)?;
     Ok(Some(Disjunct {
         word,
         left,

@@ -1,5 +1,5 @@
 -- Choices whose connectors are told by places in a list of leaves, and how they lie in memory.
-use Rattle.std.specs.Prelude.{◌≤◌, ◌-◌, ◌+ℤ◌, ℕ, ℤ, pos, false, List, [], ◌++◌, length, map, take, drop, get_or}
+use Rattle.std.specs.Prelude.{◌≤◌, ◌-◌, ◌+ℤ◌, ℕ, ℤ, Bool, pos, false, if◌then◌else◌, List, [], ◌++◌, length, map, take, drop, get_or}
 use Rattle.std.specs.List.{All, flat_map}
 use Rattle.lg_gram.specs.Connectors.{Connector}
 use Rattle.lg_gram.specs.Measures.{Choice}
@@ -16,6 +16,10 @@ pub record Places : Type 0 where
 -- the choice of no place, which costs nothing
 abbrev pub no_places : Places
 no_places = record { left = []; right = []; cost = pos 0 }
+
+-- the places on a side, `true` the right
+abbrev pub side_of : Bool → Places → List ℕ
+side_of right p = if right then p.right else p.left
 
 -- no place, at a cost
 abbrev pub only_cost : ℤ → Places

@@ -3,7 +3,7 @@ ghost use Rattle.std.specs.Prelude.{◌≡◌, ◌<◌, ◌≤◌, ◌+ℤ◌, �
 ghost use Rattle.std.specs.List.{All};
 ghost use Rattle.lg_base.specs.Costs.{IsWithinCosts};
 ghost use Rattle.lg_gram.specs.Problems.{IsDisjunctCost};
-ghost use Rattle.lg_disj.specs.Places.{no_places, listed, raised, raised_row, IsArena, IsCheap};
+ghost use Rattle.lg_disj.specs.Places.{no_places, side_of, listed, raised, raised_row, IsArena, IsCheap};
 
 use lg_base::{Cost, NoMemory};
 use std::alloc::Global;
@@ -61,6 +61,19 @@ impl Choices {
     {
         let row = self.rows[number];
         &self.places[row.middle..row.end]
+    }
+
+    /// The places on a side, `true` the right, from near to far.
+    pub(crate) fn side(&self, right: bool, number: usize) -> &[usize]
+        requires arena { IsArena self.now }
+        requires within { number < length (listed self.now) }
+        ensures { result.now ≡ side_of right (get_or (listed self.now) number no_places) }
+    {
+        if right {
+            self.right(number)
+        } else {
+            self.left(number)
+        }
     }
 
     /// What a choice costs.

@@ -4,16 +4,17 @@ ghost use Rattle.std.specs.List.{All, Contains};
 ghost use Rattle.std.specs.List.Sorted.{IsStrictlySortedBy};
 ghost use Rattle.lg_gram.specs.Measures.{Choice as Seen};
 ghost use Rattle.lg_disj.specs.Choices.{lists_cmp, disjunct_of, IsCheapest};
-ghost use Rattle.lg_disj.specs.Places.{leaf_at, choice_by, part, row_in, LiesIn, listed, IsArena};
+ghost use Rattle.lg_disj.specs.Places.{choice_by, listed, IsArena};
 ghost use Rattle.lg_disj.specs.Grown.{IsPlaced, StandFor};
 ghost use Rattle.lg_disj.specs.Ranks.{IsKept};
 
 use crate::arena::{Choices, Row};
 use crate::numbers::{rows_of, with_ranks};
 use crate::ranks::{ranks_at, ranks_of};
+use crate::sharing::{Guesses, list_of};
 use lg_base::{NoMemory, Text};
 use lg_gram::law::connectors_are_ordered;
-use lg_gram::{Connector, Connectors, Disjunct, Disjuncts};
+use lg_gram::{Connector, Disjunct, Disjuncts, Word};
 use std::alloc::Global;
 use std::cmp::Ordering;
 
@@ -49,7 +50,7 @@ fn kept_rows(alloc: Global, ranked: &[usize], rows: &[Row]) -> Result<Vec<Row>, 
     rows_of(alloc, &numbered)
 }
 
-/// The choices as disjuncts of a word, in the same order.
+/// The choices as disjuncts of a word, in the same order. They share the word, and many of their lists.
 pub(crate) fn disjuncts_of(
     alloc: Global,
     word: &Text,
@@ -60,30 +61,29 @@ pub(crate) fn disjuncts_of(
     requires placed { All (IsPlaced leaves.now) (listed choices.now) }
     ensures { IfOk result (λ disjuncts. disjuncts ≡ map (disjunct_of word.now) (map (choice_by leaves.now) (listed choices.now))) }
 {
+    let word = Word::of(alloc, word.bytes())?;
+    let mut lefts = Guesses::new();
+    let mut rights = Guesses::new();
     let mut disjuncts = Vec::with_capacity(alloc, choices.len())?;
     for number in 0..choices.len() {
+        let left = list_of(
+            alloc, leaves, choices, false, number, &disjuncts, &mut lefts,
+        )?;
+        let right = list_of(
+            alloc,
+            leaves,
+            choices,
+            true,
+            number,
+            &disjuncts,
+            &mut rights,
+        )?;
         disjuncts.push(Disjunct {
-            word: Text::of(alloc, word.bytes())?,
-            left: connectors_at(alloc, leaves, choices.left(number))?,
-            right: connectors_at(alloc, leaves, choices.right(number))?,
+            word: word.clone()?,
+            left,
+            right,
             cost: choices.cost(number),
         })?;
     }
     Ok(Disjuncts::of(disjuncts))
-}
-
-// The leaves at these places.
-fn connectors_at(
-    alloc: Global,
-    leaves: &[Connector],
-    places: &[usize],
-) -> Result<Connectors, NoMemory>
-    requires { All (λ n. n < length leaves.now) places.now }
-    ensures { IfOk result (λ list. list ≡ map (leaf_at leaves.now) places.now) }
-{
-    let mut list = Vec::with_capacity(alloc, places.len())?;
-    for place in places {
-        list.push(leaves[*place])?;
-    }
-    Ok(Connectors::of(list))
 }

@@ -17,6 +17,7 @@ mod names;
 mod numbers;
 mod product;
 mod ranks;
+mod sharing;
 
 use crate::arena::Choices;
 use crate::cheapest::{cheapest, disjuncts_of};

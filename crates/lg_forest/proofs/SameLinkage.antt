@@ -1,5 +1,5 @@
 -- A linkage is known by what each position uses and by its set of links.
-use Rattle.std.proofs.Common.{◌≡◌, ◌↔◌, ℕ, suc, ◌+◌, ◌<◌, ◌≤◌, inl, inr, refl, sym, ap, ◌∙◌, subst, List, [], ◌∷◌, ◌++◌, take, length, get_or, Option, Some, None, IsSome, MatchOption, Contains, slice_get, slice_index_or, Bool, true, is_eq, Ordering, Less, Equal, Greater, arith}
+use Rattle.std.proofs.Common.{◌≡◌, ◌↔◌, ℕ, suc, ◌+◌, ◌<◌, ◌≤◌, inl, inr, refl, sym, ap, ◌∙◌, subst, List, [], ◌∷◌, ◌++◌, take, length, get_or, Option, Some, None, MatchOption, Contains, slice_get, slice_index_or, Bool, true, is_eq, Ordering, Less, Equal, Greater, arith}
 use Rattle.std.specs.Bool.{Decides, one_answer}
 use Rattle.std.specs.Cmp.{IsTotalOrder}
 use Rattle.std.specs.Ordering.{eq_by_cmp}
@@ -121,10 +121,6 @@ linkage_drafted positions p g chosen links shown total is e rise same f =
     same_linkage g chosen links e (same_set total links g.links rise is.belongs.set
     (λ z m. (is.links z).1 (subst (λ w. Contains w z) f ((same z).0 m)))
     (λ z m. (same z).1 (subst (λ w. Contains w z) (sym f) ((is.links z).0 m))))
-
-pub of_some : {X : Type 0} (r : Option X) (P : Type 0) (Q : X → Type 0) → MatchOption r (P → ⊥) Q → P → IsSome r
-of_some None P Q m p = absurd (m p)
-of_some (Some x) P Q m p = refl
 
 pub choice_shown : (positions : List (List Disjunct)) (p : Draft) (g : Linkage) (i : ℕ) (o : Option Disjunct) (uses : List Use) (items position : List Disjunct) → IsDraftOf positions p g → uses ≡ p.uses → items ≡ position → i < length positions → position ≡ get_or positions i position
     → MatchOption o ((u : Use) → Contains uses u → (d : Disjunct) → u.word ≡ i → slice_get items u.disjunct ≡ Some d → ⊥) (λ d. (u : Use) × Contains uses u × (u.word ≡ i) × (slice_get items u.disjunct ≡ Some d)) → o ≡ chosen_at g i

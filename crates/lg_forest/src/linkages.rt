@@ -26,7 +26,7 @@ pub(crate) fn linkage_of(
     links_are_ordered();
     let chosen = chosen_of(alloc, problem.positions(), draft)?;
     let links = sorted_links(alloc, draft.links())?;
-    Ok(Linkage::of(chosen, links).unwrap())
+    Ok(Linkage::of_known(chosen, links))
 }
 
 // What each position uses.

@@ -9,7 +9,6 @@ ghost use Rattle.lg_gram.specs.Connectors.{Match, Agree, name_of, label_of, conn
 
 use crate::label::{LETTERS, Label};
 use crate::order::Ranked;
-use lg_base::List;
 use std::cmp::Ordering;
 use std::hash::{Hash, Hasher};
 use std::marker::Model;
@@ -200,6 +199,3 @@ fn merged(xs: &[u8], ys: &[u8]) -> [u8; LETTERS]
     }
     letters
 }
-
-/// A list of connectors.
-pub type Connectors = List<Connector>;

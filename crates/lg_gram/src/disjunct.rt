@@ -4,17 +4,18 @@ ghost use Rattle.std.specs.List.{Contains};
 ghost use Rattle.lg_gram.specs.Disjuncts.{disjunct_cmp};
 ghost use Rattle.lg_gram.specs.Rules.{left_list, right_list};
 
-use crate::connector::{Connector, Connectors};
+use crate::connector::Connector;
 use crate::order::{Ranked, rank_lists};
-use lg_base::{Cost, List, Text};
+use crate::shared::{Connectors, Word};
+use lg_base::{Cost, List};
 use std::cmp::Ordering;
 use std::marker::Model;
 
 /// One way to use a word: its connectors to the left and to the right, each list from near to far, and what it costs.
-/// After the Link Grammar report, a word of a linkage uses exactly one disjunct.
+/// After the Link Grammar report, a word of a linkage uses exactly one disjunct. Copies share the word and both lists.
 #[derive(Clone, Debug, Drop, PartialEq, Eq)]
 pub struct Disjunct {
-    pub word: Text,
+    pub word: Word,
     pub left: Connectors,
     pub right: Connectors,
     pub cost: Cost,

@@ -17,9 +17,10 @@ pub mod order;
 pub mod ordered;
 pub mod problem;
 pub mod reply;
+pub mod shared;
 pub mod sizes;
 
-pub use connector::{Connector, Connectors, link_label, matches};
+pub use connector::{Connector, link_label, matches};
 pub use disjunct::{Chosen, Disjunct, Disjuncts, Positions, side};
 pub use edit::EditRefusal;
 pub use entry::{Entry, Item, ItemKind, Items, RawEntry, RawExpr, RawExprs};
@@ -33,4 +34,5 @@ pub use measures::{Excess, filled_formula, first_excess};
 pub use ordered::in_order;
 pub use problem::Problem;
 pub use reply::{CommandKind, Place, Places, Replies, Reply, ReplyLists};
+pub use shared::{Connectors, Word};
 pub use sizes::{choices, longest_side, nodes};

@@ -136,6 +136,14 @@ impl Linkage {
         }
     }
 
+    /// The linkage of these choices and links, of which it is known that they are one: none of them is looked at. No memory.
+    pub fn of_known(chosen: Chosen, links: Links) -> Linkage
+        requires { IsLinkage (record { chosen = chosen; links = links }) }
+        ensures { result ≡ record { chosen = chosen; links = links } }
+    {
+        Linkage { chosen, links }
+    }
+
     /// What each position uses.
     pub fn chosen(&self) -> &[Option<Disjunct>]
         ensures value { result.now ≡ self.now.chosen }

@@ -1,8 +1,8 @@
 -- The linkage that numbers stand for.
-use Rattle.std.proofs.Common.{◌≡◌, ℕ, List, [], length, get_or, Option, Some, None, IsSome, MatchOption, inl, inr, refl, sym, ◌∙◌, subst, arith}
+use Rattle.std.proofs.Common.{◌≡◌, ℕ, List, [], length, get_or, Option, None, inl, inr, refl, sym, ◌∙◌, subst, arith}
 use Rattle.std.proofs.lemmas.Bool.{cases_lt}
 use Rattle.std.proofs.lemmas.List.{get_or_past}
-use Rattle.lg_gram.specs.Linkages.{Linkage, IsLinkage}
+use Rattle.lg_gram.specs.Linkages.{Linkage}
 use Rattle.lg_gram.specs.declared.disjunct.Disjunct.{Disjunct}
 use Rattle.lg_gram.specs.declared.linkage.Link.{Link}
 use Rattle.lg_rank.specs.Meanings.{IsCodeOf, IsPacked, AreCodesOf}
@@ -24,11 +24,3 @@ unpacked positions g v os links codes is e f p =
     let is' : AreCodesOf positions os v.choices = subst (λ (t : List ℕ). AreCodesOf positions os t) e is in
     let chosen = choices_apart (λ i. get_or positions i []) os g.chosen v.choices (is'.long ∙ p.long) (coded_all positions os v.choices is') p.choices in
     λ k. record { chosen = chosen k; links = (f ∙ p.links) k }
-
-pub some_linkage : (o : Option Linkage) (x : Linkage) → MatchOption o (IsLinkage x → ⊥) (λ l. (l ≡ x) × IsLinkage x) → IsLinkage x → IsSome o
-some_linkage None x h is = absurd (h is)
-some_linkage (Some l) x h is = refl
-
-pub that_linkage : (o : Option Linkage) (x r : Linkage) → MatchOption o (IsLinkage x → ⊥) (λ l. (l ≡ x) × IsLinkage x) → o ≡ Some r → r ≡ x
-that_linkage None x r h e = absurd cc
-that_linkage (Some l) x r h e = (let f : l ≡ r = cc in sym f ∙ h.0)

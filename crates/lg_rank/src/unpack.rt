@@ -93,5 +93,5 @@ fn linkage_by(
 {
     let choices = choices_of(alloc, problem, codes)?;
     let links = links_of(alloc, small)?;
-    Ok(Linkage::of(Chosen::of(choices), Links::of(links)).unwrap())
+    Ok(Linkage::of_known(Chosen::of(choices), Links::of(links)))
 }
