@@ -1,5 +1,5 @@
 -- What is left after the last round is what is live.
-use Rattle.std.proofs.Common.{◌≡◌, ℕ, zero, suc, ◌+◌, ◌-◌, ◌<◌, inl, inr, refl, sym, ap, ◌∙◌, subst, Bool, true, false, not, List, [], ◌∷◌, ◌++◌, length, reverse, get_or, slice_index_or, Contains, true≢false, arith}
+use Rattle.std.proofs.Common.{◌≡◌, ℕ, zero, suc, ◌+◌, ◌-◌, ◌<◌, ◌≤◌, inl, inr, refl, sym, ap, ◌∙◌, subst, Bool, true, false, not, if◌then◌else◌, List, [], ◌∷◌, ◌++◌, length, reverse, get_or, slice_index_or, Contains, true≢false, arith}
 use Rattle.std.specs.Bool.{beq}
 use Rattle.std.specs.List.{list_any}
 use Rattle.std.proofs.lemmas.Bool.{cases_Bool, cases_lt, or_left, or_right}
@@ -10,7 +10,7 @@ use Rattle.std.proofs.lemmas.Option.{slice_get_within, slice_get-get_or, get_or_
 use Rattle.lg_gram.specs.Connectors.{Connector, Match}
 use Rattle.lg_gram.specs.Measures.{Choice, choices_of}
 use Rattle.lg_eprune.specs.Live.{WordTree, HasConnector, IsChoiceAt, SupportsItself, IsLive, IsLiveChoice, AreNarrowed}
-use Rattle.lg_eprune.specs.Cuts.{cut_words, do_lose, do_join, stays, swept, sweep_loses, word_leaves}
+use Rattle.lg_eprune.specs.Cuts.{cut_words, do_lose, do_join, stays, swept, swept_back, sweep_loses, next_round, round_loses, word_leaves}
 use Rattle.lg_base.proofs.Elements.{contains_none}
 use Rattle.lg_eprune.proofs.Choices.{passes_if}
 use Rattle.lg_eprune.proofs.Kept.{Kept, kept_itself, kept_cut, kept_finds, kept_from, narrowed}
@@ -157,34 +157,54 @@ module _ (positions : List (List WordTree)) where
     each = swept_kept true onward onward_partners 0 [] (λ k d l. absurd (omega arith)) now h.each;
   }
 
-  pub after_back : (now : List (List WordTree)) → AreLeft now → AreLeft (reverse (swept false [] (reverse now)))
+  pub after_back : (now : List (List WordTree)) → AreLeft now → AreLeft (swept_back now)
   after_back now h =
       let there = swept false [] (reverse now) in
       let long : length there ≡ length positions = length-swept false [] (reverse now) ∙ length-reverse now ∙ h.long in
       let turn : AreKept back 0 (reverse now) = turned onward back now h.long (λ k l. refl) h.each in
-      let swept_back : AreKept back 0 there = swept_kept false back back_partners 0 [] (λ k d l. absurd (omega arith)) (reverse now) turn in
+      let kept : AreKept back 0 there = swept_kept false back back_partners 0 [] (λ k d l. absurd (omega arith)) (reverse now) turn in
       record {
         long = length-reverse there ∙ long;
-        each = turned back onward there long (λ k l. omega arith) swept_back;
+        each = turned back onward there long (λ k l. omega arith) kept;
       }
 
-  -- a round
-  abbrev pub forward : List (List WordTree) → List (List WordTree)
-  forward now = swept true [] now
+  -- the positions before a round: a sweep to the right was the last
+  pub record IsForward (now : List (List WordTree)) : Type 0 where
+    pub left : AreLeft now
+    pub before : List (List WordTree)
+    pub swept : now ≡ swept true [] before
 
-  abbrev pub round : List (List WordTree) → List (List WordTree)
-  round now = reverse (swept false [] (reverse (swept true [] now)))
+  pub forward : (before : List (List WordTree)) → AreLeft before → IsForward (swept true [] before)
+  forward before h = record {
+    left = after_forward before h;
+    before = before;
+    swept = refl;
+  }
 
-  pub after_round : (now : List (List WordTree)) → AreLeft now → AreLeft (round now)
-  after_round now h = after_back (swept true [] now) (after_forward now h)
+  next_forward : (now : List (List WordTree)) (b c : Bool) → AreLeft now → (if b then c else false) ≡ true → IsForward (if b then swept true [] (swept_back now) else swept_back now)
+  next_forward now true c h g = forward (swept_back now) (after_back now h)
+  next_forward now false c h g = absurd (true≢false (sym g))
 
-  pub round_less : (now : List (List WordTree)) → sweep_loses false [] (reverse (swept true [] now)) ≡ true → size (round now) < size now
-  round_less now h =
-      let one = sweep_no_more true [] now in
-      let two = size-reverse (swept true [] now) in
-      let three = sweep_less false [] (reverse (swept true [] now)) h in
-      let four = size-reverse (swept false [] (reverse (swept true [] now))) in
+  pub after_round : (now : List (List WordTree)) → IsForward now → round_loses now ≡ true → IsForward (next_round now)
+  after_round now h g = next_forward now (sweep_loses false [] (reverse now)) (sweep_loses true [] (swept_back now)) h.left g
+
+  back_no_more : (now : List (List WordTree)) → size (swept_back now) ≤ size now
+  back_no_more now =
+      let one = size-reverse now in
+      let two = sweep_no_more false [] (reverse now) in
+      let three = size-reverse (swept false [] (reverse now)) in
       omega arith
+
+  next_less : (now : List (List WordTree)) (b : Bool) → (if b then sweep_loses true [] (swept_back now) else false) ≡ true
+      → size (if b then swept true [] (swept_back now) else swept_back now) < size now
+  next_less now true g =
+      let one = back_no_more now in
+      let two = sweep_less true [] (swept_back now) g in
+      omega arith
+  next_less now false g = absurd (true≢false (sym g))
+
+  pub round_less : (now : List (List WordTree)) → round_loses now ≡ true → size (next_round now) < size now
+  round_less now g = next_less now (sweep_loses false [] (reverse now)) g
 
   abbrev connectors_at : List WordTree → List Connector
   connectors_at ws = word_leaves true ws ++ word_leaves false ws
@@ -223,18 +243,18 @@ module _ (positions : List (List WordTree)) where
         | inr (j, before, is) ↦ (j, d, before, is, joins_left d c joins side)
       ]
 
-  -- where a sweep back takes nothing
-  right_served : (now : List (List WordTree)) → swept false [] (reverse now) ≡ reverse now → (k : ℕ) (c : Connector) → Contains (word_leaves true (get_or now k [])) c
+  -- behind a sweep back
+  right_served : (now xs : List (List WordTree)) → swept false [] xs ≡ reverse now → (k : ℕ) (c : Connector) → Contains (word_leaves true (get_or now k [])) c
       → (j : ℕ) × (d : Connector) × (k < j) × Contains (word_leaves false (get_or now j [])) d × Match c d
-  right_served now same k c m =
+  right_served now xs same k c m =
       let within = place_within true now k c m in
       let n = length now - 1 - k in
       let low : n < length now = omega arith in
       let turn : length now - 1 - n ≡ k = omega arith in
       let read : get_or (reverse now) n [] ≡ get_or now k [] = get_or-reverse now n [] low ∙ ap (λ x. get_or now x []) turn in
-      let there : Contains (word_leaves true (get_or (swept false [] (reverse now)) n [])) c =
+      let there : Contains (word_leaves true (get_or (swept false [] xs) n [])) c =
       subst (λ xs. Contains (word_leaves true (get_or xs n [])) c) (sym same) (subst (λ ws. Contains (word_leaves true ws) c) (sym read) m) in
-      let (d, joins, place) = served false [] (reverse now) n c there in
+      let (d, joins, place) = served false [] xs n c there in
       let side = word_leaf_side true (get_or now k []) c m in
       elim place [
         | inl none ↦ absurd (contains_none d none)
@@ -302,15 +322,33 @@ module _ (positions : List (List WordTree)) where
           (λ w is. some_choice test w.tree (word_whole test (get_or now i []) whole w is)));
     }
 
-  -- a round whose sweep back takes nothing is the last
-  pub last_round : (now : List (List WordTree)) → AreLeft now → sweep_loses false [] (reverse (swept true [] now)) ≡ false → AreNarrowed positions (round now)
-  last_round now h loses =
-      let there = swept true [] now in
-      let same = sweep_keeps false [] (reverse there) loses in
-      let is : round now ≡ there = ap reverse same ∙ reverse-reverse there in
-      subst (λ xs. AreNarrowed positions xs) (sym is)
-      (are_narrowed there (after_forward now h) (record {
-        left = left_served now;
-        right = right_served there same;
-        whole = swept_whole true [] now;
-      }))
+  -- Both ways are closed: the last sweep to the right, and the last one back.
+  both_ways : (now before xs : List (List WordTree)) → AreLeft now → now ≡ swept true [] before → swept false [] xs ≡ reverse now → AreNarrowed positions now
+  both_ways now before xs h onto back =
+      are_narrowed now h (record {
+        left = subst (λ ys. (k : ℕ) (c : Connector) → Contains (word_leaves false (get_or ys k [])) c → (j : ℕ) × (d : Connector) × (j < k) × Contains (word_leaves true (get_or ys j [])) d × Match d c) (sym onto) (left_served before);
+        right = right_served now xs back;
+        whole = subst (λ ys. (k : ℕ) → (test : Connector → Bool) × (do_lose test (get_or ys k []) ≡ false)) (sym onto) (swept_whole true [] before);
+      })
+
+  -- where the sweep back took nothing, and where the one after it took nothing
+  back_last : (now : List (List WordTree)) → IsForward now → sweep_loses false [] (reverse now) ≡ false → AreNarrowed positions (swept_back now)
+  back_last now h none =
+      let same = sweep_keeps false [] (reverse now) none in
+      let is : swept_back now ≡ now = ap reverse same ∙ reverse-reverse now in
+      subst (λ xs. AreNarrowed positions xs) (sym is) (both_ways now h.before (reverse now) h.left h.swept same)
+
+  forward_last : (now : List (List WordTree)) → AreLeft now → sweep_loses true [] (swept_back now) ≡ false → AreNarrowed positions (swept true [] (swept_back now))
+  forward_last now h none =
+      let same = sweep_keeps true [] (swept_back now) none in
+      let turned : swept false [] (reverse now) ≡ reverse (swept_back now) = sym (reverse-reverse (swept false [] (reverse now))) in
+      subst (λ xs. AreNarrowed positions xs) (sym same) (both_ways (swept_back now) (swept_back now) (reverse now) (after_back now h) (sym same) turned)
+
+  last_by : (now : List (List WordTree)) (b : Bool) → IsForward now → sweep_loses false [] (reverse now) ≡ b → (if b then sweep_loses true [] (swept_back now) else false) ≡ false
+      → AreNarrowed positions (if b then swept true [] (swept_back now) else swept_back now)
+  last_by now true h is none = forward_last now h.left none
+  last_by now false h is none = back_last now h is
+
+  -- a round whose last sweep takes nothing is the last
+  pub last_round : (now : List (List WordTree)) → IsForward now → round_loses now ≡ false → AreNarrowed positions (next_round now)
+  last_round now h none = last_by now (sweep_loses false [] (reverse now)) h refl none

@@ -9,7 +9,7 @@ use Rattle.lg_gram.specs.Trees.{Tree, Trees, one_of, tree, tree_of, trees_in}
 use Rattle.lg_eprune.specs.Cuts.{any_of, both, in_front, cut, cut_all, cut_any, has_member}
 use Rattle.lg_eprune.proofs.Joined.{before, before_push, before_none, all_push}
 
-next : (es : List Expr) (i : ℕ) (e : Expr) → i < length es → e ≡ get_or es i e → trees_in (drop i es) ≡ tree (tree_of e) (trees_in (drop (i + 1) es))
+pub next : (es : List Expr) (i : ℕ) (e : Expr) → i < length es → e ≡ get_or es i e → trees_in (drop i es) ≡ tree (tree_of e) (trees_in (drop (i + 1) es))
 next es i e within read = ap trees_in (drop_more es i e within) ∙ ap (λ x. tree (tree_of x) (trees_in (drop (i + 1) es))) (sym read)
 
 pushed : (kept : List Expr) (left : Expr) → map tree_of (kept ++ left ∷ []) ≡ map tree_of kept ++ tree_of left ∷ []

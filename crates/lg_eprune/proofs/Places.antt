@@ -1,14 +1,12 @@
 -- A loop over the positions.
-use Rattle.std.proofs.Common.{◌≡◌, ◌∙◌, ℕ, refl, sym, ap, Bool, true, false, not, ◌||◌, Option, Some, None, List, [], ◌∷◌, ◌++◌, append_assoc}
+use Rattle.std.proofs.Common.{◌≡◌, ◌∙◌, refl, sym, ap, Bool, true, false, not, ◌||◌, Option, Some, None, List, [], ◌∷◌, ◌++◌, append_assoc}
 use Rattle.std.specs.Option.{option_map}
-use Rattle.std.specs.declared.vec.Vec.{Vec}
-use Rattle.indexmap.specs.IndexMap.{IndexMap}
 use Rattle.lg_gram.specs.Connectors.{Connector}
 use Rattle.lg_gram.specs.Trees.{Tree}
 use Rattle.lg_eprune.specs.Live.{WordTree}
-use Rattle.lg_eprune.specs.Cuts.{cut_word, cut_words, with_word, do_lose, is_whole, is_met, stays, swept, sweep_loses, word_leaves, Lists}
+use Rattle.lg_eprune.specs.Cuts.{cut_word, cut_words, with_word, do_lose, is_whole, is_met, stays, swept, sweep_loses, word_leaves, IsSeen, Lists}
 use Rattle.lg_eprune.proofs.Bounds.{cut_keeps}
-use Rattle.lg_eprune.proofs.Listed.{IsSeen, tests_same, more_seen}
+use Rattle.lg_eprune.proofs.Listed.{tests_same, more_seen}
 
 or_assoc : (a b c : Bool) → ((a || b) || c) ≡ (a || (b || c))
 or_assoc true b c = refl
@@ -35,10 +33,10 @@ lost_less test true all w rest whole is = is
 lost_less test false all w rest whole is = ap (λ b. not b || do_lose test rest) (sym whole) ∙ is
 
 -- what is known after some positions
-abbrev pub Told : {A B S : Type 0} → Bool → IndexMap (Vec ℕ A) (Vec Connector B) S → List (List WordTree) → Bool → List (List WordTree) → List (List WordTree) → Type 0
+abbrev pub Told : Bool → List (List Connector) → List (List WordTree) → Bool → List (List WordTree) → List (List WordTree) → Type 0
 Told right table done less rest all = (known : List Connector) × IsSeen table known × (done ++ swept right known rest ≡ swept right [] all) × ((less || sweep_loses right known rest) ≡ sweep_loses right [] all)
 
-module _ {A B S : Type 0} (right : Bool) (old new : IndexMap (Vec ℕ A) (Vec Connector B) S) where
+module _ (right : Bool) (old new : List (List Connector)) where
   -- one more position
   pub told_more : (done rest all : List (List WordTree)) (ws kept : List WordTree) (less loses : Bool) → kept ≡ cut_words (is_met right old) ws → loses ≡ do_lose (is_met right old) ws → Lists old (word_leaves right kept) new
       → Told right old done less (ws ∷ rest) all → Told right new (done ++ kept ∷ []) (less || loses) rest all

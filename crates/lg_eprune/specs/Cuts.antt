@@ -1,11 +1,9 @@
 -- A formula without the leaves that a test refuses, and sweeps over the positions that refuse leaves without a partner.
-use Rattle.std.specs.Prelude.{◌≡◌, ◌↔◌, ◌⊎◌, ℕ, ◌==◌, ◌||◌, ◌&&◌, not, true, false, Bool, Option, Some, None, List, [], ◌∷◌, ◌++◌, nat_eq, if◌then◌else◌}
+use Rattle.std.specs.Prelude.{◌≡◌, ◌↔◌, ◌⊎◌, ℕ, ◌+◌, ◌*◌, ◌%◌, ◌==◌, ◌||◌, ◌&&◌, not, true, false, Bool, Option, Some, None, List, [], ◌∷◌, ◌++◌, nat_eq, fold, reverse, slice_index_or, if◌then◌else◌}
 use Rattle.std.specs.Bool.{beq}
 use Rattle.std.specs.List.{Contains, flat_map, list_any}
-use Rattle.std.specs.Option.{option_map, option_map_or}
+use Rattle.std.specs.Option.{option_map}
 use Rattle.std.specs.Cmp.Lexicographic.{pointwise}
-use Rattle.std.specs.declared.vec.Vec.{Vec}
-use Rattle.indexmap.specs.IndexMap.{IndexMap, get_by}
 use Rattle.lg_gram.specs.Names.{STAR}
 use Rattle.lg_gram.specs.Connectors.{Connector}
 use Rattle.lg_gram.specs.Trees.{Tree, Trees, empty, leaf, all_of, one_of, priced, no_trees, tree}
@@ -122,15 +120,37 @@ sweep_loses right seen [] = false
 sweep_loses right seen (ws ∷ rest) =
     do_lose (stays right seen) ws || sweep_loses right (seen ++ word_leaves right (cut_words (stays right seen) ws)) rest
 
-module _ {A B S : Type 0} where
-  -- the connectors that a table has at these capital letters
-  abbrev pub listed_at : IndexMap (Vec ℕ A) (Vec Connector B) S → List ℕ → List Connector
-  listed_at table caps = option_map_or (λ list. list.items) (get_by (λ key. pointwise nat_eq caps key.items) table) []
+-- a sweep from the last position to the first
+abbrev pub swept_back : List (List WordTree) → List (List WordTree)
+swept_back now = reverse (swept false [] (reverse now))
 
-  -- a connector has the given direction, or one of the table joins it
-  abbrev pub is_met : Bool → IndexMap (Vec ℕ A) (Vec Connector B) S → Connector → Bool
-  is_met right table c = stays right (listed_at table c.caps) c
+-- A sweep back, and then one to the right if the first took something.
+abbrev pub next_round : List (List WordTree) → List (List WordTree)
+next_round now = if sweep_loses false [] (reverse now) then swept true [] (swept_back now) else swept_back now
 
-  -- the table got these connectors, each at its capital letters
-  abbrev pub Lists : IndexMap (Vec ℕ A) (Vec Connector B) S → List Connector → IndexMap (Vec ℕ A) (Vec Connector B) S → Type 0
-  Lists old more new = (caps : List ℕ) (d : Connector) → Contains (listed_at new caps) d ↔ (Contains (listed_at old caps) d ⊎ (Contains more d × (d.caps ≡ caps)))
+abbrev pub round_loses : List (List WordTree) → Bool
+round_loses now = if sweep_loses false [] (reverse now) then sweep_loses true [] (swept_back now) else false
+
+-- the class of some capital letters
+abbrev pub class_of : List ℕ → ℕ
+class_of caps = fold (λ n c. (n * 31 + c) % 64) 0 caps
+
+-- the connectors that a table has in the class of these capital letters
+abbrev pub listed_at : List (List Connector) → List ℕ → List Connector
+listed_at table caps = slice_index_or table (class_of caps) []
+
+-- a connector has the given direction, or one of the table joins it
+abbrev pub is_met : Bool → List (List Connector) → Connector → Bool
+is_met right table c = stays right (listed_at table c.caps) c
+
+-- the table has these connectors, each in its class
+abbrev pub IsSeen : List (List Connector) → List Connector → Type 0
+IsSeen table seen = (caps : List ℕ) (d : Connector) → Contains (listed_at table caps) d ↔ (Contains seen d × (class_of d.caps ≡ class_of caps))
+
+-- the table got these connectors, each in its class
+pub record Lists (old : List (List Connector)) (more : List Connector) (new : List (List Connector)) : Type 0 where
+  pub tells : (caps : List ℕ) (d : Connector) → Contains (listed_at new caps) d ↔ (Contains (listed_at old caps) d ⊎ (Contains more d × (class_of d.caps ≡ class_of caps)))
+
+-- the list got this connector
+abbrev pub Adds : List Connector → Connector → List Connector → Type 0
+Adds old c new = (d : Connector) → Contains new d ↔ (Contains old d ⊎ (c ≡ d))

@@ -114,6 +114,17 @@ fn cut(alloc: Global, e: &Expr, right: bool, seen: &Seen) -> Result<Option<Expr>
     }
 }
 
+// As `cut` does. Most members are leaves, so that these are looked at on the spot.
+#[cycle(cut)]
+fn cut_member(alloc: Global, e: &Expr, right: bool, seen: &Seen) -> Result<Option<Expr>, NoMemory>
+    ensures { IfOk result (λ left. option_map tree_of left ≡ cut (is_met right seen.now) (tree_of e.now)) }
+{
+    match e {
+        Expr::Conn(connector) => Ok(cut_leaf(connector, right, seen)),
+        _ => cut(alloc, e, right, seen),
+    }
+}
+
 fn cut_leaf(connector: &Connector, right: bool, seen: &Seen) -> Option<Expr>
     ensures { option_map tree_of result ≡ cut (is_met right seen.now) (leaf connector.now) }
 {
@@ -152,7 +163,7 @@ fn cut_all(
 {
     let mut kept = Vec::with_capacity(alloc, members.items().len())?;
     for member in members.items() {
-        match cut(alloc, member, right, seen)? {
+        match cut_member(alloc, member, right, seen)? {
             Some(left) => kept.push(left)?,
             None => return Ok(None),
         }
@@ -165,9 +176,9 @@ fn cut_all(
 fn cut_any(alloc: Global, members: &Exprs, right: bool, seen: &Seen) -> Result<Exprs, NoMemory>
     ensures { IfOk result (λ left. trees_in (expr_items left) ≡ cut_any (is_met right seen.now) (trees_in (expr_items members.now))) }
 {
-    let mut kept = Vec::new(alloc);
+    let mut kept = Vec::with_capacity(alloc, members.items().len())?;
     for member in members.items() {
-        let Some(left) = cut(alloc, member, right, seen)? else {
+        let Some(left) = cut_member(alloc, member, right, seen)? else {
             continue;
         };
         kept.push(left)?;

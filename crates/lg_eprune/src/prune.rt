@@ -1,12 +1,11 @@
 //! Formulas without the choices that no linkage can use.
 ghost use Rattle.std.specs.Prelude.{◌≡◌, [], true, false, reverse, IfOk};
 ghost use Rattle.lg_eprune.specs.Live.{AreNarrowed};
-ghost use Rattle.lg_eprune.specs.Cuts.{swept, sweep_loses};
+ghost use Rattle.lg_eprune.specs.Cuts.{swept, sweep_loses, swept_back, next_round, round_loses};
 
 use crate::cut::{Left, cut_words};
-use crate::seen::see_words;
+use crate::seen::{Seen, see_words};
 use crate::words::{PositionExprs, WordExprs};
-use indexmap::IndexMap;
 use lg_base::NoMemory;
 use std::alloc::Global;
 
@@ -14,12 +13,15 @@ use std::alloc::Global;
 /// connectors of the greatest set in which each matches one at a position on its side, and stands in a choice all of whose connectors are
 /// in the set. A word of which no choice is kept is dropped.
 ///
-/// This is link-parser's expression pruning. No formula is expanded for it; the time is that of some rounds over the nodes of all formulas.
+/// This is link-parser's expression pruning. No formula is expanded for it; the time is that of some sweeps over the nodes of all formulas.
 /// The only error is running out of memory.
 pub fn eprune(alloc: Global, positions: PositionExprs) -> Result<PositionExprs, NoMemory>
     ensures { IfOk result (AreNarrowed positions) }
 {
-    let mut kept = positions.into_items();
+    let Swept {
+        positions: mut kept,
+        ..
+    } = sweep(alloc, positions.into_items(), true)?;
     loop {
         let Swept { positions, is_less } = round(alloc, kept)?;
         kept = positions;
@@ -37,20 +39,35 @@ struct Swept {
     is_less: bool,
 }
 
-// A sweep to the right, and then one back.
+// A sweep back, and then one to the right if the first took something.
 fn round(alloc: Global, positions: Vec<WordExprs>) -> Result<Swept, NoMemory>
-    ensures positions { IfOk result (λ next. next.positions.items ≡ reverse (swept false [] (reverse (swept true [] positions.items)))) }
-    ensures less { IfOk result (λ next. next.is_less ≡ sweep_loses false [] (reverse (swept true [] positions.items))) }
+    ensures positions { IfOk result (λ next. next.positions.items ≡ next_round positions.items) }
+    ensures less { IfOk result (λ next. next.is_less ≡ round_loses positions.items) }
 {
     let Swept {
-        positions: mut forward,
-        ..
-    } = sweep(alloc, positions, true)?;
-    forward.reverse();
+        positions: back,
+        is_less,
+    } = sweep_back(alloc, positions)?;
+    if !is_less {
+        return Ok(Swept {
+            positions: back,
+            is_less: false,
+        });
+    }
+    sweep(alloc, back, true)
+}
+
+// A sweep from the last position to the first.
+fn sweep_back(alloc: Global, positions: Vec<WordExprs>) -> Result<Swept, NoMemory>
+    ensures positions { IfOk result (λ next. next.positions.items ≡ swept_back positions.items) }
+    ensures less { IfOk result (λ next. next.is_less ≡ sweep_loses false [] (reverse positions.items)) }
+{
+    let mut turned = positions;
+    turned.reverse();
     let Swept {
         positions: mut back,
         is_less,
-    } = sweep(alloc, forward, false)?;
+    } = sweep(alloc, turned, false)?;
     back.reverse();
     Ok(Swept {
         positions: back,
@@ -63,7 +80,7 @@ fn sweep(alloc: Global, positions: Vec<WordExprs>, right: bool) -> Result<Swept,
     ensures positions { IfOk result (λ next. next.positions.items ≡ swept right [] positions.items) }
     ensures less { IfOk result (λ next. next.is_less ≡ sweep_loses right [] positions.items) }
 {
-    let mut seen = IndexMap::new(alloc);
+    let mut seen = Seen::new(alloc)?;
     let mut kept = Vec::with_capacity(alloc, positions.len())?;
     let mut is_less = false;
     for words in positions {
@@ -72,7 +89,7 @@ fn sweep(alloc: Global, positions: Vec<WordExprs>, right: bool) -> Result<Swept,
             is_less: loses,
         } = cut_words(alloc, words, right, &seen)?;
         is_less = is_less || loses;
-        see_words(alloc, &mut seen, right, left.items())?;
+        see_words(&mut seen, right, left.items())?;
         kept.push(left)?;
     }
     Ok(Swept {

@@ -1,7 +1,6 @@
 use Rattle.std.proofs.Common.{rules, ◌≡◌, ◌++◌, ◌∷◌, ◌||◌, [], length, ap, sym, ◌∙◌, subst, arith}
 use Rattle.std.specs.Vec.Iter.{into_iter_items}
 use Rattle.lg_eprune.specs.Cuts.{is_met, cut_words, do_lose, swept, sweep_loses, word_leaves, Lists}
-use Rattle.lg_eprune.proofs.Listed.{nothing_seen}
 use Rattle.lg_eprune.proofs.Places.{told_more, Told}
 use Rattle.lg_eprune.proofs.prune.sweep.Goals as goal
 use Rattle.lg_eprune.proofs.prune.sweep.Goals.{then-is_less, else-is_less}
@@ -12,7 +11,7 @@ loop-words-init c =
     let start = c.into_iter-words-iterator.ensures.into_iter_gives.0 in
     record {
       counted = search rules;
-      told = ([], nothing_seen c.new-seen.result c.new-seen.ensures.empty, (λ i. c.in_ok-kept.ensures.items i ++ swept right [] (start i)), ap (sweep_loses right []) start);
+      told = ([], c.in_ok-seen.ensures, (λ i. c.in_ok-kept.ensures.items i ++ swept right [] (start i)), ap (sweep_loses right []) start);
     }
 
 pub loop-words-preserved : goal.loop-words-preserved

@@ -1,8 +1,7 @@
 use Rattle.std.proofs.Common.{◌≡◌, ◌++◌, ◌||◌, List, [], length}
 use Rattle.std.specs.Vec.Iter.{into_iter_items, into_iter_len}
 use Rattle.lg_gram.specs.Connectors.{Connector}
-use Rattle.lg_eprune.specs.Cuts.{swept, sweep_loses}
-use Rattle.lg_eprune.proofs.Listed.{IsSeen}
+use Rattle.lg_eprune.specs.Cuts.{swept, sweep_loses, IsSeen}
 use Rattle.lg_eprune.proofs.prune.sweep.Given as goal
 
 abbrev pub invariant-loop-words : goal.invariant-loop-words
