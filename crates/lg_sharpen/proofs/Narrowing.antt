@@ -101,27 +101,47 @@ allows_beside right most i g f sites p s r at b cov l h o pl near =
 abbrev pub with_span : Site → Span → Site
 with_span s u = record { connector = s.connector; span = u; nearest = s.nearest; later = s.later; before = s.before; behind = s.behind; need = s.need }
 
--- the nearest link of the place meets the near site, and each link the far one
-pub narrowed_is : (right : Bool) (most : ℕ) (gaps : Gaps) (i : ℕ) (table : Table Site) (sites : List Site) (p : ℕ) (s near far r : Site) → slice_get sites p ≡ Some s → IsBeside sites p s near → (near.nearest ≡ true → p ≡ 0)
-    → IsBeside sites p s far → far.nearest ≡ s.nearest → IsFrom right most gaps i table near r.span.from → IsBelow right most gaps i table far r.span.end → r ≡ with_span far r.span → IsNarrowed right most gaps i table sites p r
-narrowed_is right most gaps i table sites p s near far r at bn nn bf nf first last same g f spans all cov l h o pl =
-    let a : Allows g right l far = allows_beside right most i g f sites p s far at bf cov l h o pl (λ b n. b.nearest (sym nf ∙ n)) in
+-- the nearest link of the place meets the near site, and each link the far one, from the distance of the nearest link on
+pub narrowed_is : (right : Bool) (most : ℕ) (gaps : Gaps) (i : ℕ) (table cells : Table Site) → cells ≡ table → (sites : List Site) (p : ℕ) (s near wide far r : Site) → slice_get sites p ≡ Some s → IsBeside sites p s near → (near.nearest ≡ true → p ≡ 0)
+    → IsBeside sites p s wide → wide.nearest ≡ s.nearest → IsFrom right most gaps i cells near r.span.from → far ≡ with_span wide (record { from = r.span.from; end = wide.span.end }) → IsBelow right most gaps i cells far r.span.end
+    → r ≡ with_span far r.span → IsNarrowed right most gaps i table sites p r
+narrowed_is right most gaps i table cells e sites p s near wide far r at bn nn bf nf first_in far_is last_in same g f spans all cov l h o pl =
+    let first = subst (λ z. IsFrom right most gaps i z near r.span.from) e first_in in
+    let last = subst (λ z. IsBelow right most gaps i z far r.span.end) e last_in in
+    let a : Allows g right l wide = allows_beside right most i g f sites p s wide at bf cov l h o pl (λ b n. b.nearest (sym nf ∙ n)) in
     let k = near_link most g f right l h near.nearest (λ n. pl ∙ nn n) in
     let y : Allows g right k.0 near = allows_beside right most i g f sites p s near at bn cov k.0 k.1 (k.2 ∙ o) (k.3 ∙ pl) (λ b n. k.5 n) in
     let low : r.span.from ≤ link_length k.0 = first (link_length k.0) y.end y.from (has_partner right most gaps i table g f spans all k.0 k.1 (k.2 ∙ o) near y) in
     let k4 = k.4 in
-    let high : link_length l < r.span.end = last (link_length l) a.end a.from (has_partner right most gaps i table g f spans all l h o far a) in
     let from : r.span.from ≤ link_length l = omega arith in
-    let b : Allows g right l (with_span far r.span) = record {
+    let w : Allows g right l (with_span wide (record { from = r.span.from; end = wide.span.end })) = record {
       connector = a.connector;
       from = from;
-      end = high;
+      end = a.end;
       nearest = a.nearest;
       later = a.later;
       before = a.before;
       need = a.need;
     } in
+    let x : Allows g right l far = subst (λ z. Allows g right l z) (sym far_is) w in
+    let high : link_length l < r.span.end = last (link_length l) x.end x.from (has_partner right most gaps i table g f spans all l h o far x) in
+    let b : Allows g right l (with_span far r.span) = record {
+      connector = x.connector;
+      from = from;
+      end = high;
+      nearest = x.nearest;
+      later = x.later;
+      before = x.before;
+      need = x.need;
+    } in
     subst (λ z. Allows g right l z) (sym same) b
+
+-- a site that stays
+pub narrowed_same : (right : Bool) (most : ℕ) (gaps : Gaps) (i : ℕ) (table : Table Site) (sites : List Site) (p : ℕ) (s : Site) → slice_get sites p ≡ Some s → IsNarrowed right most gaps i table sites p s
+narrowed_same right most gaps i table sites p s at g f spans all cov l h o pl =
+    let c = cov.each l h o in
+    let es : c.0 ≡ s = same_Some c.0 s (sym c.1 ∙ subst (λ z. slice_get sites z ≡ Some s) (sym pl) at) in
+    subst (λ z. Allows g right l z) es c.2
 
 pub narrow_set : (right : Bool) (most : ℕ) (gaps : Gaps) (i : ℕ) (table : Table Site) (old now : List Site) (p : ℕ) (r : Site) → p < length now → IsNarrowed right most gaps i table now p r → Narrows right most gaps i table old now
     → Narrows right most gaps i table old (set now p r)
@@ -188,9 +208,9 @@ none_at_all right most gaps i table s e h n d w from has = absurd (n d (omega ar
 abbrev pub NoneFrom : Bool → ℕ → Gaps → ℕ → Table Site → Site → ℕ → Type 0
 NoneFrom right most gaps i table s e = (d : ℕ) → d < s.span.end → e ≤ d → s.span.from ≤ d → HasPartner right most gaps i table s d → ⊥
 
-pub none_before : (right : Bool) (most : ℕ) (gaps : Gaps) (i : ℕ) (table : Table Site) (s : Site) (e : ℕ) (b : Bool) → s.span.from < e → (HasPartner right most gaps i table s (e - 1) → b ≡ true) → b ≡ false
+pub none_before : (right : Bool) (most : ℕ) (gaps : Gaps) (i : ℕ) (table : Table Site) (s : Site) (e low : ℕ) (b : Bool) → low < e → (HasPartner right most gaps i table s (e - 1) → b ≡ true) → b ≡ false
     → NoneFrom right most gaps i table s e → NoneFrom right most gaps i table s (e - 1)
-none_before right most gaps i table s e b above found no' n d w g from has =
+none_before right most gaps i table s e low b above found no' n d w g from has =
     elim (cases_lt d e) [
       | inl h ↦ (let q : d ≡ e - 1 = omega arith in let f : ◌≡◌ {A = Bool} true false = sym (found (subst (λ z. HasPartner right most gaps i table s z) q has)) ∙ no' in absurd cc)
       | inr h ↦ n d w h from has

@@ -1,13 +1,15 @@
 -- Tables of ways to link, and of gaps.
-use Rattle.std.proofs.Common.{◌≡◌, ℕ, zero, suc, ◌⊎◌, ◌+◌, ◌-◌, ◌<◌, ◌≤◌, List, [], ◌∷◌, ◌++◌, length, length-append, map, set, get_or, refl, sym, ap, ◌∙◌, subst, Some, inl, inr, Bool, true, false, cond, ltb, count_by, Contains, arith}
+use Rattle.std.proofs.Common.{◌≡◌, ℕ, zero, suc, ◌⊎◌, ◌+◌, ◌-◌, ◌<◌, ◌≤◌, List, [], ◌∷◌, ◌++◌, length, length-append, map, set, get_or, refl, sym, ap, ◌∙◌, subst, Option, Some, inl, inr, Bool, true, false, cond, ltb, count_by, Contains, arith}
 use Rattle.std.specs.Global.{Vec}
+use Rattle.std.specs.Prelude.{IfSome}
 use Rattle.std.specs.List.{slice_get, range_with_len}
 use Rattle.std.proofs.lemmas.Bool.{cases_eq, cases_lt}
 use Rattle.std.proofs.lemmas.Option.{same_Some, slice_get_read}
 use Rattle.std.proofs.lemmas.List.{map-append, map-set, length-map, length-set, get_or-map, get_or-set_same, get_or-set_other, get_or_append_left, get_or-append_right}
 use Rattle.std.proofs.lemmas.List.FromFn.{sum_by-map-range_with_len_more}
 use Rattle.lg_member.specs.declared.member.Member.{Member}
-use Rattle.lg_sharpen.specs.Filling.{rows_in, need_at, least_at, flag_at, IsLowered, Notes, AreLeast, stuck_in, stuck_under, IsSpanRow, AreSpans}
+use Rattle.lg_sharpen.specs.Filling.{rows_in, need_at, least_at, flag_at, IsLowered, IsNoted, Notes, AreLeast, stuck_in, stuck_under, IsSpanRow, AreSpans}
+use Rattle.lg_sharpen.specs.declared.gaps.Way.{Way}
 use Rattle.lg_sharpen.specs.declared.site.Site.{Site}
 
 -- the first numbers are lowered
@@ -89,6 +91,10 @@ noted_more lefts rights ms k now new m at n t = record {
         subst (λ z. least_at new z.position a ≤ z.position + need_at rights z.right) same (n.noted a (subst (λ z. a ≤ z.position - need_at lefts z.left) (sym same) la)))
   ];
 }
+
+-- a way that was noted is noted again
+pub noted_again : (last : Option Way) (w : Way) (rows : List (List ℕ)) → last ≡ Some w → IfSome last (λ v. IsNoted v rows) → Notes w.position w.left w.right rows rows
+noted_again last w rows e is = record { lower = λ x a. omega arith; noted = λ a l. (subst (λ z. IfSome z (λ v. IsNoted v rows)) e is) a l }
 
 pub noted_all : (lefts rights : List (List Site)) (ms : List Member) (k : ℕ) (rows : List (List ℕ)) → length ms ≤ k → NotedUpTo lefts rights ms k rows → AreLeast lefts rights ms rows
 noted_all lefts rights ms k rows h t m c a la = let w = c.1 in t.each c.0 m (omega arith) (slice_get_read ms (length ms) c.0 m refl c.1 (sym c.2)) a la

@@ -11,11 +11,11 @@ use Rattle.lg_gram.specs.Rules.{HasLink, chosen_at}
 use Rattle.lg_gram.specs.declared.disjunct.Disjunct.{Disjunct}
 use Rattle.lg_gram.specs.declared.linkage.Link.{Link}
 use Rattle.lg_sharpen.specs.Needs.{IsFar, AreNeeds}
-use Rattle.lg_sharpen.specs.Sites.{own, place_on, Holds, IsWider, IsTableOf, IsReach, AreStarted, AreStartedAll}
+use Rattle.lg_sharpen.specs.Sites.{own, place_on, Holds, IsOpen, IsWider, IsTableOf, IsReach, AreStarted, AreStartedAll}
 use Rattle.lg_member.specs.Cells.{Table}
 use Rattle.lg_member.specs.Laws.{MembersGoByRounds}
 use Rattle.lg_member.specs.Members.{list_on, side_on, IsSideAt, IsKnown, AreUsed, Keeps, are_on}
-use Rattle.lg_sharpen.specs.Bounds.{list_at, Fits, Needs, SetsNeeds, AllowsGaps, Allows, Covers, CoversAt, AllowsAll, NarrowsAll, IsOpen, AreOpen, AreChosen, CoversAll, Stands, KeepsStanding, KeepsNeeds, KeepsChosen}
+use Rattle.lg_sharpen.specs.Bounds.{list_at, Fits, Needs, SetsNeeds, AllowsGaps, Allows, Covers, CoversAt, AllowsAll, NarrowsAll, AreOpen, AreChosen, CoversAll, Stands, KeepsStanding, KeepsNeeds, KeepsChosen}
 use Rattle.lg_member.specs.declared.side.Side.{Side}
 use Rattle.lg_sharpen.specs.declared.gaps.Gaps.{Gaps}
 use Rattle.lg_sharpen.specs.declared.site.Site.{Site}
@@ -69,6 +69,16 @@ allows_wider g right l s w a is =
 pub used_by : (g : Linkage) (i : ℕ) (d : Disjunct) (m : Member) → chosen_at g i ≡ Some d → m.position ≡ i → m.disjunct.now ≡ d → chosen_at g m.position ≡ Some m.disjunct.now
 used_by g i d m e ei ed = ap (λ z. chosen_at g z) ei ∙ e ∙ ap (λ z. Some z) (sym ed)
 
+-- sites that cover are open
+all_open : (most : ℕ) (g : Linkage) → Fits most g → (right : Bool) (i : ℕ) (sites : List Site) → Covers g right i sites → All IsOpen sites
+all_open most g f right i sites c =
+    All-weaker (Contains sites) IsOpen (λ s w.
+    let at = slice_get_read sites (length sites) w.0 s refl w.1 (sym w.2) in
+    let k = covered most g f right i sites c w.0 s at w.1 in
+    let x = k.4.from in
+    let y = k.4.end in
+    omega arith) sites (All-contains_itself sites)
+
 allows_all : (most : ℕ) (g : Linkage) → Fits most g → (right : Bool) (sides : List Side) (lists : List (List Site)) (table : Table Site) (ms : List Member) (used : List Bool) → AreChosen g ms
     → ((m : Member) → Contains ms m → IsSideAt sides (side_on right m) m.position (list_on right m.disjunct.now)) → AreUsed right (length sides) ms used → IsTableOf sides used lists table → CoversAll g right lists ms
     → AllowsAll g right table
@@ -79,18 +89,8 @@ allows_all most g f right sides lists table ms used chosen known u t covers l h 
     let s = known m.0 m.1 in
     let c = covers m.0 m.1 (used_by g (own right l) d.0 m.0 d.1 m.2 m.3) in
     let x = c.2.each l h (sym m.2) in
-    let w = t (side_on right m.0) s.side c.0 (place_on right l) x.0 s.at ((u.each (side_on right m.0)).1 (m.0, m.1, refl)) c.1 x.1 in
+    let w = t (side_on right m.0) s.side c.0 (place_on right l) x.0 s.at ((u.each (side_on right m.0)).1 (m.0, m.1, refl)) c.1 (all_open most g f right m.0.position c.0 c.2) x.1 in
     (w.0, subst (λ z. Holds table z w.0) (s.position ∙ m.2) w.1, allows_wider g right l x.0 w.0 x.2 w.2)
-
--- sites that cover are open
-all_open : (most : ℕ) (g : Linkage) → Fits most g → (right : Bool) (i : ℕ) (sites : List Site) → Covers g right i sites → All IsOpen sites
-all_open most g f right i sites c =
-    All-weaker (Contains sites) IsOpen (λ s w.
-    let at = slice_get_read sites (length sites) w.0 s refl w.1 (sym w.2) in
-    let k = covered most g f right i sites c w.0 s at w.1 in
-    let x = k.4.from in
-    let y = k.4.end in
-    omega arith) sites (All-contains_itself sites)
 
 is_flagged : (most : ℕ) (g : Linkage) → Fits most g → (right : Bool) (lists : List (List Site)) (flags : List Bool) (ms : List Member) (m : Member) → Contains ms m → chosen_at g m.position ≡ Some m.disjunct.now
     → CoversAll g right lists ms → AreOpen lists flags → get_or flags (side_on right m) false ≡ true

@@ -1,7 +1,7 @@
 -- What tables of sites hold.
 use Rattle.std.proofs.Common.{◌≡◌, ℕ, ◌+◌, ◌<◌, ◌≤◌, List, [], ◌∷◌, ◌++◌, length, length-append, get_or, refl, sym, ap, ◌∙◌, subst, ◌↔◌, Some, inl, inr, Bool, true, false, Contains, arith}
 use Rattle.std.specs.Global.{Vec}
-use Rattle.std.specs.List.{slice_get, Any}
+use Rattle.std.specs.List.{slice_get, All, Any}
 use Rattle.std.specs.Option.{option_map}
 use Rattle.std.proofs.lemmas.Grind.{elements}
 use Rattle.std.proofs.lemmas.Bool.{cases_lt}
@@ -10,7 +10,7 @@ use Rattle.std.proofs.lemmas.List.{map-append}
 use Rattle.lg_gram.specs.Connectors.{Connector}
 use Rattle.lg_member.specs.Cells.{Table, Stands, Adds, class_of}
 use Rattle.lg_member.specs.declared.side.Side.{Side}
-use Rattle.lg_sharpen.specs.Sites.{MatchOn, MeetsOver, MayBeLone, IsWider, across, IsHeld, AddsSites, IsTableOf, HasPartner, IsStarted, AreStarted, AreStartedAll, IsReach, items_in}
+use Rattle.lg_sharpen.specs.Sites.{MatchOn, MeetsOver, MayBeLone, IsWider, across, IsHeld, AddsSites, AddsOpen, IsOpen, IsTableOf, HasPartner, IsStarted, AreStarted, AreStartedAll, IsReach, items_in}
 use Rattle.lg_sharpen.specs.Filling.{MaySpan}
 use Rattle.lg_sharpen.specs.declared.gaps.Gaps.{Gaps}
 use Rattle.lg_sharpen.specs.declared.site.Site.{Site}
@@ -44,53 +44,71 @@ sites_none i sites table = record { kept = λ j x h. h; each = λ p s l at. absu
 pub sites_all : (i : ℕ) (sites : List Site) (p : ℕ) (old new : Table Site) → length sites ≤ p → AddsSites i sites p old new → AddsSites i sites (length sites) old new
 sites_all i sites p old new h a = record { kept = a.kept; each = λ q s l at. a.each q s (omega arith) at }
 
+-- a list with no distance left for one of its sites is passed over
+pub open_not : (i : ℕ) (sites : List Site) (table : Table Site) (open' : Bool) → ((open' ≡ true) ↔ All IsOpen sites) → open' ≡ false → AddsOpen i sites table table
+open_not i sites table open' iff no' = record { kept = λ j x h. h; each = λ all p s at. let f : ◌≡◌ {A = Bool} true false = sym (iff.1 all) ∙ no' in absurd cc }
+
+pub open_added : (i : ℕ) (sites : List Site) (old new : Table Site) → AddsSites i sites (length sites) old new → AddsOpen i sites old new
+open_added i sites old new a = record { kept = a.kept; each = λ all p s at. a.each p s (slice_get_within sites p s at) at }
+
 -- the sites of the first lists of those in use
 pub record TableSoFar (sides : List Side) (used : List Bool) (lists : List (List Site)) (k : ℕ) (table : Table Site) : Type 0 where
-  pub each : (j : ℕ) (side : Side) (sites : List Site) (p : ℕ) (s : Site) → j < k → slice_get sides j ≡ Some side → slice_get used j ≡ Some true → slice_get lists j ≡ Some sites → slice_get sites p ≡ Some s → IsHeld table side.position s
+  pub each : (j : ℕ) (side : Side) (sites : List Site) (p : ℕ) (s : Site) → j < k → slice_get sides j ≡ Some side → slice_get used j ≡ Some true → slice_get lists j ≡ Some sites → All IsOpen sites → slice_get sites p ≡ Some s → IsHeld table side.position s
 
 pub table_none : (sides : List Side) (used : List Bool) (lists : List (List Site)) (table : Table Site) → TableSoFar sides used lists 0 table
 table_none sides used lists table = record { each = λ j side sites p s l. absurd (omega arith) }
 
 pub table_used : (sides : List Side) (used : List Bool) (lists : List (List Site)) (k : ℕ) (old new : Table Site) (side : Side) (sites : List Site) → slice_get sides k ≡ Some side → slice_get lists k ≡ Some sites
-    → TableSoFar sides used lists k old → AddsSites side.position sites (length sites) old new → TableSoFar sides used lists (k + 1) new
+    → TableSoFar sides used lists k old → AddsOpen side.position sites old new → TableSoFar sides used lists (k + 1) new
 table_used sides used lists k old new side sites at is t a = record {
-  each = λ j d ss p s l atj u isj atp.
+  each = λ j d ss p s l atj u isj op atp.
       elim (cases_lt j k) [
-        | inl h ↦ (let r = t.each j d ss p s h atj u isj atp in (r.0, a.kept d.position r.0 r.1, r.2))
+        | inl h ↦ (let r = t.each j d ss p s h atj u isj op atp in (r.0, a.kept d.position r.0 r.1, r.2))
         | inr h ↦ (let e : j ≡ k = omega arith in
             let ed : side ≡ d = same_Some side d (sym at ∙ subst (λ z. slice_get sides z ≡ Some d) e atj) in
             let es : ss ≡ sites = same_Some ss sites (sym isj ∙ subst (λ z. slice_get lists z ≡ Some sites) (sym e) is) in
             let at' : slice_get sites p ≡ Some s = subst (λ z. slice_get z p ≡ Some s) es atp in
-            subst (λ z. IsHeld new z.position s) ed (a.each p s (slice_get_within sites p s at') at'))
+            subst (λ z. IsHeld new z.position s) ed (a.each (subst (λ z. All IsOpen z) es op) p s at'))
       ];
 }
 
 pub table_unused : (sides : List Side) (used : List Bool) (lists : List (List Site)) (k : ℕ) (table : Table Site) → slice_get used k ≡ Some false → TableSoFar sides used lists k table
     → TableSoFar sides used lists (k + 1) table
 table_unused sides used lists k table no' t = record {
-  each = λ j d ss p s l atj u isj atp.
+  each = λ j d ss p s l atj u isj op atp.
       elim (cases_lt j k) [
-        | inl h ↦ t.each j d ss p s h atj u isj atp
+        | inl h ↦ t.each j d ss p s h atj u isj op atp
         | inr h ↦ (let e : j ≡ k = omega arith in let b : ◌≡◌ {A = Bool} true false = same_Some true false (sym u ∙ subst (λ z. slice_get used z ≡ Some false) (sym e) no') in absurd cc)
       ];
 }
 
 pub table_all : (sides : List Side) (used : List Bool) (lists : List (List Site)) (k : ℕ) (table : Table Site) → length sides ≤ k → TableSoFar sides used lists k table → IsTableOf sides used lists table
-table_all sides used lists k table h t j side sites p s at u is atp = let w = slice_get_within sides j side at in t.each j side sites p s (omega arith) at u is atp
+table_all sides used lists k table h t j side sites p s at u is op atp = let w = slice_get_within sides j side at in t.each j side sites p s (omega arith) at u is op atp
 
 same_caps : (right : Bool) (a b : Connector) → MatchOn right a b → b.caps ≡ a.caps
 same_caps true a b m = sym m.capitals
 same_caps false a b m = m.capitals
 
 -- what meets a site stands in the cell of its capital letters
-pub partner_found : (right : Bool) (most : ℕ) (gaps : Gaps) (i : ℕ) (table : Table Site) (s : Site) (d j class : ℕ) (cell : List Site) (lone r : Bool) → ((lone ≡ true) ↔ MayBeLone right most gaps i d s.nearest) → j ≡ across right i d → class ≡ class_of s.connector.caps → ((x : Site) → Contains cell x ↔ Stands table j class x)
-    → ((r ≡ true) ↔ Any (MeetsOver right lone d s) cell) → HasPartner right most gaps i table s d → r ≡ true
-partner_found right most gaps i table s d j class cell lone r one ej ec at found p =
+partner_in : (right : Bool) (most : ℕ) (gaps : Gaps) (i : ℕ) (table : Table Site) (s : Site) (d j class : ℕ) (cell : List Site) → j ≡ across right i d → class ≡ class_of s.connector.caps → ((x : Site) → Contains cell x ↔ Stands table j class x)
+    → (p : HasPartner right most gaps i table s d) → Contains cell p.0
+partner_in right most gaps i table s d j class cell ej ec at p =
     let x = p.0 in
     let is = p.2 in
     let e : class_of x.connector.caps ≡ class = ap class_of (same_caps right s.connector x.connector is.match_at) ∙ sym ec in
-    let c = (at x).1 (subst (λ z. Stands table j z x) e (subst (λ z. Stands table z (class_of x.connector.caps) x) (sym ej) p.1)) in
-    found.1 (c.0, x, c.1, c.2, record { from = is.from; end = is.end; nearest = λ n. one.1 (is.lone n); later = is.later; before = is.before; behind = is.behind; beyond = is.beyond; match_at = is.match_at })
+    (at x).1 (subst (λ z. Stands table j z x) e (subst (λ z. Stands table z (class_of x.connector.caps) x) (sym ej) p.1))
+
+pub partner_found : (right : Bool) (most : ℕ) (gaps : Gaps) (i : ℕ) (table : Table Site) (s : Site) (d j class : ℕ) (cell : List Site) (lone r : Bool) → ((lone ≡ true) ↔ MayBeLone right most gaps i d s.nearest) → j ≡ across right i d → class ≡ class_of s.connector.caps → ((x : Site) → Contains cell x ↔ Stands table j class x)
+    → ((r ≡ true) ↔ Any (MeetsOver right lone d s) cell) → HasPartner right most gaps i table s d → r ≡ true
+partner_found right most gaps i table s d j class cell lone r one ej ec at found p =
+    let is = p.2 in
+    let c = partner_in right most gaps i table s d j class cell ej ec at p in
+    found.1 (c.0, p.0, c.1, c.2, record { from = is.from; end = is.end; nearest = λ n. one.1 (is.lone n); later = is.later; before = is.before; behind = is.behind; beyond = is.beyond; match_at = is.match_at })
+
+-- no partner is there where the cell has no site
+pub none_there : (right : Bool) (most : ℕ) (gaps : Gaps) (i : ℕ) (table : Table Site) (s : Site) (d j class : ℕ) (cell : List Site) → j ≡ across right i d → class ≡ class_of s.connector.caps → ((x : Site) → Contains cell x ↔ Stands table j class x)
+    → length cell ≡ 0 → HasPartner right most gaps i table s d → ⊥
+none_there right most gaps i table s d j class cell ej ec at none p = let c = partner_in right most gaps i table s d j class cell ej ec at p in let w = c.1 in omega arith
 
 -- no partner is there over a gap that is shut
 pub shut_off : (right : Bool) (most : ℕ) (gaps : Gaps) (i : ℕ) (table : Table Site) (s : Site) (d : ℕ) (near : Bool) → ((near ≡ true) ↔ (s.nearest ≡ true → MaySpan right gaps i d)) → near ≡ false

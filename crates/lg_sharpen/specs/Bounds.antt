@@ -10,7 +10,7 @@ use Rattle.lg_gram.specs.declared.linkage.Link.{Link}
 use Rattle.lg_member.specs.Cells.{Table}
 use Rattle.lg_member.specs.Members.{AreLeft, Have, side_on}
 use Rattle.lg_sharpen.specs.Filling.{MaySpan}
-use Rattle.lg_sharpen.specs.Sites.{own, place_on, Holds}
+use Rattle.lg_sharpen.specs.Sites.{own, place_on, Holds, IsOpen}
 use Rattle.lg_member.specs.declared.side.Side.{Side}
 use Rattle.lg_sharpen.specs.declared.gaps.Gaps.{Gaps}
 use Rattle.lg_sharpen.specs.declared.site.Site.{Site}
@@ -93,10 +93,6 @@ SetsNeed n old new = (g : Linkage) (right : Bool) (i : ℕ) → Needs g right n 
 pub record SetsNeeds (needs : List ℕ) (old new : List (List Site)) : Type 0 where
   pub long : length new ≡ length old
   pub each : (g : Linkage) (right : Bool) (i k : ℕ) → Needs g right (slice_index_or needs k 0) i → CoversAt g right i old k → CoversAt g right i new k
-
--- a distance is left
-abbrev pub IsOpen : Site → Type 0
-IsOpen s = s.span.from < s.span.end
 
 pub record AreOpen (lists : List (List Site)) (flags : List Bool) : Type 0 where
   pub each : (k : ℕ) (sites : List Site) → slice_get lists k ≡ Some sites → All IsOpen sites → slice_get flags k ≡ Some true

@@ -4,6 +4,7 @@ use Rattle.std.specs.Global.{Vec}
 use Rattle.std.specs.List.{Contains, count_by, range_with_len}
 use Rattle.lg_member.specs.declared.member.Member.{Member}
 use Rattle.lg_sharpen.specs.declared.gaps.Gaps.{Gaps}
+use Rattle.lg_sharpen.specs.declared.gaps.Way.{Way}
 use Rattle.lg_sharpen.specs.declared.site.Site.{Site}
 
 abbrev pub rows_in : {A : Type 0} → List (Vec A) → List (List A)
@@ -37,6 +38,10 @@ pub record IsLowered (count end : ℕ) (old new : List ℕ) : Type 0 where
 pub record Notes (i left right : ℕ) (old new : List (List ℕ)) : Type 0 where
   pub lower : (w a : ℕ) → least_at new w a ≤ least_at old w a
   pub noted : (a : ℕ) → a ≤ i - left → least_at new i a ≤ i + right
+
+-- the same of one way
+abbrev pub IsNoted : Way → List (List ℕ) → Type 0
+IsNoted w rows = (a : ℕ) → a ≤ w.position - w.left → least_at rows w.position a ≤ w.position + w.right
 
 -- the ways to link that members have are noted
 abbrev pub AreLeast : List (List Site) → List (List Site) → List Member → List (List ℕ) → Type 0

@@ -1,6 +1,7 @@
 -- Sites: connectors of lists with the distances of their partners, and tables of sites.
 use Rattle.std.specs.Prelude.{◌≡◌, ℕ, ◌+◌, ◌-◌, ◌<◌, ◌≤◌, Bool, true, false, not, cond, List, length, map, Some, slice_get}
 use Rattle.std.specs.Global.{Vec}
+use Rattle.std.specs.List.{All}
 use Rattle.lg_gram.specs.Connectors.{Connector, Match}
 use Rattle.lg_gram.specs.Linkages.{link_length}
 use Rattle.lg_gram.specs.declared.linkage.Link.{Link}
@@ -9,6 +10,7 @@ use Rattle.lg_member.specs.declared.side.Side.{Side}
 use Rattle.lg_sharpen.specs.Filling.{MaySpan}
 use Rattle.lg_sharpen.specs.declared.gaps.Gaps.{Gaps}
 use Rattle.lg_sharpen.specs.declared.site.Site.{Site}
+use Rattle.lg_sharpen.specs.declared.table.Column.{Column}
 
 -- the position at this end of a link, and the place there: the end of the list to the right, or to the left
 abbrev pub own : Bool → Link → ℕ
@@ -94,6 +96,11 @@ pub record AreStartedAll (right : Bool) (n : ℕ) (sides : List Side) (lists : L
   pub same_length : length lists ≡ length sides
   pub each : (k : ℕ) (side : Side) → slice_get sides k ≡ Some side → (end : ℕ) × IsReach right n side.position end × (sites : List Site) × (slice_get lists k ≡ Some sites) × AreStarted side.list.now end sites
 
+-- the column is that of the site's capital letters
+pub record IsColumnOf (s : Site) (column : Column) : Type 0 where
+  pub class : column.class ≡ class_of s.connector.caps
+  pub small : column.class < 64
+
 -- a table has the site, of this position, in the cell of the position and its capital letters
 abbrev pub Holds : Table Site → ℕ → Site → Type 0
 Holds table i s = Stands table i (class_of s.connector.caps) s
@@ -107,10 +114,19 @@ pub record AddsSites (i : ℕ) (sites : List Site) (places : ℕ) (old new : Tab
   pub kept : (j : ℕ) (x : Site) → Holds old j x → Holds new j x
   pub each : (p : ℕ) (s : Site) → p < places → slice_get sites p ≡ Some s → IsHeld new i s
 
--- the table has the sites of the lists in use
+-- a distance is left
+abbrev pub IsOpen : Site → Type 0
+IsOpen s = s.span.from < s.span.end
+
+-- the same of a whole list, where each of its sites has a distance left
+pub record AddsOpen (i : ℕ) (sites : List Site) (old new : Table Site) : Type 0 where
+  pub kept : (j : ℕ) (x : Site) → Holds old j x → Holds new j x
+  pub each : All IsOpen sites → (p : ℕ) (s : Site) → slice_get sites p ≡ Some s → IsHeld new i s
+
+-- the table has the sites of the lists in use that have a distance left for each of their sites
 abbrev pub IsTableOf : List Side → List Bool → List (List Site) → Table Site → Type 0
 IsTableOf sides used lists table = (k : ℕ) (side : Side) (sites : List Site) (p : ℕ) (s : Site) → slice_get sides k ≡ Some side → slice_get used k ≡ Some true
-    → slice_get lists k ≡ Some sites → slice_get sites p ≡ Some s → IsHeld table side.position s
+    → slice_get lists k ≡ Some sites → All IsOpen sites → slice_get sites p ≡ Some s → IsHeld table side.position s
 
 -- the table has a partner of a site of position i over this distance
 abbrev pub HasPartner : Bool → ℕ → Gaps → ℕ → Table Site → Site → ℕ → Type 0

@@ -2,8 +2,8 @@
 //!
 //! The words under the nearest link of a word, to one side of it, link among themselves and with the other end of that link alone, since links do not
 //! cross. So a word that has no disjunct for that is unlinked, and of those there are few.
-ghost use Rattle.std.specs.Prelude.{◌≡◌, ◌≤◌, ◌↔◌, ◌+◌, true, false, cond, ltb, slice_index_or, IfOk, IsTrue};
-ghost use Rattle.lg_sharpen.specs.Filling.{AreGaps, AreLeast, AreSpans, IsLowered, IsSpanRow, MaySpan, Notes, first_of as first_linked, flag_at as flag_in_rows, last_of as last_linked, least_at as least_in_rows, need_at as need_in, need_of, rows_in, stuck_in, stuck_under, under};
+ghost use Rattle.std.specs.Prelude.{◌≡◌, ◌≤◌, ◌↔◌, ◌+◌, true, false, cond, ltb, slice_index_or, IfOk, IfSome, IsTrue, Some};
+ghost use Rattle.lg_sharpen.specs.Filling.{AreGaps, AreLeast, AreSpans, IsLowered, IsNoted, IsSpanRow, MaySpan, Notes, first_of as first_linked, flag_at as flag_in_rows, last_of as last_linked, least_at as least_in_rows, need_at as need_in, need_of, rows_in, stuck_in, stuck_under, under};
 ghost use Rattle.lg_sharpen.specs.Sites.{items_in};
 
 use crate::site::Site;
@@ -16,6 +16,14 @@ use std::alloc::Global;
 pub(crate) struct Gaps {
     right: Vec<Vec<bool>>,
     left: Vec<Vec<bool>>,
+}
+
+// A way to link a position: how long its links to the left and to the right are at least. Many members of a position have the same.
+#[derive(Clone, Copy)]
+struct Way {
+    position: u32,
+    left: u32,
+    right: u32,
 }
 
 impl Gaps {
@@ -92,11 +100,41 @@ fn note_all(
 )
     ensures { AreLeast (items_in left_lists.now) (items_in right_lists.now) members.now (rows_in rows.new) }
 {
+    let mut last = None;
     for member in members {
-        let left = need_at(left_lists, member.left);
-        let right = need_at(right_lists, member.right);
-        note(member.position, left, right, rows);
+        let way = Way {
+            position: member.position,
+            left: need_at(left_lists, member.left),
+            right: need_at(right_lists, member.right),
+        };
+        note_after(last, way, rows);
+        last = Some(way);
     }
+}
+
+// Notes a way, where it is not the same as the last one.
+fn note_after(last: Option<Way>, way: Way, rows: &mut [Vec<u32>])
+    ensures { IfSome last (λ w. IsNoted w (rows_in rows.old)) → Notes way.position way.left way.right (rows_in rows.old) (rows_in rows.new) }
+{
+    if is_last(last, way) {
+        return;
+    }
+    note(way.position, way.left, way.right, rows);
+}
+
+fn is_last(last: Option<Way>, way: Way) -> bool
+    ensures { IsTrue result → last ≡ Some way }
+{
+    match last {
+        Some(other) => is_same(other, way),
+        None => false,
+    }
+}
+
+fn is_same(a: Way, b: Way) -> bool
+    ensures { IsTrue result → a ≡ b }
+{
+    a.position == b.position && a.left == b.left && a.right == b.right
 }
 
 // How long each link of a list is at least.

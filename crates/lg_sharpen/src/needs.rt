@@ -99,9 +99,20 @@ fn need_at(needs: &[u32], index: usize) -> u32
 fn set_need(need: u32, sites: &mut Vec<Site>)
     ensures { SetsNeed need sites.old.items sites.new.items }
 {
+    if has_need(need, sites) {
+        return;
+    }
     let count = sites.len();
     for place in 0..count {
         let old = sites[place];
         sites[place] = Site { need, ..old };
+    }
+}
+
+// Whether the need was noted before: all sites of a list have the same.
+fn has_need(need: u32, sites: &[Site]) -> bool {
+    match sites.first() {
+        Some(site) => site.need == need,
+        None => true,
     }
 }

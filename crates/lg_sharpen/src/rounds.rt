@@ -1,14 +1,14 @@
 //! Rounds of sharpening.
-ghost use Rattle.std.specs.Prelude.{◌≡◌, ◌↔◌, length, IfOk, IsTrue, OnOk};
+ghost use Rattle.std.specs.Prelude.{◌≡◌, length, IfOk, OnOk};
 ghost use Rattle.std.specs.List.{All};
 ghost use Rattle.lg_member.specs.Members.{IsKnown};
-ghost use Rattle.lg_sharpen.specs.Bounds.{AreOpen, IsOpen, KeepsChosen, KeepsStanding};
+ghost use Rattle.lg_sharpen.specs.Bounds.{AreOpen, KeepsChosen, KeepsStanding};
 ghost use Rattle.lg_sharpen.specs.Sites.{items_in};
 
 use crate::gaps::gaps_of;
 use crate::narrow::narrow_all;
 use crate::needs::note_needs;
-use crate::site::Site;
+use crate::site::{Site, are_open};
 use crate::start::sites_of;
 use crate::table::table_of;
 use lg_base::NoMemory;
@@ -128,14 +128,8 @@ fn which_open(alloc: Global, lists: &[Vec<Site>]) -> Result<Vec<bool>, NoMemory>
 {
     let mut flags = Vec::new(alloc);
     for index in 0..lists.len() {
-        let flag = is_open(&lists[index]);
+        let flag = are_open(&lists[index]);
         flags.push(flag)?;
     }
     Ok(flags)
-}
-
-fn is_open(sites: &[Site]) -> bool
-    ensures { IsTrue result ↔ All IsOpen sites.now }
-{
-    sites.iter().all(|s| s.span.from < s.span.end)
 }

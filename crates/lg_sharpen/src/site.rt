@@ -1,6 +1,7 @@
 //! Sites: the connectors of lists, with how far away their partners may be.
 ghost use Rattle.std.specs.Prelude.{◌≡◌, ◌↔◌, ◌≤◌, ◌+◌, true, IsTrue};
-ghost use Rattle.lg_sharpen.specs.Sites.{IsWider, MatchOn, MeetsOver, StaysUnder};
+ghost use Rattle.std.specs.List.{All};
+ghost use Rattle.lg_sharpen.specs.Sites.{IsOpen, IsWider, MatchOn, MeetsOver, StaysUnder};
 
 use lg_gram::{Connector, matches};
 use lg_member::Wide;
@@ -27,6 +28,13 @@ pub(crate) struct Site {
     pub(crate) behind: u32,
     /// How long some link of its position to the other side is at least; 0 where there may be none.
     pub(crate) need: u32,
+}
+
+/// Whether each of the sites has a distance left.
+pub(crate) fn are_open(sites: &[Site]) -> bool
+    ensures { IsTrue result ↔ All IsOpen sites.now }
+{
+    sites.iter().all(|s| s.span.from < s.span.end)
 }
 
 /// Whether two sites over this distance, the first of a list to the right, or to the left, can be linked, where the other may, or

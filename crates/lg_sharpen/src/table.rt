@@ -3,15 +3,15 @@ ghost use Rattle.std.specs.Prelude.{◌≡◌, ◌↔◌, ◌≤◌, true, not, 
 ghost use Rattle.std.specs.List.{Any};
 ghost use Rattle.lg_member.specs.Cells.{IsEmpty};
 ghost use Rattle.lg_sharpen.specs.Filling.{MaySpan};
-ghost use Rattle.lg_sharpen.specs.Sites.{AddsSites, HasPartner, IsTableOf, MayBeLone, MeetsOver, across as position_across, items_in};
+ghost use Rattle.lg_sharpen.specs.Sites.{AddsOpen, AddsSites, HasPartner, IsColumnOf, IsTableOf, MayBeLone, MeetsOver, across as position_across, items_in};
 
 use crate::gaps::Gaps;
-use crate::site::{Site, meets};
+use crate::site::{Site, are_open, meets};
 use lg_base::NoMemory;
 use lg_member::{Cells, Side, class_of};
 use std::alloc::Global;
 
-/// The sites of the lists that are in use, among so many words.
+/// The sites of the lists that are in use and have a distance left for each of their sites, among so many words.
 pub(crate) fn table_of(
     alloc: Global,
     words: u32,
@@ -28,7 +28,7 @@ pub(crate) fn table_of(
     Ok(table)
 }
 
-// Adds the sites of the lists in use to a table that has none.
+// Adds the sites of these lists to a table that has none.
 fn fill(
     sides: &[Side<'_>],
     used: &[bool],
@@ -42,9 +42,20 @@ fn fill(
 {
     for index in 0..sides.len() {
         if used[index] {
-            push_sites(sides[index].position, &lists[index], table)?;
+            push_open(sides[index].position, &lists[index], table)?;
         }
     }
+    Ok(())
+}
+
+// Adds the sites of a list, where each has a distance left.
+fn push_open(position: u32, sites: &[Site], table: &mut Cells<Site>) -> Result<(), NoMemory>
+    ensures { OnOk result (AddsOpen position sites.now table.old table.new) }
+{
+    if !are_open(sites) {
+        return Ok(());
+    }
+    push_sites(position, sites, table)?;
     Ok(())
 }
 
@@ -58,6 +69,22 @@ fn push_sites(position: u32, sites: &[Site], table: &mut Cells<Site>) -> Result<
     Ok(())
 }
 
+/// A table, and the class of the capital letters of a connector, in which its partners are.
+#[derive(Clone, Copy)]
+pub(crate) struct Column<'a> {
+    pub(crate) cells: &'a Cells<Site>,
+    pub(crate) class: usize,
+}
+
+/// The column of a site in a table.
+pub(crate) fn column_of<'a>(cells: &'a Cells<Site>, site: &Site) -> Column<'a>
+    ensures cells { result.cells.now ≡ cells.now }
+    ensures class { IsColumnOf site.now result }
+{
+    let class = class_of(site.connector.caps());
+    Column { cells, class }
+}
+
 /// Whether the table has a partner of a site of the position, of a list to the right, or to the left, over this distance.
 pub(crate) fn has_partner(
     right: bool,
@@ -66,16 +93,21 @@ pub(crate) fn has_partner(
     position: u32,
     site: &Site,
     distance: u32,
-    table: &Cells<Site>,
+    table: &Column<'_>,
 ) -> bool
-    ensures { HasPartner right most gaps.now position table.now site.now distance → IsTrue result }
+    requires { IsColumnOf site.now table.now }
+    ensures { HasPartner right most gaps.now position table.now.cells.now site.now distance → IsTrue result }
 {
+    let others = table
+        .cells
+        .at(across(right, position, distance), table.class);
+    if others.is_empty() {
+        return false;
+    }
     if !may_be_nearest(right, gaps, position, distance, site.nearest) {
         return false;
     }
     let lone = may_be_lone(right, most, gaps, position, distance, site.nearest);
-    let class = class_of(site.connector.caps());
-    let others = table.at(across(right, position, distance), class);
     has_other(right, lone, distance, site, others)
 }
 
