@@ -11,6 +11,8 @@ use std::collections::HashMap;
 #[derive(Drop)]
 pub(crate) struct Hints<'a> {
     last: usize,
+    // The last two lists were the same.
+    stays: bool,
     behind: Vec<usize>,
     numbers: HashMap<&'a [Connector], usize>,
 }
@@ -19,18 +21,24 @@ impl<'a> Hints<'a> {
     pub(crate) fn new(alloc: Global) -> Hints<'a> {
         Hints {
             last: 0,
+            stays: false,
             behind: Vec::new(alloc),
             numbers: HashMap::new(alloc),
         }
     }
 
-    /// The number of the list before.
-    pub(crate) fn last(&self) -> usize {
-        self.last
+    /// The best guess: that the list before comes again, or that what came behind it does, as it was the last time.
+    pub(crate) fn first(&self) -> usize {
+        if self.stays { self.last } else { self.next() }
     }
 
-    /// What came behind the list before.
-    pub(crate) fn next(&self) -> usize {
+    /// The other one of the two.
+    pub(crate) fn second(&self) -> usize {
+        if self.stays { self.next() } else { self.last }
+    }
+
+    // What other list came behind the list before.
+    fn next(&self) -> usize {
         self.behind.get(self.last).copied().unwrap_or(0)
     }
 
@@ -42,6 +50,10 @@ impl<'a> Hints<'a> {
     /// The list before now is this number.
     pub(crate) fn met(&mut self, number: usize) {
         let last = self.last;
+        self.stays = last == number;
+        if self.stays {
+            return;
+        }
         if let Some(behind) = self.behind.get_mut(last) {
             *behind = number;
         }
@@ -50,7 +62,7 @@ impl<'a> Hints<'a> {
 
     /// A list has a new number.
     pub(crate) fn add(&mut self, list: &'a [Connector], number: usize) -> Result<(), NoMemory> {
-        self.behind.push(number)?;
+        self.behind.push(usize::MAX)?;
         let _ = self.numbers.insert(list, number)?;
         Ok(())
     }

@@ -109,13 +109,13 @@ fn number_of<'a>(
 fn known(sides: &[Side<'_>], hints: &Hints<'_>, position: u32, list: &[Connector]) -> Option<usize>
     ensures { IfSome result (λ k. IsSideAt sides.now k position list.now) }
 {
-    let last = hints.last();
-    if is_at(sides, last, position, list) {
-        return Some(last);
+    let first = hints.first();
+    if is_at(sides, first, position, list) {
+        return Some(first);
     }
-    let next = hints.next();
-    if is_at(sides, next, position, list) {
-        return Some(next);
+    let second = hints.second();
+    if is_at(sides, second, position, list) {
+        return Some(second);
     }
     let equal = hints.equal(list);
     if is_at(sides, equal, position, list) {

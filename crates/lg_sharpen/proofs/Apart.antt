@@ -1,11 +1,9 @@
 -- How far apart a link's ends may be: where it is the nearest of both, all words between are unlinked.
 use Rattle.std.proofs.Common.{◌≡◌, ℕ, zero, suc, ◌+◌, ◌-◌, ◌<◌, ◌≤◌, List, [], ◌∷◌, length, get_or, refl, sym, ap, ◌∙◌, subst, Option, Some, None, IsSome, is_none, inl, inr, true, false, cond, count_by, arith}
-use Rattle.std.specs.List.{slice_get}
 use Rattle.std.proofs.lemmas.Bool.{cases_lt}
 use Rattle.std.proofs.lemmas.List.Sums.{sum_by-cons}
-use Rattle.lg_gram.specs.Connectors.{Connector}
 use Rattle.lg_gram.specs.Linkages.{Linkage, unlinked, link_length}
-use Rattle.lg_gram.specs.Rules.{chosen_at, left_list, right_list, rights_of, lefts_of, HasLink, IsLinked}
+use Rattle.lg_gram.specs.Rules.{chosen_at, left_list, right_list, HasLink, IsLinked}
 use Rattle.lg_gram.specs.Walks.{Walk, stay, forth, back, LinkFrom}
 use Rattle.lg_gram.specs.declared.disjunct.Disjunct.{Disjunct}
 use Rattle.lg_gram.specs.declared.linkage.Link.{Link}

@@ -1,16 +1,15 @@
 -- What the lists on the other side need is noted at sites.
-use Rattle.std.proofs.Common.{◌≡◌, ℕ, zero, suc, ◌+◌, ◌<◌, ◌≤◌, ◌⊎◌, List, [], ◌∷◌, length, set, get_or, refl, sym, ap, ◌∙◌, subst, Some, inl, inr, Bool, true, false, not, Contains, arith}
+use Rattle.std.proofs.Common.{◌≡◌, ℕ, ◌+◌, ◌<◌, ◌≤◌, List, [], length, set, get_or, refl, sym, ◌∙◌, subst, Some, inl, inr, Bool, not, arith}
 use Rattle.std.specs.List.{slice_get}
 use Rattle.std.proofs.lemmas.Bool.{cases_eq, cases_lt}
 use Rattle.std.proofs.lemmas.Option.{same_Some, slice_get_within, slice_get_read}
 use Rattle.std.proofs.lemmas.Grind.{elements}
 use Rattle.std.proofs.lemmas.List.{length-set, get_or-set_same, get_or-set_other}
-use Rattle.lg_gram.specs.Linkages.{Linkage}
 use Rattle.lg_member.specs.Members.{side_on}
 use Rattle.lg_member.specs.declared.member.Member.{Member}
-use Rattle.lg_sharpen.specs.Sites.{own, place_on}
+use Rattle.lg_sharpen.specs.Sites.{place_on}
 use Rattle.lg_sharpen.specs.Needs.{IsFar, IsFarAt, LowersAt, AreNeeds}
-use Rattle.lg_sharpen.specs.Bounds.{Needs, Allows, Covers, CoversAt, SetsNeed, SetsNeeds}
+use Rattle.lg_sharpen.specs.Bounds.{Needs, Allows, Covers, SetsNeed, SetsNeeds}
 use Rattle.lg_sharpen.specs.declared.site.Site.{Site}
 use Rattle.lg_sharpen.proofs.Rows.{past}
 

@@ -1,14 +1,14 @@
 -- Tables of ways to link, and of gaps.
-use Rattle.std.proofs.Common.{◌≡◌, ℕ, zero, suc, ◌⊎◌, ◌+◌, ◌-◌, ◌<◌, ◌≤◌, List, [], ◌∷◌, ◌++◌, length, length-append, map, set, get_or, refl, sym, ap, ◌∙◌, subst, Option, Some, inl, inr, Bool, true, false, cond, ltb, count_by, Contains, arith}
+use Rattle.std.proofs.Common.{◌≡◌, ℕ, zero, suc, ◌⊎◌, ◌+◌, ◌-◌, ◌<◌, ◌≤◌, List, [], ◌∷◌, ◌++◌, length, length-append, set, get_or, refl, sym, ap, ◌∙◌, subst, Option, Some, inl, inr, Bool, true, false, cond, ltb, arith}
 use Rattle.std.specs.Global.{Vec}
 use Rattle.std.specs.Prelude.{IfSome}
-use Rattle.std.specs.List.{slice_get, range_with_len}
+use Rattle.std.specs.List.{slice_get}
 use Rattle.std.proofs.lemmas.Bool.{cases_eq, cases_lt}
 use Rattle.std.proofs.lemmas.Option.{same_Some, slice_get_read}
 use Rattle.std.proofs.lemmas.List.{map-append, map-set, length-map, length-set, get_or-map, get_or-set_same, get_or-set_other, get_or_append_left, get_or-append_right}
 use Rattle.std.proofs.lemmas.List.FromFn.{sum_by-map-range_with_len_more}
 use Rattle.lg_member.specs.declared.member.Member.{Member}
-use Rattle.lg_sharpen.specs.Filling.{rows_in, need_at, least_at, flag_at, IsLowered, IsNoted, Notes, AreLeast, stuck_in, stuck_under, IsSpanRow, AreSpans}
+use Rattle.lg_sharpen.specs.Filling.{rows_in, need_at, least_at, IsLowered, IsNoted, Notes, AreLeast, stuck_in, stuck_under, IsSpanRow, AreSpans}
 use Rattle.lg_sharpen.specs.declared.gaps.Way.{Way}
 use Rattle.lg_sharpen.specs.declared.site.Site.{Site}
 

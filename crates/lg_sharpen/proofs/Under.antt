@@ -1,21 +1,19 @@
 -- The words under the nearest link of a word link among themselves and with that link's other end alone, so that too few ways to link them shut a gap.
-use Rattle.std.proofs.Common.{◌≡◌, ℕ, zero, suc, ◌+◌, ◌-◌, ◌<◌, ◌≤◌, ◌⊎◌, inl, inr, List, [], ◌∷◌, ◌++◌, length, map, take, get_or, refl, sym, ap, ◌∙◌, subst, Option, Some, None, IsSome, is_none, Bool, true, false, not, cond, ltb, count_by, Contains, arith}
-use Rattle.std.specs.List.{slice_get, All, range_with_len}
+use Rattle.std.proofs.Common.{◌≡◌, ℕ, zero, suc, ◌+◌, ◌-◌, ◌<◌, ◌≤◌, ◌⊎◌, inl, inr, List, [], ◌∷◌, ◌++◌, length, map, take, get_or, refl, sym, ap, ◌∙◌, subst, Option, Some, None, IsSome, is_none, Bool, true, false, cond, ltb, count_by, Contains, arith}
+use Rattle.std.specs.List.{range_with_len}
 use Rattle.std.proofs.lemmas.Bool.{cases_lt, ltb-true}
 use Rattle.std.proofs.lemmas.Option.{get_or_from_slice_get}
 use Rattle.std.proofs.lemmas.List.{take_more}
 use Rattle.std.proofs.lemmas.List.Sums.{sum_by-append, sum_by-take-le}
 use Rattle.std.proofs.lemmas.List.FromFn.{sum_by-map-range_with_len_more}
-use Rattle.std.proofs.lemmas.List.Elements.{All-contains}
 use Rattle.lg_gram.specs.Linkages.{Linkage, unlinked, link_length}
 use Rattle.lg_gram.specs.Rules.{HasLink, chosen_at}
 use Rattle.lg_gram.specs.declared.disjunct.Disjunct.{Disjunct}
 use Rattle.lg_gram.specs.declared.linkage.Link.{Link}
-use Rattle.lg_member.specs.Members.{list_on, side_on, IsSideAt, IsKnown}
-use Rattle.lg_member.specs.declared.side.Side.{Side}
+use Rattle.lg_member.specs.Members.{side_on}
 use Rattle.lg_member.specs.declared.member.Member.{Member}
 use Rattle.lg_sharpen.specs.Sites.{own}
-use Rattle.lg_sharpen.specs.Filling.{rows_in, flag_at, MaySpan, need_of, need_at, least_at, AreLeast, under, first_of, last_of, stuck_in, stuck_under, AreSpans, AreGaps}
+use Rattle.lg_sharpen.specs.Filling.{rows_in, flag_at, need_of, need_at, least_at, AreLeast, under, first_of, last_of, stuck_under, AreSpans, AreGaps}
 use Rattle.lg_sharpen.specs.Bounds.{Fits, IsNearest, AllowsGaps, Covers, CoversAll, Stands}
 use Rattle.lg_sharpen.specs.declared.gaps.Gaps.{Gaps}
 use Rattle.lg_sharpen.specs.declared.site.Site.{Site}

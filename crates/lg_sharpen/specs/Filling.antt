@@ -1,5 +1,5 @@
 -- Gaps: the words under the nearest link of a word, to one side of it. They link among themselves and with that link's other end alone, or are unlinked.
-use Rattle.std.specs.Prelude.{◌≡◌, ℕ, ◌+◌, ◌-◌, ◌<◌, ◌≤◌, Bool, true, false, cond, ltb, List, [], ◌∷◌, length, map, slice_index_or}
+use Rattle.std.specs.Prelude.{◌≡◌, ℕ, ◌+◌, ◌-◌, ◌<◌, ◌≤◌, Bool, true, false, cond, ltb, List, [], ◌∷◌, map, slice_index_or}
 use Rattle.std.specs.Global.{Vec}
 use Rattle.std.specs.List.{Contains, count_by, range_with_len}
 use Rattle.lg_member.specs.declared.member.Member.{Member}
