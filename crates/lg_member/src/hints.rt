@@ -7,11 +7,11 @@ use std::collections::HashMap;
 /// Guesses at the number of a list. A guess may be wrong, and costs no more than a look.
 ///
 /// Disjuncts stand in order, so that the lists of one come in the order in which they came before: what came behind a number
-/// the last time is the best guess. Where that is wrong, lists are found by what they hold.
+/// the last time is the best guess, or the same number where it came twice in a row. Where that is wrong, lists are found by what they hold.
 #[derive(Drop)]
 pub(crate) struct Hints<'a> {
     last: usize,
-    // The last two lists were the same.
+    // Whether the last two lists were the same.
     stays: bool,
     behind: Vec<usize>,
     numbers: HashMap<&'a [Connector], usize>,
@@ -27,12 +27,12 @@ impl<'a> Hints<'a> {
         }
     }
 
-    /// The best guess: that the list before comes again, or that what came behind it does, as it was the last time.
+    /// The best guess: the list before, where it came twice in a row, else what came behind it.
     pub(crate) fn first(&self) -> usize {
         if self.stays { self.last } else { self.next() }
     }
 
-    /// The other one of the two.
+    /// The other one of these two.
     pub(crate) fn second(&self) -> usize {
         if self.stays { self.next() } else { self.last }
     }
