@@ -133,7 +133,7 @@ round_loses now = if sweep_loses false [] (reverse now) then sweep_loses true []
 
 -- the class of some capital letters
 abbrev pub class_of : List ℕ → ℕ
-class_of caps = fold (λ n c. (n * 31 + c) % 64) 0 caps
+class_of caps = fold (λ n c. (n * 31 + c) % 256) 0 caps
 
 -- the connectors that a table has in the class of these capital letters
 abbrev pub listed_at : List (List Connector) → List ℕ → List Connector

@@ -12,7 +12,7 @@ use std::alloc::Global;
 use std::marker::Model;
 
 // How many classes of capital letters there are.
-const CLASSES: usize = 64;
+const CLASSES: usize = 256;
 
 /// Distinct connectors, by a class of their capital letters. Contracts see a list of connectors for each class.
 #[derive(Drop)]
@@ -28,7 +28,7 @@ impl Model for Seen {
 
     ghost view = { λ s. map (λ row. row.items) s.rows.items };
 
-    ghost invariant = { λ s. length s.rows.items ≡ 64 };
+    ghost invariant = { λ s. length s.rows.items ≡ 256 };
 }
 
 impl Seen {
@@ -58,7 +58,7 @@ impl Seen {
 }
 
 fn empty(alloc: Global) -> Result<Vec<Vec<Connector>>, NoMemory>
-    ensures long { IfOk result (λ rows. length rows.items ≡ 64) }
+    ensures long { IfOk result (λ rows. length rows.items ≡ 256) }
     ensures none { IfOk result (λ rows. All (λ row. row.items ≡ []) rows.items) }
 {
     let mut rows = Vec::with_capacity(alloc, CLASSES)?;
