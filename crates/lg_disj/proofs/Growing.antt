@@ -3,6 +3,7 @@ use Rattle.std.proofs.Common.{◌≡◌, ℕ, ◌+◌, ◌<◌, true, false, ℤ
 use Rattle.std.specs.List.{All}
 use Rattle.std.proofs.Math.ListN.{get_or-append}
 use Rattle.std.proofs.Math.Seq.{take-append_seam, drop-append_seam}
+use Rattle.std.proofs.lemmas.Int.{ints}
 use Rattle.std.proofs.lemmas.List.{map-append}
 use Rattle.std.proofs.lemmas.List.Elements.{All-nil, All-cons, All-append, All-map, All-head, All-tail, All-weaker}
 use Rattle.lg_gram.specs.Connectors.{Connector}
@@ -118,6 +119,9 @@ stand_none leaves = record {
   sided = All-cons IsSided no_connectors [] (record { left = All-nil (IsOn false); right = All-nil (IsOn true) }) (All-nil IsSided);
 }
 
+cost_turned : (x y : ℤ) → x +ℤ y ≡ y +ℤ x
+cost_turned x y = omega (arith, ints)
+
 -- a second choice of no connector is a price alone
 bare_both : (p : ℤ) (ps : List Places) → map (raised p) ps ≡ all_both ps (only_cost p ∷ [])
 bare_both p [] = refl
@@ -125,6 +129,15 @@ bare_both p (a ∷ ps) = λ i. record { left = sym (append-nil a.left) i; right 
 
 pub with_bare : (ps qs : List Places) (p : ℤ) → p ≡ (get_or qs 0 no_places).cost → qs ≡ only_cost (get_or qs 0 no_places).cost ∷ [] → map (raised p) ps ≡ all_both ps qs
 with_bare ps qs p same is = bare_both p ps ∙ ap (λ c. all_both ps (only_cost c ∷ [])) same ∙ ap (all_both ps) (sym is)
+
+-- and so is a first one
+both_bare : (p : ℤ) (qs : List Places) → map (raised p) qs ≡ map (both (only_cost p)) qs
+both_bare p [] = refl
+both_bare p (b ∷ qs) = λ i. record { left = b.left; right = b.right; cost = cost_turned b.cost p i } ∷ both_bare p qs i
+
+pub after_bare : (ps qs : List Places) (p : ℤ) → p ≡ (get_or ps 0 no_places).cost → ps ≡ only_cost (get_or ps 0 no_places).cost ∷ [] → map (raised p) qs ≡ all_both ps qs
+after_bare ps qs p same is =
+    both_bare p qs ∙ sym (append-nil (map (both (only_cost p)) qs)) ∙ ap (λ c. all_both (only_cost c ∷ []) qs) same ∙ ap (λ ps. all_both ps qs) (sym is)
 
 pub cheap_listed : (leaves : List Connector) (ps : List Places) (cs : List Choice) → map (choice_by leaves) ps ≡ cs → All HasSmallCost cs → All IsCheap ps
 cheap_listed leaves ps cs told small = from_map HasSmallCost (choice_by leaves) ps (subst (All HasSmallCost) (sym told) small)

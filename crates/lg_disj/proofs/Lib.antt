@@ -7,6 +7,7 @@ pub mod Folds
 pub mod Growing
 pub mod Kept
 pub mod Kept_rows
+pub mod Leaf
 pub mod Members
 pub mod Numbering
 pub mod One_list

@@ -11,7 +11,7 @@ use Rattle.std.proofs.lemmas.Bool.Decides.{Decides-eqb}
 use Rattle.std.proofs.lemmas.Cmp.{on_total, then_total, nat_cmp_total, int_cmp_total}
 use Rattle.std.proofs.lemmas.List.{length-map, map-append, take_all, take_at, take_more}
 use Rattle.std.proofs.lemmas.List.Elements.{All-nil, All-cons, All-append, All-map, All-weaker}
-use Rattle.std.proofs.lemmas.List.Sorted.{All-permutation, IsPermutation-map}
+use Rattle.std.proofs.lemmas.List.Sorted.{All-permutation, IsPermutation-map, IsPermutation-trans, length_permutation}
 use Rattle.std.proofs.lemmas.Option.{slice_get_within, slice_get-get_or, get_or_from_slice_get}
 use Rattle.std.proofs.lemmas.Simd.{map-map}
 use Rattle.std.proofs.lemmas.Slice.Eq.{slice_eq-Decides}
@@ -48,12 +48,9 @@ came old new k f place is there same = record {
   stands = is_there new k f place there same;
 }
 
--- a list that is a known one was there
-pub was_there : (old : List (Bor (List ℕ))) (known list : List ℕ) (place : ℕ) → StandsAt old known place → list ≡ known → Comes old old list place
-was_there old known list place at is = record {
-  kept = λ n f h. h;
-  stands = record { lent = at.lent; there = at.there; same = at.same ∙ sym is };
-}
+-- a list that stands there was there
+pub was_there : (old : List (Bor (List ℕ))) (list : List ℕ) (place : ℕ) → StandsAt old list place → Comes old old list place
+was_there old list place at = record { kept = λ n f h. h; stands = at }
 
 pub stands_on : (old new : List (Bor (List ℕ))) (list : List ℕ) (place : ℕ) → Keeps old new → StandsAt old list place → StandsAt new list place
 stands_on old new list place kept at = record { lent = at.lent; there = kept place at.lent at.there; same = at.same }
@@ -64,27 +61,17 @@ places_on rs old new k kept h = record {
   right = stands_on old new (key_in rs k.row).right k.right kept h.right;
 }
 
--- the first rows have their places, and the lists of the last one stand where they are known to
-pub record SoFar (rs : List ℕ) (rows : List Row) (i : ℕ) (lists : List (Bor (List ℕ))) (placed : List Numbered) (left_list : List ℕ) (left : ℕ) (right_list : List ℕ) (right : ℕ) : Type 0 where
-  pub same : map (λ k. k.row) placed ≡ take i rows
-  pub places : All (HasPlaces rs lists) placed
-  pub lefts : StandsAt lists left_list left
-  pub rights : StandsAt lists right_list right
-
-pub none_so_far : (rs : List ℕ) (rows : List Row) (lists : List (Bor (List ℕ))) (placed : List Numbered) (none : List ℕ) (place : ℕ) → placed ≡ [] → StandsAt lists none place →
-    SoFar rs rows 0 lists placed none place none place
-none_so_far rs rows lists placed none place is at = record {
+pub none_placed : (rs : List ℕ) (rows : List Row) (lists : List (Bor (List ℕ))) (placed : List Numbered) → placed ≡ [] → HavePlaces rs lists (take 0 rows) placed
+none_placed rs rows lists placed is = record {
   same = ap (map (λ k. k.row)) is;
   places = subst (All (HasPlaces rs lists)) (sym is) (All-nil (HasPlaces rs lists));
-  lefts = at;
-  rights = at;
 }
 
 -- one more row has its places
-pub one_more : (rs : List ℕ) (rows : List Row) (i : ℕ) (row : Row) (l0 l1 l2 : List (Bor (List ℕ))) (old new : List Numbered) (a b p q : List ℕ) (m n x y : ℕ) → i < length rows →
+pub one_more : (rs : List ℕ) (rows : List Row) (i : ℕ) (row : Row) (l0 l1 l2 : List (Bor (List ℕ))) (old new : List Numbered) (a b : List ℕ) (m n : ℕ) → i < length rows →
     row ≡ get_or rows i row → a ≡ (key_in rs row).left → b ≡ (key_in rs row).right → Comes l0 l1 a m → Comes l1 l2 b n →
-    new ≡ old ++ record { left = m; right = n; row = row } ∷ [] → SoFar rs rows i l0 old p x q y → SoFar rs rows (i + 1) l2 new a m b n
-one_more rs rows i row l0 l1 l2 old new a b p q m n x y within read left right first second is h =
+    new ≡ old ++ record { left = m; right = n; row = row } ∷ [] → HavePlaces rs l0 (take i rows) old → HavePlaces rs l2 (take (i + 1) rows) new
+one_more rs rows i row l0 l1 l2 old new a b m n within read left right first second is h =
     let one : Numbered = record { left = m; right = n; row = row } in
     let kept : Keeps l0 l2 = λ k f at. second.kept k f (first.kept k f at) in
     let there = stands_on l1 l2 a m second.kept first.stands in
@@ -95,13 +82,11 @@ one_more rs rows i row l0 l1 l2 old new a b p q m n x y within read left right f
       places = subst (All (HasPlaces rs l2)) (sym is) (All-append (HasPlaces rs l2) old (one ∷ [])
           (All-weaker (HasPlaces rs l0) (HasPlaces rs l2) (λ k. places_on rs l0 l2 k kept) old h.places)
           (All-cons (HasPlaces rs l2) one [] has (All-nil (HasPlaces rs l2))));
-      lefts = there;
-      rights = second.stands;
     }
 
-pub all_placed : (rs : List ℕ) (rows : List Row) (i : ℕ) (lists : List (Bor (List ℕ))) (placed : List Numbered) (p q : List ℕ) (x y : ℕ) → length rows ≤ i →
-    SoFar rs rows i lists placed p x q y → HavePlaces rs lists rows placed
-all_placed rs rows i lists placed p q x y whole h = record { same = h.same ∙ take_all i rows whole; places = h.places }
+pub all_placed : (rs : List ℕ) (rows : List Row) (i : ℕ) (lists : List (Bor (List ℕ))) (placed : List Numbered) → length rows ≤ i →
+    HavePlaces rs lists (take i rows) placed → HavePlaces rs lists rows placed
+all_placed rs rows i lists placed whole h = record { same = h.same ∙ take_all i rows whole; places = h.places }
 
 module _ (lists : List (Bor (List ℕ))) (ranks : List ℕ) (are : AreRanksBy lent_cmp lists ranks) where
   ranks_alike : (a b : List ℕ) (m n : ℕ) → StandsAt lists a m → StandsAt lists b n → nat_cmp (get_or ranks m 0) (get_or ranks n 0) ≡ slice_cmp nat_cmp a b
@@ -147,6 +132,12 @@ are_numbered rs rows keys lists ranks read placed old new rest n have one are tw
       places = have;
       is = take_at new rest n (ap length all ∙ length-map placed (renumbered ranks) ∙ sym long) ∙ all;
     }
+
+-- rows that are exchanged where they lie, and then come in another order
+pub arranged : (old d new rest sorted : List Numbered) (n : ℕ) → IsPermutation (take n (new ++ rest)) sorted → d ≡ old → IsPermutation d new → n ≡ length old → IsPermutation old sorted
+arranged old d new rest sorted n moved is near long =
+    let same : length new ≡ n = length_permutation d new near ∙ ap length is ∙ sym long in
+    IsPermutation-trans old new sorted (subst (λ xs. IsPermutation xs new) is near) (subst (λ xs. IsPermutation xs sorted) (take_at new rest n same) moved)
 
 pub numbers_total : IsTotalOrder numbers_cmp
 numbers_total = then_total (then_total (on_total (λ k. k.left) nat_cmp_total) (on_total (λ k. k.right) nat_cmp_total)) (on_total (λ k. k.row.cost) int_cmp_total)

@@ -1,5 +1,5 @@
 -- What a call that lists choices adds: leaves behind those that are there, and choices behind those that are there.
-use Rattle.std.specs.Prelude.{◌≡◌, ◌<◌, List, ◌++◌, length, map}
+use Rattle.std.specs.Prelude.{◌≡◌, ◌<◌, ℕ, List, Some, ◌++◌, length, map, slice_get}
 use Rattle.std.specs.List.{All}
 use Rattle.lg_gram.specs.Connectors.{Connector}
 use Rattle.lg_gram.specs.Measures.{Choice}
@@ -27,3 +27,8 @@ pub record Lists (leaves : List Connector) (old new : List Places) (cs : List Ch
   pub fresh : List Places
   pub added : new ≡ old ++ fresh
   pub stand : StandFor leaves fresh cs
+
+-- this connector came to the leaves, or was one, and stands at this place
+pub record ComesAs (old new : List Connector) (c : Connector) (place : ℕ) : Type 0 where
+  pub grows : Grows old new
+  pub there : slice_get new place ≡ Some c

@@ -98,11 +98,11 @@ impl Choices {
         ensures within { OnOk result (IsArena self.new) }
     {
         let from = self.places.len();
-        self.places.extend_from_slice(left)?;
-        self.places.extend_from_slice(next_left)?;
+        add(&mut self.places, left)?;
+        add(&mut self.places, next_left)?;
         let middle = self.places.len();
-        self.places.extend_from_slice(right)?;
-        self.places.extend_from_slice(next_right)?;
+        add(&mut self.places, right)?;
+        add(&mut self.places, next_right)?;
         let end = self.places.len();
         let row = Row {
             from,
@@ -153,4 +153,15 @@ fn raise(rows: &mut [Row], price: Cost)
     for row in rows.iter_mut() {
         row.cost = row.cost.plus(price);
     }
+}
+
+// Most lists are empty, and then nothing is called.
+fn add(places: &mut Vec<usize>, more: &[usize]) -> Result<(), NoMemory>
+    ensures { OnOk result (places.new.items ≡ places.old.items ++ more.now) }
+{
+    if more.is_empty() {
+        return Ok(());
+    }
+    places.extend_from_slice(more)?;
+    Ok(())
 }

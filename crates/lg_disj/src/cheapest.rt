@@ -9,9 +9,11 @@ ghost use Rattle.lg_disj.specs.Grown.{IsPlaced, StandFor};
 ghost use Rattle.lg_disj.specs.Ranks.{IsKept};
 
 use crate::arena::{Choices, Row};
+use crate::arrange::arrange;
+use crate::guesses::Guesses;
 use crate::numbers::{rows_of, with_ranks};
 use crate::ranks::{ranks_at, ranks_of};
-use crate::sharing::{Guesses, list_of};
+use crate::sharing::list_of;
 use lg_base::{NoMemory, Text};
 use lg_gram::law::connectors_are_ordered;
 use lg_gram::{Connector, Disjunct, Disjuncts, Word};
@@ -45,6 +47,7 @@ fn kept_rows(alloc: Global, ranked: &[usize], rows: &[Row]) -> Result<Vec<Row>, 
     ensures few { IfOk result (λ kept. length kept.items ≤ length rows.now) }
 {
     let mut numbered = with_ranks(alloc, ranked, rows)?;
+    arrange(alloc, &mut numbered)?;
     numbered.sort_by(|a, b| a.compare(b))?;
     numbered.dedup_by(|next, kept| next.compare_lists(kept) == Ordering::Equal);
     rows_of(alloc, &numbered)

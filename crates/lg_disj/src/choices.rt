@@ -1,5 +1,5 @@
 //! The choices of an expression.
-ghost use Rattle.std.specs.Prelude.{◌≡◌, ◌≤◌, ◌↔◌, [], ◌∷◌, ◌++◌, map, length, true, IsTrue, IfOk, OnOk};
+ghost use Rattle.std.specs.Prelude.{◌≡◌, ◌≤◌, ◌↔◌, [], ◌∷◌, ◌++◌, map, length, slice_get, Some, true, IsTrue, IfOk, OnOk};
 ghost use Rattle.std.specs.List.{All};
 ghost use Rattle.lg_gram.specs.Limits.{FORMULA_NODES};
 ghost use Rattle.lg_gram.specs.Trees.{tree_of, trees_in, expr_items};
@@ -7,9 +7,10 @@ ghost use Rattle.lg_gram.specs.Formulas.{prices_are_small, prices_in_are_small};
 ghost use Rattle.lg_gram.specs.Measures.{single, choices_of, picks_of, choices_of_any, node_count, nodes_in};
 ghost use Rattle.lg_disj.specs.Choices.{IsSided};
 ghost use Rattle.lg_disj.specs.Places.{listed, IsArena};
-ghost use Rattle.lg_disj.specs.Grown.{Grows, Lists, StandFor};
+ghost use Rattle.lg_disj.specs.Grown.{Grows, Lists, StandFor, ComesAs};
 
 use crate::arena::Choices;
+use crate::guesses::{Guesses, slot_of_connector};
 use crate::product::products;
 use lg_base::{Cost, NoMemory};
 use lg_gram::law::choices_are_counted;
@@ -23,6 +24,7 @@ pub(crate) fn choices_of(
     alloc: Global,
     e: &Expr,
     leaves: &mut Vec<Connector>,
+    guesses: &mut Guesses,
     all: &mut Choices,
 ) -> Result<(), NoMemory>
     requires nodes { node_count (tree_of e.now) ≤ FORMULA_NODES }
@@ -34,18 +36,18 @@ pub(crate) fn choices_of(
 {
     match e {
         Expr::Empty => all.push(&[], &[], &[], &[], Cost::of(0))?,
-        Expr::Conn(connector) => push_single(connector, leaves, all)?,
+        Expr::Conn(connector) => push_single(connector, leaves, guesses, all)?,
         Expr::And(members) => {
             // The members before one that has no choice may have any number of products.
             if !has_no_choice(e) {
-                let picks = picks_of(alloc, members, leaves)?;
+                let picks = picks_of(alloc, members, leaves, guesses)?;
                 all.append(&picks)?;
             }
         }
-        Expr::Or(members) => choices_of_any(alloc, members, leaves, all)?,
+        Expr::Or(members) => choices_of_any(alloc, members, leaves, guesses, all)?,
         Expr::Priced(inner, price) => {
             let first = all.len();
-            choices_of(alloc, inner, leaves, all)?;
+            choices_of(alloc, inner, leaves, guesses, all)?;
             all.add_price(first, *price);
         }
     }
@@ -58,6 +60,7 @@ fn picks_of(
     alloc: Global,
     members: &Exprs,
     leaves: &mut Vec<Connector>,
+    guesses: &mut Guesses,
 ) -> Result<Choices, NoMemory>
     requires nodes { nodes_in (trees_in (expr_items members.now)) ≤ FORMULA_NODES }
     requires prices { prices_in_are_small (trees_in (expr_items members.now)) ≡ true }
@@ -69,8 +72,8 @@ fn picks_of(
     all.push(&[], &[], &[], &[], Cost::of(0))?;
     for member in members.items() {
         let mut next = Choices::new(alloc);
-        choices_of(alloc, member, leaves, &mut next)?;
-        all = products(alloc, all, &next)?;
+        choices_of(alloc, member, leaves, guesses, &mut next)?;
+        all = products(alloc, all, next)?;
     }
     Ok(all)
 }
@@ -81,6 +84,7 @@ fn choices_of_any(
     alloc: Global,
     members: &Exprs,
     leaves: &mut Vec<Connector>,
+    guesses: &mut Guesses,
     all: &mut Choices,
 ) -> Result<(), NoMemory>
     requires nodes { nodes_in (trees_in (expr_items members.now)) ≤ FORMULA_NODES }
@@ -91,15 +95,16 @@ fn choices_of_any(
     ensures arena { OnOk result (IsArena all.new) }
 {
     for member in members.items() {
-        choices_of(alloc, member, leaves, all)?;
+        choices_of(alloc, member, leaves, guesses, all)?;
     }
     Ok(())
 }
 
-// The choice of a connector alone, which is one leaf more.
+// The choice of a connector alone.
 fn push_single(
     connector: &Connector,
     leaves: &mut Vec<Connector>,
+    guesses: &mut Guesses,
     all: &mut Choices,
 ) -> Result<(), NoMemory>
     requires { IsArena all.old }
@@ -109,13 +114,46 @@ fn push_single(
 {
     // What `caps` says of the name holds of each connector, and lets the order tell connectors apart.
     let _capitals = connector.caps();
-    let place = leaves.len();
-    leaves.push(*connector)?;
+    let place = leaf_of(connector, leaves, guesses)?;
     if connector.is_right() {
         all.push(&[], &[], &[place], &[], Cost::of(0))
     } else {
         all.push(&[place], &[], &[], &[], Cost::of(0))
     }
+}
+
+// The place of a leaf that is this connector: one that is there, where the guess finds it, or else a new one.
+fn leaf_of(
+    connector: &Connector,
+    leaves: &mut Vec<Connector>,
+    guesses: &mut Guesses,
+) -> Result<usize, NoMemory>
+    ensures { IfOk result (λ n. ComesAs leaves.old.items leaves.new.items connector.now n) }
+{
+    let slot = slot_of_connector(connector);
+    let guess = guesses.at(slot);
+    if is_leaf(leaves, guess, connector) {
+        return Ok(guess);
+    }
+    let place = leaves.len();
+    leaves.push(*connector)?;
+    let _old = guesses.replace(slot, place);
+    Ok(place)
+}
+
+fn is_leaf(leaves: &[Connector], place: usize, connector: &Connector) -> bool
+    ensures { IsTrue result → slice_get leaves.now place ≡ Some connector.now }
+{
+    match leaves.get(place) {
+        Some(leaf) => is_one(leaf, connector),
+        None => false,
+    }
+}
+
+fn is_one(a: &Connector, b: &Connector) -> bool
+    ensures { IsTrue result → a.now ≡ b.now }
+{
+    a == b
 }
 
 fn has_no_choice(e: &Expr) -> bool

@@ -10,8 +10,10 @@ ghost use Rattle.lg_gram.specs.Disjuncts.{AreDisjuncts};
 ghost use Rattle.lg_gram.specs.Problems.{FitsProblem};
 
 mod arena;
+mod arrange;
 mod cheapest;
 mod choices;
+mod guesses;
 pub mod law;
 mod names;
 mod numbers;
@@ -22,6 +24,7 @@ mod sharing;
 use crate::arena::Choices;
 use crate::cheapest::{cheapest, disjuncts_of};
 use crate::choices::choices_of;
+use crate::guesses::Guesses;
 pub use law::expressions_have_disjuncts;
 use lg_base::{NoMemory, Text};
 use lg_gram::law::choices_are_counted;
@@ -46,7 +49,8 @@ pub fn expand(alloc: Global, word: &Text, formula: &Formula) -> Result<Disjuncts
     choices_are_counted();
     let mut leaves = Vec::new(alloc);
     let mut all = Choices::new(alloc);
-    choices_of(alloc, formula.expr(), &mut leaves, &mut all)?;
+    let mut guesses = Guesses::new();
+    choices_of(alloc, formula.expr(), &mut leaves, &mut guesses, &mut all)?;
     let kept = cheapest(alloc, &leaves, all)?;
     disjuncts_of(alloc, word, &leaves, &kept)
 }

@@ -1,10 +1,11 @@
 //! Numbers of the lists of rows, which compare as the lists do.
-ghost use Rattle.std.specs.Prelude.{◌≡◌, map, IfOk};
+ghost use Rattle.std.specs.Prelude.{◌≡◌, map, IsTrue, IfOk};
 ghost use Rattle.std.specs.List.Sorted.{IsSorted, IsPermutation};
 ghost use Rattle.lg_disj.specs.Ranks.{part_or, AreRanksBy, IsRankBy, lent_cmp, StandsAt, Comes, HavePlaces, renumbered, AreNumbered};
 ghost use Rattle.lg_disj.specs.Ranks.{lists_numbers_cmp, numbers_cmp};
 
 use crate::arena::Row;
+use crate::guesses::{Guesses, slot_of};
 use crate::ranks::rank_at;
 use indexmap::IndexSet;
 use lg_base::NoMemory;
@@ -20,6 +21,11 @@ pub(crate) struct Numbered {
 }
 
 impl Numbered {
+    /// The number on a side, `true` the right.
+    pub(crate) fn number(&self, right: bool) -> usize {
+        if right { self.right } else { self.left }
+    }
+
     /// The order by left list, right list and cost.
     pub(crate) fn compare(&self, other: &Numbered) -> Ordering
         ensures { result ≡ numbers_cmp self.now other.now }
@@ -53,8 +59,7 @@ pub(crate) fn with_ranks(
     Ok(numbered)
 }
 
-// The rows with the places of their lists among the distinct ones, in the order first met. A list that the row before
-// has too is not looked up again.
+// The rows with the places of their lists among the distinct ones, in the order first met.
 fn with_places<'a>(
     alloc: Global,
     ranked: &'a [usize],
@@ -63,18 +68,11 @@ fn with_places<'a>(
 ) -> Result<Vec<Numbered>, NoMemory>
     ensures { IfOk result (λ numbered. HavePlaces ranked.now lists.new.keys rows.now numbered.items) }
 {
+    let mut guesses = Guesses::new();
     let mut numbered = Vec::with_capacity(alloc, rows.len())?;
-    let none = part_or(ranked, 0, 0);
-    let (place, _) = lists.insert_full(none)?;
-    let (mut left, mut left_list) = (place, none);
-    let (mut right, mut right_list) = (place, none);
     for row in rows {
-        let list = part_or(ranked, row.from, row.middle);
-        left = place_of(lists, left_list, left, list)?;
-        left_list = list;
-        let list = part_or(ranked, row.middle, row.end);
-        right = place_of(lists, right_list, right, list)?;
-        right_list = list;
+        let left = place_of(lists, &mut guesses, part_or(ranked, row.from, row.middle))?;
+        let right = place_of(lists, &mut guesses, part_or(ranked, row.middle, row.end))?;
         numbered.push(Numbered {
             left,
             right,
@@ -84,21 +82,31 @@ fn with_places<'a>(
     Ok(numbered)
 }
 
-// The place of a list, where that of another one is known.
+// The place of a list. Where the guess finds it, it is not looked up by its hash.
 fn place_of<'a>(
     lists: &mut IndexSet<&'a [usize]>,
-    known: &[usize],
-    place: usize,
+    guesses: &mut Guesses,
     list: &'a [usize],
 ) -> Result<usize, NoMemory>
-    requires known { StandsAt lists.old.keys known.now place }
     ensures { IfOk result (λ n. Comes lists.old.keys lists.new.keys list.now n) }
 {
-    if list == known {
-        return Ok(place);
+    let slot = slot_of(list);
+    let guess = guesses.at(slot);
+    if is_at(lists, guess, list) {
+        return Ok(guess);
     }
     let (place, _) = lists.insert_full(list)?;
+    let _old = guesses.replace(slot, place);
     Ok(place)
+}
+
+fn is_at(lists: &IndexSet<&[usize]>, place: usize, list: &[usize]) -> bool
+    ensures { IsTrue result → StandsAt lists.now.keys list.now place }
+{
+    match lists.get_index(place) {
+        Some(known) => *known == list,
+        None => false,
+    }
 }
 
 // The rank of each list: how many of them come before it.

@@ -10,27 +10,31 @@ use std::alloc::Global;
 
 /// Each of the first choices joined with each of the second, by the first and then by the second.
 ///
-/// Where the second is one choice of no connector, nothing is copied. So many such lists in a row take time in
+/// Where the first or the second is one choice of no connector, nothing is copied. So many such lists in a row take time in
 /// proportion to how many there are.
 pub(crate) fn products(
     alloc: Global,
     mut firsts: Choices,
-    seconds: &Choices,
+    mut seconds: Choices,
 ) -> Result<Choices, NoMemory>
     requires first_arena { IsArena firsts }
-    requires second_arena { IsArena seconds.now }
+    requires second_arena { IsArena seconds }
     requires first_costs { All IsCheap (listed firsts) }
-    requires second_costs { All IsCheap (listed seconds.now) }
-    ensures exact { IfOk result (λ all. listed all ≡ all_both (listed firsts) (listed seconds.now)) }
+    requires second_costs { All IsCheap (listed seconds) }
+    ensures exact { IfOk result (λ all. listed all ≡ all_both (listed firsts) (listed seconds)) }
     ensures arena { IfOk result IsArena }
 {
-    if is_bare(seconds) {
+    if is_bare(&seconds) {
         firsts.add_price(0, seconds.cost(0));
         return Ok(firsts);
     }
+    if is_bare(&firsts) {
+        seconds.add_price(0, firsts.cost(0));
+        return Ok(seconds);
+    }
     let mut all = Choices::new(alloc);
     for first in 0..firsts.len() {
-        push_products(&firsts, first, seconds, &mut all)?;
+        push_products(&firsts, first, &seconds, &mut all)?;
     }
     Ok(all)
 }

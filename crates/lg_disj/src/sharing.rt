@@ -6,43 +6,10 @@ ghost use Rattle.lg_disj.specs.Places.{no_places, side_of, leaf_at, choice_by, l
 ghost use Rattle.lg_disj.specs.Grown.{IsPlaced};
 
 use crate::arena::Choices;
+use crate::guesses::{Guesses, slot_of};
 use lg_base::NoMemory;
 use lg_gram::{Connector, Connectors, Disjunct};
 use std::alloc::Global;
-use std::mem;
-
-// How many guesses are kept.
-const GUESSES: usize = 64;
-
-/// For lists of leaves, the number of a choice that may have the same list. A guess may be wrong, and costs no more than a look.
-#[derive(Drop)]
-pub(crate) struct Guesses {
-    numbers: [usize; GUESSES],
-}
-
-impl Guesses {
-    pub(crate) fn new() -> Guesses {
-        Guesses {
-            numbers: [0; GUESSES],
-        }
-    }
-
-    // The guess for a list. The next one is this number.
-    fn replace(&mut self, list: &[usize], number: usize) -> usize {
-        match self.numbers.get_mut(slot_of(list)) {
-            Some(kept) => mem::replace(kept, number),
-            None => 0,
-        }
-    }
-}
-
-fn slot_of(list: &[usize]) -> usize {
-    let mut slot: usize = 0;
-    for place in list {
-        slot = slot.wrapping_mul(31).wrapping_add(*place);
-    }
-    slot % GUESSES
-}
 
 /// The list of a choice on a side, `true` the right. Where the guess finds an earlier disjunct whose list is of the same leaves, it is
 /// shared with that one.
@@ -62,7 +29,7 @@ pub(crate) fn list_of(
     ensures { IfOk result (λ list. list ≡ map (leaf_at leaves.now) (side_of right (get_or (listed choices.now) number no_places))) }
 {
     let places = choices.side(right, number);
-    let guess = guesses.replace(places, number);
+    let guess = guesses.replace(slot_of(places), number);
     if guess < made.len() && is_same(choices.side(right, guess), places) {
         return shared(&made[guess], right);
     }
