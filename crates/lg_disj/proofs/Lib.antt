@@ -12,6 +12,7 @@ pub mod Members
 pub mod Numbering
 pub mod One_list
 pub mod Parts
+pub mod Picking
 pub mod Products
 pub mod Ranked
 pub mod Rows

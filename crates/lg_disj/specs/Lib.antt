@@ -1,5 +1,6 @@
 pub mod Choices
 pub mod Exist
 pub mod Grown
+pub mod Picked
 pub mod Places
 pub mod Ranks

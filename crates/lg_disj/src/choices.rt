@@ -8,10 +8,11 @@ ghost use Rattle.lg_gram.specs.Measures.{single, choices_of, picks_of, choices_o
 ghost use Rattle.lg_disj.specs.Choices.{IsSided};
 ghost use Rattle.lg_disj.specs.Places.{listed, IsArena};
 ghost use Rattle.lg_disj.specs.Grown.{Grows, Lists, StandFor, ComesAs};
+ghost use Rattle.lg_disj.specs.Picked.{picked, IsReady};
 
 use crate::arena::Choices;
 use crate::guesses::{Guesses, slot_of_connector};
-use crate::product::products;
+use crate::product::{Picks, bare, products, push_picks};
 use lg_base::{Cost, NoMemory};
 use lg_gram::law::choices_are_counted;
 use lg_gram::{Connector, Expr, Exprs, choices};
@@ -41,7 +42,7 @@ pub(crate) fn choices_of(
             // The members before one that has no choice may have any number of products.
             if !has_no_choice(e) {
                 let picks = picks_of(alloc, members, leaves, guesses)?;
-                all.append(&picks)?;
+                push_picks(alloc, picks, all)?;
             }
         }
         Expr::Or(members) => choices_of_any(alloc, members, leaves, guesses, all)?,
@@ -54,28 +55,29 @@ pub(crate) fn choices_of(
     Ok(())
 }
 
-// Every way to pick one choice of each member.
+// Every way to pick one choice of each member: those of the members before the last, and the choices of the last.
 #[cycle(choices)]
 fn picks_of(
     alloc: Global,
     members: &Exprs,
     leaves: &mut Vec<Connector>,
     guesses: &mut Guesses,
-) -> Result<Choices, NoMemory>
+) -> Result<Picks, NoMemory>
     requires nodes { nodes_in (trees_in (expr_items members.now)) ≤ FORMULA_NODES }
     requires prices { prices_in_are_small (trees_in (expr_items members.now)) ≡ true }
     ensures leaves { IfOk result (λ all. Grows leaves.old.items leaves.new.items) }
-    ensures exact { IfOk result (λ all. StandFor leaves.new.items (listed all) (picks_of (trees_in (expr_items members.now)))) }
-    ensures arena { IfOk result IsArena }
+    ensures exact { IfOk result (λ picks. StandFor leaves.new.items (picked picks) (picks_of (trees_in (expr_items members.now)))) }
+    ensures ready { IfOk result IsReady }
 {
-    let mut all = Choices::new(alloc);
-    all.push(&[], &[], &[], &[], Cost::of(0))?;
+    let mut firsts = bare(alloc)?;
+    let mut last = bare(alloc)?;
     for member in members.items() {
         let mut next = Choices::new(alloc);
         choices_of(alloc, member, leaves, guesses, &mut next)?;
-        all = products(alloc, all, next)?;
+        firsts = products(alloc, firsts, last)?;
+        last = next;
     }
-    Ok(all)
+    Ok(Picks { firsts, last })
 }
 
 // The choices of each member, one list after another.

@@ -2,10 +2,11 @@
 ghost use Rattle.std.specs.Prelude.{◌≡◌, ◌<◌, ◌++◌, length, map, get_or, IsTrue, [], ◌∷◌, IfOk, OnOk};
 ghost use Rattle.std.specs.List.{All};
 ghost use Rattle.lg_gram.specs.Problems.{IsDisjunctCost};
+ghost use Rattle.lg_disj.specs.Picked.{picked, IsReady};
 ghost use Rattle.lg_disj.specs.Places.{no_places, both, listed, all_both, IsArena, IsCheap, only_cost};
 
 use crate::arena::Choices;
-use lg_base::NoMemory;
+use lg_base::{Cost, NoMemory};
 use std::alloc::Global;
 
 /// Each of the first choices joined with each of the second, by the first and then by the second.
@@ -33,10 +34,56 @@ pub(crate) fn products(
         return Ok(seconds);
     }
     let mut all = Choices::new(alloc);
-    for first in 0..firsts.len() {
-        push_products(&firsts, first, &seconds, &mut all)?;
-    }
+    push_all(&firsts, &seconds, &mut all)?;
     Ok(all)
+}
+
+/// Picks of several expressions: those of all but the last, which each choice of the last follows.
+#[derive(Debug, Drop)]
+pub(crate) struct Picks {
+    pub(crate) firsts: Choices,
+    pub(crate) last: Choices,
+}
+
+/// One choice, of no connector, which costs nothing.
+pub(crate) fn bare(alloc: Global) -> Result<Choices, NoMemory>
+    ensures exact { IfOk result (λ all. listed all ≡ no_places ∷ []) }
+    ensures arena { IfOk result IsArena }
+{
+    let mut all = Choices::new(alloc);
+    all.push(&[], &[], &[], &[], Cost::of(0))?;
+    Ok(all)
+}
+
+/// Adds the picks, each whole.
+pub(crate) fn push_picks(alloc: Global, picks: Picks, all: &mut Choices) -> Result<(), NoMemory>
+    requires ready { IsReady picks }
+    requires arena { IsArena all.old }
+    ensures exact { OnOk result (listed all.new ≡ listed all.old ++ picked picks) }
+    ensures arena { OnOk result (IsArena all.new) }
+{
+    let Picks { firsts, last } = picks;
+    if is_bare(&firsts) || is_bare(&last) {
+        let whole = products(alloc, firsts, last)?;
+        return all.append(&whole);
+    }
+    push_all(&firsts, &last, all)
+}
+
+// Adds each of the first choices joined with each of the second.
+fn push_all(firsts: &Choices, seconds: &Choices, all: &mut Choices) -> Result<(), NoMemory>
+    requires first_arena { IsArena firsts.now }
+    requires second_arena { IsArena seconds.now }
+    requires arena { IsArena all.old }
+    requires first_costs { All IsCheap (listed firsts.now) }
+    requires second_costs { All IsCheap (listed seconds.now) }
+    ensures exact { OnOk result (listed all.new ≡ listed all.old ++ all_both (listed firsts.now) (listed seconds.now)) }
+    ensures arena { OnOk result (IsArena all.new) }
+{
+    for first in 0..firsts.len() {
+        push_products(firsts, first, seconds, all)?;
+    }
+    Ok(())
 }
 
 // Whether it is one choice, of no connector.

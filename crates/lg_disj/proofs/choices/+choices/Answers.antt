@@ -3,10 +3,12 @@ use Rattle.std.specs.List.{All}
 use Rattle.lg_gram.specs.Trees.{priced, tree_of, trees_in, expr_items}
 use Rattle.lg_gram.specs.Measures.{choices_of, node_count, nodes_in}
 use Rattle.lg_disj.specs.Choices.{HasSmallCost}
+use Rattle.lg_disj.specs.Places.{listed}
 use Rattle.lg_disj.proofs.Bounded.{small_costs, small_picks}
 use Rattle.lg_disj.proofs.Folds.{tree_of-Priced}
 use Rattle.lg_disj.proofs.Members.{inner_nodes, inner_prices, read_nodes, read_prices, read_more, fewer_nodes, fewer_prices}
-use Rattle.lg_disj.proofs.Growing.{grows_no, grows_twice, lists_no, lists_priced, any_more, picks_more, fresh_stand, cheap_listed, fresh_cheap}
+use Rattle.lg_disj.proofs.Growing.{grows_no, grows_twice, lists_no, lists_priced, any_more, fresh_stand, cheap_listed, fresh_cheap}
+use Rattle.lg_disj.proofs.Picking.{none_picked, none_cheap, one_more_picked, joined_cheap}
 use Rattle.lg_disj.proofs.choices.+choices.Goals as goal
 
 pub picks_of-choices_of-requires : goal.picks_of-choices_of-requires
@@ -39,31 +41,35 @@ choices_of_any-loop-member-preserved t c =
       arena = c.in_ok-choices_of.ensures.arena;
     }
 
-pub picks_of-products-requires-clause-first_costs : goal.picks_of-products-requires-clause-first_costs
-picks_of-products-requires-clause-first_costs t c =
-    let es = c.items-member-items.result.now in
-    let few = rw (← c.items-member-items.ensures) at c.requires.nodes in
-    let small = rw (← c.items-member-items.ensures) at c.requires.prices in
-    cheap_listed _ _ _ c.loop-member.invariant.stand.told
-    (small_picks (trees_in (take c.loop-member.member-index es)) (omega (arith, fewer_nodes es c.loop-member.member-index, few)) (fewer_prices es c.loop-member.member-index small))
-
-pub picks_of-products-requires-clause-second_costs : goal.picks_of-products-requires-clause-second_costs
-picks_of-products-requires-clause-second_costs t c =
-    let nodes : node_count (tree_of c.member-item.result) ≤ nodes_in (trees_in (expr_items c.args.members.now)) =
-    read_nodes _ _ _ _ c.loop-member-test.true c.member-item.is c.items-member-items.ensures in
-    cheap_listed _ _ _ (fresh_stand _ _ _ _ c.new-next.ensures.exact c.in_ok-choices_of.ensures.exact).told
-    (small_costs (tree_of c.member-item.result) (omega arith) (read_prices _ _ _ _ c.loop-member-test.true c.member-item.is c.items-member-items.ensures c.requires.prices))
+pub picks_of-loop-member-init : goal.picks_of-loop-member-init
+picks_of-loop-member-init t c = record {
+  grows = grows_no _;
+  stand = none_picked _ _ _ c.in_ok-firsts.ensures.exact c.in_ok-last.ensures.exact;
+  first_arena = c.in_ok-firsts.ensures.arena;
+  last_arena = c.in_ok-last.ensures.arena;
+  first_costs = none_cheap _ c.in_ok-firsts.ensures.exact;
+  last_costs = none_cheap _ c.in_ok-last.ensures.exact;
+}
 
 pub picks_of-loop-member-preserved : goal.picks_of-loop-member-preserved
 picks_of-loop-member-preserved t c =
     let at = c.loop-member in
     let es = c.items-member-items.result.now in
+    let few = rw (← c.items-member-items.ensures) at c.requires.nodes in
+    let small = rw (← c.items-member-items.ensures) at c.requires.prices in
+    let nodes : node_count (tree_of c.member-item.result) ≤ nodes_in (trees_in (expr_items c.args.members.now)) =
+    read_nodes _ _ _ _ c.loop-member-test.true c.member-item.is c.items-member-items.ensures in
     let more = read_more es at.member-index c.member-item.result c.loop-member-test.true c.member-item.is in
     let next = fresh_stand _ _ _ _ c.new-next.ensures.exact c.in_ok-choices_of.ensures.exact in
     record {
       grows = grows_twice _ _ _ at.invariant.grows c.in_ok-choices_of.ensures.leaves;
-      stand = picks_more _ _ _ _ _ es at.member-index c.member-item.result c.in_ok-choices_of.ensures.leaves at.invariant.stand next c.in_ok-all.ensures.exact more;
-      arena = c.in_ok-all.ensures.arena;
+      stand = one_more_picked _ _ (listed at.firsts) (listed at.last) _ _ es at.member-index c.member-item.result c.in_ok-choices_of.ensures.leaves at.invariant.stand next c.in_ok-firsts-2.ensures.exact more;
+      first_arena = c.in_ok-firsts-2.ensures.arena;
+      last_arena = c.in_ok-choices_of.ensures.arena;
+      first_costs = joined_cheap _ (listed at.firsts) (listed at.last) _ (take at.member-index es) c.in_ok-firsts-2.ensures.exact at.invariant.stand
+          (small_picks (trees_in (take at.member-index es)) (omega (arith, fewer_nodes es at.member-index, few)) (fewer_prices es at.member-index small));
+      last_costs = cheap_listed _ _ _ next.told
+          (small_costs (tree_of c.member-item.result) (omega arith) (read_prices _ _ _ _ c.loop-member-test.true c.member-item.is c.items-member-items.ensures c.requires.prices));
     }
 
 pub choices_of-add_price-requires-clause-costs : goal.choices_of-add_price-requires-clause-costs
