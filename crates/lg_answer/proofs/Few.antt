@@ -124,7 +124,7 @@ no_more ds es rise each =
     let c = each a.1 (a.0, a.2, a.3) in
     list_any_at (eq_by_cmp disjunct_cmp q) es c.0 a.1 c.1 (ap (eq_by_cmp disjunct_cmp q) c.2 ∙ a.4))
 
-made_positions : (pruned : List (List WordTree)) (left : List (List Disjunct)) → AllZip AreMade pruned left → All IsPosition left
+pub made_positions : (pruned : List (List WordTree)) (left : List (List Disjunct)) → AllZip AreMade pruned left → All IsPosition left
 made_positions [] [] all = All-nil IsPosition
 made_positions [] (ds ∷ left) all = absurd all
 made_positions (ws ∷ pruned) [] all = absurd all

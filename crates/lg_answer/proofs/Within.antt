@@ -1,8 +1,8 @@
 -- A problem of the choices within reach has the good linkages of the problem of all.
-use Rattle.std.proofs.Common.{◌≡◌, ◌≢◌, ◌⊎◌, ◌↔◌, ℕ, zero, suc, ◌<◌, ℤ, ◌≤ℤ◌, Option, None, Some, List, [], ◌∷◌, length, map, set, Contains, inl, inr, refl, sym, ap, ◌∙◌, subst, arith, IsSome}
-use Rattle.std.specs.Prelude.{IfSome, MatchOption, slice_index_or}
+use Rattle.std.proofs.Common.{◌≡◌, ◌≢◌, ◌⊎◌, ◌↔◌, ℕ, zero, suc, ◌<◌, ◌≤◌, ℤ, ◌≤ℤ◌, Option, None, Some, List, [], ◌∷◌, length, map, set, Contains, inl, inr, refl, sym, ap, ◌∙◌, subst, arith, IsSome}
+use Rattle.std.specs.Prelude.{slice_index_or}
 use Rattle.std.specs.Bool.{Decides}
-use Rattle.std.specs.List.{AllZip}
+use Rattle.std.specs.List.{AllZip, sum_by}
 use Rattle.std.specs.List.Sorted.{IsStrictlySortedBy}
 use Rattle.std.specs.Cmp.Lexicographic.{pointwise}
 use Rattle.std.specs.Int.Signed.{≤ℤ_refl}
@@ -18,6 +18,7 @@ use Rattle.lg_gram.proofs.Orders.{disjuncts_total}
 use Rattle.lg_gram.proofs.Same.{connector_Decides}
 use Rattle.lg_gram.specs.Connectors.{Connector, connector_eq}
 use Rattle.lg_gram.specs.Disjuncts.{choice_of, disjunct_cmp, IsDisjunctOf}
+use Rattle.lg_gram.specs.Limits.{DISJUNCTS, POSITIONS}
 use Rattle.lg_gram.specs.Linkages.{Linkage, link_cmp}
 use Rattle.lg_gram.specs.Measures.{Choice, choices_of}
 use Rattle.lg_gram.specs.Problems.{IsProblem}
@@ -27,11 +28,12 @@ use Rattle.lg_gram.specs.declared.disjunct.Disjunct.{Disjunct}
 use Rattle.lg_eprune.specs.Live.{WordTree, AreNarrowed, LinkagesAreLive}
 use Rattle.lg_reach.specs.Ends.{IsLinkageOf, Uses}
 use Rattle.lg_reach.specs.Reach.{HaveFewer, HaveUsed, Narrows, nothing, kept, dropped, Never}
+use Rattle.lg_answer.proofs.Few.{made_positions}
 use Rattle.lg_answer.proofs.Lists.{zip_each}
 use Rattle.lg_answer.proofs.Made.{expanded_none, listed_none, one_in_rising}
 use Rattle.lg_answer.proofs.Narrowed.{inside, are_of, live_of, narrowed_of}
 use Rattle.lg_answer.specs.Pages.{HasLinkagesOf}
-use Rattle.lg_answer.specs.Steps.{AreExpanded, AreListedOf, IsOfTrees, IsWithin}
+use Rattle.lg_answer.specs.Steps.{AreExpanded, AreListedOf, AreMade, IsOfTrees, IsWithin}
 
 -- ---- what is left of the words of a position
 
@@ -319,10 +321,21 @@ module _ (law : LinkagesAreLive) (words live : List (List WordTree)) (narrow : A
     },
   )
 
--- if there is one within the limits
-pub within_found : (live near : List (List WordTree)) → HaveFewer live near → ((g : Linkage) → IsLinkageOf live g → HaveUsed g live near) → (positions : List (List Disjunct))
-    → AllZip AreListedOf near positions → (found : Option (List (List Disjunct))) → MatchOption found (IsProblem positions → ⊥) (λ p. (p ≡ positions) × IsProblem positions)
-    → IfSome found (IsWithin live)
-within_found live near fewer used positions listed None is = tt
-within_found live near fewer used positions listed (Some p) (same, limits) =
-    subst (IsWithin live) (sym same) (record { kept = near; fewer = fewer; used = used; listed = listed; limits = limits })
+-- ---- the problem of what is within reach
+
+made_listed : (ws : List (List WordTree)) (ds : List (List Disjunct)) → AllZip AreMade ws ds → AllZip AreListedOf ws ds
+made_listed [] [] all = tt
+made_listed [] (e ∷ ds) all = absurd all
+made_listed (w ∷ ws) [] all = absurd all
+made_listed (w ∷ ws) (e ∷ ds) all = (record { exactly = all.0.expanded.exactly; fit = all.0.fit }, made_listed ws ds all.1)
+
+-- what is made of words is a problem where it keeps the limits
+pub near_problem : (near : List (List WordTree)) (positions : List (List Disjunct)) → length near ≤ POSITIONS → AllZip AreMade near positions → sum_by length positions ≤ DISJUNCTS
+    → IsProblem positions
+near_problem near positions few made few_disjuncts =
+    record { few = (let long = AllZip-long AreMade near positions made in omega (arith, long, few)); few_disjuncts = few_disjuncts; each = made_positions near positions made }
+
+-- and it is one within reach
+pub within_made : (live near : List (List WordTree)) → HaveFewer live near → ((g : Linkage) → IsLinkageOf live g → HaveUsed g live near) → (positions : List (List Disjunct))
+    → AllZip AreMade near positions → IsProblem positions → IsWithin live positions
+within_made live near fewer used positions made limits = record { kept = near; fewer = fewer; used = used; listed = made_listed near positions made; limits = limits }

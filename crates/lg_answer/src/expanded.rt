@@ -27,15 +27,24 @@ pub(crate) fn expanded(alloc: Global, positions: &[WordExprs]) -> Result<Positio
     Ok(Positions::of(all))
 }
 
-/// The disjuncts of the words of each position, those of one word after those of another. The only error is running out of memory.
+/// The disjuncts of the words of each position, those of one word after those of another: the words increase, and so do they. The only
+/// error is running out of memory.
 pub(crate) fn spelled(alloc: Global, positions: &[WordExprs]) -> Result<Positions, NoMemory>
-    ensures { IfOk result (AllZip AreListedOf positions.now) }
+    requires { All (IsStrictlySortedBy word_cmp) positions.now }
+    ensures { IfOk result (AllZip AreMade positions.now) }
 {
     let mut all = Vec::with_capacity(alloc, positions.len())?;
     for words in positions {
         all.push(Disjuncts::of(listed(alloc, words.items())?))?;
     }
     Ok(Positions::of(all))
+}
+
+/// Whether the words of each position increase by their bytes.
+pub(crate) fn all_rise(positions: &[WordExprs]) -> bool
+    ensures { IsTrue result → All (IsStrictlySortedBy word_cmp) positions.now }
+{
+    positions.iter().all(|words| words_rise(words.items()))
 }
 
 // The disjuncts of all these words. A sentence's own words increase by bytes and disjuncts by their words first, so that the
