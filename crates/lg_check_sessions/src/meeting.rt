@@ -5,8 +5,9 @@ ghost use Rattle.lg_script.specs.Commands.{script_views};
 ghost use Rattle.lg_check_sessions.specs.Small.{IsSmall};
 
 use crate::session::{Told, Toy, add, commands_of, dictionary, expect, put};
+use lg_gram::Replies;
 use lg_script::{Command, Commands, Scripts};
-use lg_session::{Gate, Outcome, run_sessions};
+use lg_session::{Gate, Outcome, WholeReplies, run_sessions};
 use std::alloc::Global;
 use std::process::Abort;
 use std::sync::atomic::{AtomicU64, Ordering};
@@ -66,15 +67,15 @@ fn scripts(alloc: Global) -> Result<Scripts, Fail>
     Ok(Scripts::of(lists))
 }
 
-fn run<R: Threads + Sync>(rt: &R, alloc: Global, gate: &Meeting) -> Result<Outcome, Fail> {
+fn run<R: Threads + Sync>(rt: &R, alloc: Global, gate: &Meeting) -> Result<Outcome<Replies>, Fail> {
     let dict = dictionary(alloc)?;
     let scripts = scripts(alloc)?;
-    let outcome = run_sessions(rt, alloc, &dict, &scripts, &Toy, gate)?;
+    let outcome = run_sessions(rt, alloc, &dict, &scripts, &Toy, gate, &WholeReplies)?;
     Ok(outcome)
 }
 
-fn expect_both<R: Abort>(rt: &R, outcome: &Outcome) {
-    let lists = outcome.replies.items();
+fn expect_both<R: Abort>(rt: &R, outcome: &Outcome<Replies>) {
+    let lists = outcome.kept.as_slice();
     assert!(rt; lists.len() == 2);
     expect(rt, lists[0].items(), 1, Told::At(2));
     expect(rt, lists[1].items(), 1, Told::At(2));

@@ -15,10 +15,10 @@ use lg_dict::{Dict, View};
 use lg_edit::Edit;
 use lg_gram::{
     Connector, EditRefusal, Entry, Expr, Formula, Item, ItemKind, Items, Page, PageItems, Place,
-    RawEntry, RawExpr, Reply, Stats, Token, Tokens,
+    RawEntry, RawExpr, Replies, Reply, Stats, Token, Tokens,
 };
 use lg_script::{Command, Commands, Scripts};
-use lg_session::{Engine, FreeGate, Opening, Outcome, run_sessions};
+use lg_session::{Engine, FreeGate, Opening, Outcome, WholeReplies, run_sessions};
 use lg_token::{bound_of, tokens};
 use std::alloc::Global;
 use std::process::Abort;
@@ -294,10 +294,10 @@ fn scripts(alloc: Global) -> Result<Scripts, Fail>
     Ok(Scripts::of(lists))
 }
 
-fn run<R: Threads + Sync>(rt: &R, alloc: Global) -> Result<Outcome, Fail> {
+fn run<R: Threads + Sync>(rt: &R, alloc: Global) -> Result<Outcome<Replies>, Fail> {
     let dict = dictionary(alloc)?;
     let scripts = scripts(alloc)?;
-    let outcome = run_sessions(rt, alloc, &dict, &scripts, &Toy, &FreeGate)?;
+    let outcome = run_sessions(rt, alloc, &dict, &scripts, &Toy, &FreeGate, &WholeReplies)?;
     Ok(outcome)
 }
 
@@ -364,7 +364,7 @@ fn expect_second<R: Abort>(rt: &R, replies: &[Reply]) {
 #[test]
 fn each_kind_of_answer_is_given(rt: HostRuntime) -> Result<(), Fail> {
     let outcome = run(&rt, rt.alloc())?;
-    let lists = outcome.replies.items();
+    let lists = outcome.kept.as_slice();
     assert!(rt; lists.len() == 1);
     expect_first(&rt, lists[0].items());
     expect_second(&rt, lists[0].items());
@@ -387,7 +387,7 @@ fn expect_name<R: Abort>(rt: &R, replies: &[Reply], number: usize, want: &[u8]) 
 #[test]
 fn an_unknown_macro_is_named(rt: HostRuntime) -> Result<(), Fail> {
     let outcome = run(&rt, rt.alloc())?;
-    let lists = outcome.replies.items();
+    let lists = outcome.kept.as_slice();
     assert!(rt; lists.len() == 1);
     expect_name(&rt, lists[0].items(), 7, b"");
     expect_name(&rt, lists[0].items(), 8, b"<n>");

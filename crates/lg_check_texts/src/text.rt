@@ -81,13 +81,8 @@ fn dependent(alloc: Global, text: &[u8], one: Connector) -> Result<Option<Disjun
     ensures { IfOk result (λ word. word ≡ Some (record { word = text.now; left = one ∷ []; right = []; cost = pos 0 })) }
 {
     let left = side(alloc, one)?;
-    let word = word(
-        alloc,
-        text,
-        left,
-        Connectors::of(Vec::new(alloc)),
-        Cost::of(0),
-    )?;
+    let right = Connectors::of(alloc, Vec::new(alloc))?;
+    let word = word(alloc, text, left, right, Cost::of(0))?;
     Ok(word)
 }
 
@@ -101,8 +96,9 @@ fn head(
 ) -> Result<Option<Disjunct>, Fail>
     ensures { IfOk result (λ word. word ≡ Some (record { word = text.now; left = []; right = near ∷ far ∷ []; cost = cost })) }
 {
+    let left = Connectors::of(alloc, Vec::new(alloc))?;
     let right = pair(alloc, near, far)?;
-    let word = word(alloc, text, Connectors::of(Vec::new(alloc)), right, cost)?;
+    let word = word(alloc, text, left, right, cost)?;
     Ok(word)
 }
 

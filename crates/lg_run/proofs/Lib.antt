@@ -49,3 +49,4 @@ pub mod SolidAnswers
 pub mod UsageLines
 pub mod AuditedRuns
 pub mod Sends
+pub mod PrintedSessions

@@ -26,6 +26,7 @@ use Rattle.lg_script.specs.Commands.{CommandView, is_edit}
 use Rattle.lg_script.specs.EditNumbers.{edit_counts}
 use Rattle.lg_script.specs.Histories.{numbered, is_published, published_by}
 use Rattle.lg_session.specs.Engines.{Progress}
+use Rattle.lg_session.specs.Keepers.{AreKept, IsKept}
 use Rattle.lg_session.specs.Legal.{Run, Holding, AnswerIs, published, refused, version, listed, beyond, more, no_more, Answered, so_far, next, IsLegal, AnswersAll}
 use Rattle.lg_run.specs.Documents.{listings, no_knowledge, IsShown}
 use Rattle.lg_run.specs.MadeRuns.{sums_text, IsMadeDocument}
@@ -183,3 +184,19 @@ module _ (seed words sentences : ℕ) (dict : Dictionary) (scripts : List (List 
         whole = whole_alone;
         is = written;
       }
+
+-- ---- answers that are kept whole
+
+whole_kept : (n : ℕ) (scripts : List (List CommandView)) (replies kept : List (List Reply)) → AreKept (λ session commands rs k. k ≡ rs) n scripts replies kept → kept ≡ replies
+whole_kept n [] [] [] are = refl
+whole_kept n [] [] (k ∷ kept) are = absurd are
+whole_kept n [] (rs ∷ replies) kept are = absurd are
+whole_kept n (cs ∷ scripts) [] kept are = absurd are
+whole_kept n (cs ∷ scripts) (rs ∷ replies) [] are = absurd are
+whole_kept n (cs ∷ scripts) (rs ∷ replies) (k ∷ kept) are = λ i. are.0 i ∷ whole_kept (n + 1) scripts replies kept are.1 i
+
+pub whole_legal : (run : Run) (kept : List (List Reply)) → IsKept (λ session commands rs k. k ≡ rs) run kept → IsLegal run kept
+whole_legal run kept is = subst (IsLegal run) (sym (whole_kept 1 run.scripts is.replies kept is.are)) is.legal
+
+pub whole_all : (run : Run) (kept : List (List Reply)) → IsKept (λ session commands rs k. k ≡ rs) run kept → AnswersAll run.scripts kept
+whole_all run kept is = subst (AnswersAll run.scripts) (sym (whole_kept 1 run.scripts is.replies kept is.are)) is.whole

@@ -39,7 +39,7 @@ module _ (know : Knowledge) (options : Options) (scripts : List (List CommandVie
   run = record { meaning = listings know options; scripts = scripts; base = base; journal = journal }
 
   -- an answer fits its command, and can be printed
-  answer_printed : (p : Place) (held then : Option Holding) (command : CommandView) (r : Reply) → AnswerIs run p held command r then → IsAnswerTo (kind_of command) r × IsPrintableReply r
+  pub answer_printed : (p : Place) (held then : Option Holding) (command : CommandView) (r : Reply) → AnswerIs run p held command r then → IsAnswerTo (kind_of command) r × IsPrintableReply r
   answer_printed p _ _ _ _ (published held (puts e) n is) = (tt, tt)
   answer_printed p _ _ _ _ (published held (sets e) n is) = (tt, tt)
   answer_printed p _ _ _ _ (published held (removes word) n is) = (tt, tt)

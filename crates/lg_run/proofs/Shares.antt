@@ -28,7 +28,7 @@ share_none grow = record {
   labels = λ text. let e = grow.none.labels.counts text in omega (arith, e);
 }
 
-share_weaker : (n m : ℕ) (gs : List Linkage) (t : Totals) → n ≤ m → IsShare n gs t → IsShare m gs t
+pub share_weaker : (n m : ℕ) (gs : List Linkage) (t : Totals) → n ≤ m → IsShare n gs t → IsShare m gs t
 share_weaker n m gs t less share = record {
   counted = share.counted;
   words = λ text. let w = share.words text in omega (arith, w, less);

@@ -1,27 +1,23 @@
 -- What is written piece by piece: the pieces so far, and what is left.
-use Rattle.std.proofs.Common.{◌≡◌, ℕ, ◌+◌, List, [], ◌∷◌, ◌++◌, map, Option, length, take, refl, sym, ◌∙◌, ap, subst, append_assoc, OnOk, OnErr}
+use Rattle.std.proofs.Common.{◌≡◌, ℕ, ◌+◌, ◌<◌, ◌≤◌, List, [], ◌∷◌, ◌++◌, map, Option, length, take, drop, get_or, refl, sym, ◌∙◌, ap, subst, add-one, append_assoc, OnOk, OnErr}
 use Rattle.std.proofs.Common.{◌⊎◌, inl, inr, zero, suc}
 use Rattle.std.proofs.lemmas.List.{append-nil}
-use Rattle.std.proofs.lemmas.List.Concat.{flat_map-append}
 use Rattle.std.specs.declared.result.Result.{Result}
+use Rattle.std.specs.declared.vec.Vec.{Vec}
 use Rattle.std.specs.declared.result.Result.TheVariants.{Ok, Err}
 use Rattle.std.specs.Io.KnownBytes.{Appends}
 use Rattle.std.proofs.KnownBytes.{Appends-nil, Appends-trans}
 use Rattle.lg_base.specs.Sinks.{AppendsFront}
-use Rattle.lg_gram.specs.declared.reply.Reply.{Reply}
-use Rattle.lg_script.specs.declared.command.Command.{Command}
-use Rattle.lg_script.specs.Commands.{command_view, script_views}
-use Rattle.lg_script.specs.Kinds.{kind_of}
-use Rattle.lg_text.specs.Replies.{reply_text}
-use Rattle.lg_text.specs.declared.look.Look.{Look}
-use Rattle.lg_run.specs.Documents.{reply_texts, session_texts}
 use Rattle.lg_run.specs.Lines.{joined}
+use Rattle.lg_run.specs.Printers.{texts_of, printed_text}
+use Rattle.lg_run.specs.declared.printer.PrintedSession.{PrintedSession}
 use Rattle.lg_run.specs.Written.{Writes}
 use Rattle.lg_run.specs.Inputs.{Given}
 use Rattle.lg_run.specs.Answers.{IsDocument, Documents}
 use Rattle.lg_run.specs.declared.outcome.Halt.{Halt}
 use Rattle.lg_run.specs.declared.outcome.Halt.TheVariants.{Memory, Output}
-use Rattle.std.proofs.Math.Seq.{take-append_seam, take-append-add}
+use Rattle.std.proofs.Math.ListN.{drop_of_length-le}
+use Rattle.std.proofs.Math.Seq.{take-append_seam, take-append-add, drop-cons}
 
 -- a front part of the bytes is written, and this rest is left
 pub record WrittenTo (old now : Option (List ℕ)) (all rest : List ℕ) : Type 0 where
@@ -71,38 +67,32 @@ document_written old new given document (Ok x) is w = (document, is, w)
 document_written old new given document (Err Output) is w = (document, is, w)
 document_written old new given document (Err Memory) is w = inr (document, is, w)
 
--- ---- the texts of answers
+-- one text after another
+pub written_then : (old mid new : Option (List ℕ)) (first second : List ℕ) (r : Result (Unit {0}) Halt) → Appends old mid first → Writes mid new second r → Writes old new (first ++ second) r
+written_then old mid new first second r one other = written_last new second r (written_more mid first second (written_none old (first ++ second)) refl one) refl other
 
--- no command or no answer is left
-pub no_replies : (look : Look) (session n : ℕ) (commands : List Command) (rs : List Reply) → (commands ≡ []) ⊎ (rs ≡ []) → joined (reply_texts look session n (map command_view commands) rs) ≡ []
-no_replies look session n [] [] e = refl
-no_replies look session n [] (r ∷ rs) e = refl
-no_replies look session n (command ∷ commands) [] e = refl
-no_replies look session n (command ∷ commands) (r ∷ rs) (inl e) = absurd (cc e)
-no_replies look session n (command ∷ commands) (r ∷ rs) (inr e) = absurd (cc e)
+pub written_not : (old new : Option (List ℕ)) (first second : List ℕ) → AppendsFront old new first → AppendsFront old new (first ++ second)
+written_not old new first second front = written_front new first second (written_none old (first ++ second)) refl front
 
--- no script or no list of answers is left
-pub no_sessions : (look : Look) (session : ℕ) (scripts : List (List Command)) (replies : List (List Reply)) → (scripts ≡ []) ⊎ (replies ≡ []) → joined (session_texts look session (script_views scripts) replies) ≡ []
-no_sessions look session [] [] e = refl
-no_sessions look session [] (rs ∷ replies) e = refl
-no_sessions look session (commands ∷ scripts) [] e = refl
-no_sessions look session (commands ∷ scripts) (rs ∷ replies) (inl e) = absurd (cc e)
-no_sessions look session (commands ∷ scripts) (rs ∷ replies) (inr e) = absurd (cc e)
+-- ---- pieces
 
--- the answers to the next command, and to the others
-pub next_reply : (look : Look) (session n : ℕ) {scripts more : List Command} {rs left : List Reply} (command : Command) (r : Reply) → scripts ≡ command ∷ more → rs ≡ r ∷ left
-    → joined (reply_texts look session n (map command_view scripts) rs) ≡ reply_text look (record { session = session; command = n }) (kind_of (command_view command)) r ++ joined (reply_texts look session (n + 1) (map command_view more) left)
-next_reply look session n command r e f = λ i. joined (reply_texts look session n (map command_view (e i)) (f i))
+-- nothing is left
+pub none_left : {A : Type 0} (xs : List A) (i : ℕ) → length xs ≤ i → drop i xs ≡ []
+none_left xs i past = drop_of_length-le xs past
 
--- those of the next session, and then the others with what follows
-pub next_session : (look : Look) (session : ℕ) {scripts more : List (List Command)} {replies left : List (List Reply)} {commands : List Command} {rs : List Reply} (here : List Command) (answers : List Reply) (last : List ℕ)
-    → scripts ≡ commands ∷ more → replies ≡ rs ∷ left → here ≡ commands → answers ≡ rs
-    → joined (session_texts look session (script_views scripts) replies) ++ last ≡ joined (reply_texts look session 1 (map command_view here) answers) ++ (joined (session_texts look (session + 1) (script_views more) left) ++ last)
-next_session look session {more = more} {left = left} here answers last e f p q =
-    let first = reply_texts look session 1 (map command_view here) answers in
-    let others = session_texts look (session + 1) (script_views more) left in
-    (λ i. joined (session_texts look session (script_views ((e ∙ ap (λ (l : List Command). l ∷ more) (sym p)) i)) ((f ∙ ap (λ (l : List Reply). l ∷ left) (sym q)) i)) ++ last)
-    ∙ ap (λ (l : List ℕ). l ++ last) (flat_map-append (λ (piece : List ℕ). piece) first others) ∙ append_assoc (joined first) (joined others) last
+-- the next piece, and the others
+pub next_piece : {A : Type 0} (pieces : List (Vec ℕ A)) (i : ℕ) (piece : Vec ℕ A) → i < length pieces → piece ≡ get_or pieces i piece
+    → joined (texts_of (drop i pieces)) ≡ piece.items ++ joined (texts_of (drop (i + 1) pieces))
+next_piece {A} pieces i piece inside is =
+    let cut : drop i pieces ≡ get_or pieces i piece ∷ drop (i + 1) pieces = rw add-one (drop-cons pieces i piece inside) in
+    ap (λ (l : List (Vec ℕ A)). joined (texts_of l)) cut ∙ ap (λ (p : Vec ℕ A). p.items ++ joined (texts_of (drop (i + 1) pieces))) (sym is)
+
+-- the texts of the next session, and of the others
+pub next_printed : (all : List PrintedSession) (i : ℕ) (printed : PrintedSession) → i < length all → printed ≡ get_or all i printed
+    → printed_text (drop i all) ≡ joined (texts_of printed.pieces.items) ++ printed_text (drop (i + 1) all)
+next_printed all i printed inside is =
+    let cut : drop i all ≡ get_or all i printed ∷ drop (i + 1) all = rw add-one (drop-cons all i printed inside) in
+    ap printed_text cut ∙ ap (λ (p : PrintedSession). joined (texts_of p.pieces.items) ++ printed_text (drop (i + 1) all)) (sym is)
 
 -- what a sink took is a front part, also where it took all
 pub front_put : {T E : Type 0} (old new : Option (List ℕ)) (bytes : List ℕ) (r : Result T E) → OnOk r (Appends old new bytes) → OnErr r (AppendsFront old new bytes) → AppendsFront old new bytes

@@ -19,6 +19,7 @@ pub mod Answers
 pub mod Listers
 pub mod Written
 pub mod Counted
+pub mod Printers
 pub mod Determined
 pub mod PlainInputs
 pub mod Joints

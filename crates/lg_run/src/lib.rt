@@ -14,6 +14,7 @@ mod matched;
 mod number;
 mod options;
 mod outcome;
+mod printer;
 mod script;
 mod sentence;
 mod setup;

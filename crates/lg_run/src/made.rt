@@ -27,9 +27,9 @@ use lg_base::{MemFiles, NoMemory, Sink, write_bytes, write_number};
 use lg_dict::Dict;
 use lg_dictread::{exactly_one_dictionary, read_dict};
 use lg_gen::{generate, made_input_is_accepted};
-use lg_gram::{Linkage, PageItem, Reply};
+use lg_gram::{Linkage, PageItem, Replies, Reply};
 use lg_script::{Commands, Scripts, exactly_one_script, read_script, scripts_keep_bounds};
-use lg_session::{Gate, Outcome, run_sessions};
+use lg_session::{Gate, Outcome, WholeReplies, run_sessions};
 use std::alloc::Global;
 use std::thread::Threads;
 
@@ -82,7 +82,7 @@ fn made_document<R: Threads + Sync, G: Gate>(
 {
     let (dict, scripts) = made_inputs(alloc, seed, words, sentences)?;
     let outcome = answers(rt, alloc, &dict, &scripts, gate)?;
-    let sums = sums_of(outcome.replies.items()[0].items());
+    let sums = sums_of(outcome.kept[0].items());
     text_of(alloc, seed, words, sentences, sums)
 }
 
@@ -148,14 +148,14 @@ fn answers<R: Threads + Sync, G: Gate>(
     dict: &Dict,
     scripts: &Scripts,
     gate: &G,
-) -> Result<Outcome, NoMemory>
+) -> Result<Outcome<Replies>, NoMemory>
     requires scripts { AreScripts (script_views scripts.now) }
-    ensures legal { IfOk result (λ outcome. IsLegal (run_of (listings no_knowledge default_options) scripts.now dict.now outcome.journal) outcome.replies) }
-    ensures whole { IfOk result (λ outcome. AnswersAll (script_views scripts.now) outcome.replies) }
+    ensures legal { IfOk result (λ outcome. IsLegal (run_of (listings no_knowledge default_options) scripts.now dict.now outcome.journal) outcome.kept.items) }
+    ensures whole { IfOk result (λ outcome. AnswersAll (script_views scripts.now) outcome.kept.items) }
 {
     let know = no_knowledge(alloc);
     let lister = Lister::new(&know, Options::default());
-    run_sessions(rt, alloc, dict, scripts, &lister, gate)
+    run_sessions(rt, alloc, dict, scripts, &lister, gate, &WholeReplies)
 }
 
 // The sums over answers.

@@ -1,17 +1,15 @@
 //! What is written of sessions.
-ghost use Rattle.std.specs.Prelude.{◌≡◌, ◌<◌, ◌^◌, length, map, All, IfOk};
-ghost use Rattle.lg_script.specs.Commands.{command_view, script_views};
-ghost use Rattle.lg_script.specs.Kinds.{kind_of};
-ghost use Rattle.lg_text.specs.Replies.{IsAnswerTo, IsPrintableReply, reply_text};
-ghost use Rattle.lg_run.specs.Documents.{reply_texts, journal_with, outcome_text};
+ghost use Rattle.std.specs.Prelude.{◌≡◌, ◌++◌, IfOk};
+ghost use Rattle.lg_run.specs.Documents.{journal_with};
 ghost use Rattle.lg_run.specs.Lines.{joined};
-ghost use Rattle.lg_run.specs.Written.{ArePrintable, AreAllPrintable, Writes, HasHaltCause};
+ghost use Rattle.lg_run.specs.Printers.{texts_of, printed_text};
+ghost use Rattle.lg_run.specs.Written.{Writes, HasHaltCause};
 
+use crate::printer::PrintedSession;
 use lg_base::{NoMemory, Sink, SinkFault, write_bytes};
-use lg_gram::{Place, Reply};
-use lg_script::{Command, Scripts};
+use lg_gram::Place;
 use lg_session::Outcome;
-use lg_text::{Look, journal_text, reply_text};
+use lg_text::journal_text;
 use std::alloc::Global;
 
 /// Why a document is not written whole.
@@ -21,28 +19,54 @@ pub enum Halt {
     Output,
 }
 
-/// Writes what sessions are answered, each answer as one piece, and then their journal as one more, with these lines before its
-/// last one.
+/// Writes what sessions are answered, each answer as one piece, and then their journal as one more, with these lines before its last
+/// one.
 pub(crate) fn write_outcome<O: Sink>(
     alloc: Global,
-    scripts: &Scripts,
-    outcome: &Outcome,
-    look: Look,
+    outcome: &Outcome<PrintedSession>,
     lines: &[u8],
     out: &mut O,
 ) -> Result<(), Halt>
-    requires few { length scripts.now < 2 ^ 32 }
-    requires commands { All (λ commands. length commands < 2 ^ 32) (script_views scripts.now) }
-    requires printable { AreAllPrintable (script_views scripts.now) outcome.now.replies }
-    ensures written { Writes (O.written out.old) (O.written out.new) (outcome_text look (script_views scripts.now) outcome.now.replies outcome.now.journal lines.now) result }
+    ensures written { Writes (O.written out.old) (O.written out.new) (printed_text outcome.now.kept.items ++ journal_with lines.now outcome.now.journal) result }
     ensures cause { HasHaltCause (O.faults out.old) (O.faults out.new) result }
 {
-    let mut session: u32 = 0;
-    for (commands, replies) in scripts.items().iter().zip(outcome.replies.items()) {
-        session += 1;
-        write_session(alloc, session, commands.items(), replies.items(), look, out)?;
+    write_sessions(outcome.kept.as_slice(), out)?;
+    write_journal(alloc, outcome.journal.items(), lines, out)
+}
+
+// Writes the texts of all sessions.
+fn write_sessions<O: Sink>(all: &[PrintedSession], out: &mut O) -> Result<(), Halt>
+    ensures written { Writes (O.written out.old) (O.written out.new) (printed_text all.now) result }
+    ensures cause { HasHaltCause (O.faults out.old) (O.faults out.new) result }
+{
+    for printed in all {
+        write_session(printed.pieces.as_slice(), out)?;
     }
-    match journal_with(alloc, outcome.journal.items(), lines) {
+    Ok(())
+}
+
+// Writes the texts of a session, one piece after another.
+fn write_session<O: Sink>(pieces: &[Vec<u8>], out: &mut O) -> Result<(), Halt>
+    ensures written { Writes (O.written out.old) (O.written out.new) (joined (texts_of pieces.now)) result }
+    ensures cause { HasHaltCause (O.faults out.old) (O.faults out.new) result }
+{
+    for piece in pieces {
+        put(out, piece)?;
+    }
+    Ok(())
+}
+
+// Writes the journal, with these lines before its last one.
+fn write_journal<O: Sink>(
+    alloc: Global,
+    journal: &[Place],
+    lines: &[u8],
+    out: &mut O,
+) -> Result<(), Halt>
+    ensures written { Writes (O.written out.old) (O.written out.new) (journal_with lines.now journal.now) result }
+    ensures cause { HasHaltCause (O.faults out.old) (O.faults out.new) result }
+{
+    match journal_with(alloc, journal, lines) {
         Ok(text) => put(out, &text),
         Err(NoMemory) => Err(Halt::Memory),
     }
@@ -60,52 +84,6 @@ fn journal_with(alloc: Global, journal: &[Place], lines: &[u8]) -> Result<Vec<u8
     write_bytes(&mut text, lines)?;
     write_bytes(&mut text, DONE)?;
     Ok(text)
-}
-
-// Writes what a session is answered.
-fn write_session<O: Sink>(
-    alloc: Global,
-    session: u32,
-    commands: &[Command],
-    replies: &[Reply],
-    look: Look,
-    out: &mut O,
-) -> Result<(), Halt>
-    requires few { length commands.now < 2 ^ 32 }
-    requires printable { ArePrintable (map command_view commands.now) replies.now }
-    ensures written { Writes (O.written out.old) (O.written out.new) (joined (reply_texts look session 1 (map command_view commands.now) replies.now)) result }
-    ensures cause { HasHaltCause (O.faults out.old) (O.faults out.new) result }
-{
-    let mut number: u32 = 0;
-    for (command, reply) in commands.iter().zip(replies) {
-        number += 1;
-        let place = Place {
-            session,
-            command: number,
-        };
-        write_reply(alloc, place, command, reply, look, out)?;
-    }
-    Ok(())
-}
-
-// Writes what a command is answered, as one piece.
-fn write_reply<O: Sink>(
-    alloc: Global,
-    place: Place,
-    command: &Command,
-    reply: &Reply,
-    look: Look,
-    out: &mut O,
-) -> Result<(), Halt>
-    requires kind { IsAnswerTo (kind_of (command_view command.now)) reply.now }
-    requires printable { IsPrintableReply reply.now }
-    ensures written { Writes (O.written out.old) (O.written out.new) (reply_text look place (kind_of (command_view command.now)) reply.now) result }
-    ensures cause { HasHaltCause (O.faults out.old) (O.faults out.new) result }
-{
-    match reply_text(alloc, place, command.kind(), reply, look) {
-        Ok(text) => put(out, &text),
-        Err(NoMemory) => Err(Halt::Memory),
-    }
 }
 
 // Writes one piece.

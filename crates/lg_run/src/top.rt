@@ -22,6 +22,7 @@ use crate::lister::Lister;
 use crate::made::write_made;
 use crate::matched::read_setup;
 use crate::outcome::{Halt, put, write_outcome};
+use crate::printer::Printer;
 use crate::sentence::document;
 use crate::setup::Setup;
 use crate::status::Status;
@@ -206,11 +207,15 @@ fn write_sessions<R: Threads + Sync, O: Sink, G: Gate>(
     ensures cause { HasHaltCause (O.faults out.old) (O.faults out.new) result }
 {
     let lister = Lister::new(know, setup.listing);
-    let Ok(outcome) = run_sessions(rt, alloc, dict, scripts, &lister, gate) else {
+    let printer = Printer {
+        look: setup.look,
+        usage: setup.usage,
+    };
+    let Ok(outcome) = run_sessions(rt, alloc, dict, scripts, &lister, gate, &printer) else {
         return Err(Halt::Memory);
     };
-    match usage_lines(alloc, setup.usage, scripts, outcome.replies.items()) {
-        Ok(lines) => write_outcome(alloc, scripts, &outcome, setup.look, &lines, out),
+    match usage_lines(alloc, setup.usage, outcome.kept.as_slice()) {
+        Ok(lines) => write_outcome(alloc, &outcome, &lines, out),
         Err(NoMemory) => Err(Halt::Memory),
     }
 }

@@ -1,17 +1,16 @@
 //! How often dictionary words and labels are used by the first linkages of answers.
-ghost use Rattle.std.specs.Prelude.{◌≡◌, ◌+◌, ◌<◌, ◌≤◌, ◌^◌, ◌++◌, ◌∷◌, [], ℕ, List, length, map, All, IfOk, OnOk, MatchOption};
+ghost use Rattle.std.specs.Prelude.{◌≡◌, ◌+◌, ◌<◌, ◌≤◌, ◌^◌, ◌++◌, ◌∷◌, [], true, ℕ, List, length, IfOk, OnOk, MatchOption};
 ghost use Rattle.lg_gram.specs.Linkages.{Linkage as SeenLinkage, IsLinkage};
-ghost use Rattle.lg_script.specs.Commands.{command_view, script_views};
 ghost use Rattle.lg_text.specs.Replies.{IsPrintableReply};
 ghost use Rattle.lg_usage.specs.Totals.{AreTotals};
 ghost use Rattle.lg_run.specs.Counted.{IsShare};
-ghost use Rattle.lg_run.specs.Documents.{first_linkage, first_linkages, all_first_linkages, first_passing, AreUsageLines};
-ghost use Rattle.lg_run.specs.Written.{ArePrintable, AreAllPrintable};
+ghost use Rattle.lg_run.specs.Documents.{first_linkage, first_passing, AreUsageLines};
+ghost use Rattle.lg_run.specs.Printers.{HaveShares, together};
 
 use crate::made::items_in;
+use crate::printer::PrintedSession;
 use lg_base::NoMemory;
-use lg_gram::{CommandKind, Linkage, PageItem, Replies, Reply};
-use lg_script::{Command, Scripts};
+use lg_gram::{CommandKind, Linkage, PageItem, Reply};
 use lg_usage::{Usage, shares_agree, totals_are_few};
 use std::alloc::Global;
 
@@ -20,53 +19,35 @@ use std::alloc::Global;
 pub(crate) fn usage_lines(
     alloc: Global,
     asked: bool,
-    scripts: &Scripts,
-    replies: &[Replies],
+    all: &[PrintedSession],
 ) -> Result<Vec<u8>, NoMemory>
-    requires few { length scripts.now ≤ 64 }
-    requires commands { All (λ commands. length commands < 2 ^ 32) (script_views scripts.now) }
-    requires printable { AreAllPrintable (script_views scripts.now) replies.now }
-    ensures { IfOk result (λ lines. AreUsageLines asked (all_first_linkages (script_views scripts.now) replies.now) lines.items) }
+    requires few { length all.now ≤ 64 }
+    requires shares { asked ≡ true → (firsts : List (List SeenLinkage)) × HaveShares firsts all.now }
+    ensures { (firsts : List (List SeenLinkage)) → (asked ≡ true → HaveShares firsts all.now) → IfOk result (λ lines. AreUsageLines asked (together firsts) lines.items) }
 {
     if !asked {
         return Ok(Vec::new(alloc));
     }
-    let totals = totals_of(alloc, scripts, replies)?;
+    let totals = totals_of(alloc, all)?;
     totals.text(alloc)
 }
 
 // The totals of all sessions: each session has a share of its own, and the shares are merged.
-fn totals_of(alloc: Global, scripts: &Scripts, replies: &[Replies]) -> Result<Usage, NoMemory>
-    requires few { length scripts.now ≤ 64 }
-    requires commands { All (λ commands. length commands < 2 ^ 32) (script_views scripts.now) }
-    requires printable { AreAllPrintable (script_views scripts.now) replies.now }
-    ensures { IfOk result (λ totals. AreTotals (all_first_linkages (script_views scripts.now) replies.now) totals) }
+fn totals_of(alloc: Global, all: &[PrintedSession]) -> Result<Usage, NoMemory>
+    requires few { length all.now ≤ 64 }
+    requires shares { (firsts : List (List SeenLinkage)) × HaveShares firsts all.now }
+    ensures { (firsts : List (List SeenLinkage)) → HaveShares firsts all.now → IfOk result (AreTotals (together firsts)) }
 {
     shares_agree();
     let mut totals = Usage::new(alloc);
-    for (commands, answers) in scripts.items().iter().zip(replies) {
-        let share = share_of(alloc, commands.items(), answers.items())?;
-        totals.merge(&share)?;
+    for printed in all {
+        totals.merge(&printed.share)?;
     }
     Ok(totals)
 }
 
-// The share of a session.
-fn share_of(alloc: Global, commands: &[Command], replies: &[Reply]) -> Result<Usage, NoMemory>
-    requires few { length commands.now < 2 ^ 32 }
-    requires printable { ArePrintable (map command_view commands.now) replies.now }
-    ensures { IfOk result (λ share. IsShare (2 ^ 32) (first_linkages (map command_view commands.now) replies.now) share) }
-{
-    shares_agree();
-    let mut share = Usage::new(alloc);
-    for (command, reply) in commands.iter().zip(replies) {
-        add_first(&mut share, command.kind(), reply)?;
-    }
-    Ok(share)
-}
-
-// Adds the first linkage of an answer, if it has one that counts.
-fn add_first(share: &mut Usage, kind: CommandKind, reply: &Reply) -> Result<(), NoMemory>
+/// Adds the first linkage of an answer, if it has one that counts.
+pub(crate) fn add_first(share: &mut Usage, kind: CommandKind, reply: &Reply) -> Result<(), NoMemory>
     requires printable { IsPrintableReply reply.now }
     requires room { (n : ℕ) × (gs : List SeenLinkage) × (n < 2 ^ 32) × IsShare n gs share.old }
     ensures { OnOk result ((n : ℕ) (gs : List SeenLinkage) → IsShare n gs share.old → IsShare (n + 1) (gs ++ first_linkage kind reply.now) share.new) }

@@ -16,3 +16,4 @@ pub mod Walked
 pub mod Interleaved
 pub mod Answered
 pub mod Counted
+pub mod Kept

@@ -36,3 +36,8 @@ module _ (scripts seen : List (List Command)) (script : List Command) (number : 
 
   pub as_many : (items : List Command) → items ≡ script → length items ≡ length (commands_of (script_views scripts) number)
   as_many items are = ap length are ∙ sym (length-map script command_view) ∙ ap length (sym script_is)
+
+  -- one of its commands, at its place
+  pub command_is : (items : List Command) (n : ℕ) (one : Command) → items ≡ script → n < length items → one ≡ get_or items n one → slice_index_or (commands_of (script_views scripts) number) n asks ≡ command_view one
+  command_is items n one are inside is =
+      ap (λ (l : List CommandView). slice_index_or l n asks) (script_is ∙ ap (λ (l : List Command). map command_view l) (sym are)) ∙ get_or-map command_view items n one asks inside ∙ ap command_view (sym is)

@@ -1,6 +1,7 @@
 pub mod Engines
 pub mod Legal
 pub mod Rows
+pub mod Keepers
 pub mod Paths
 pub mod Turns
 pub mod Learning

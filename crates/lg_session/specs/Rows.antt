@@ -50,6 +50,18 @@ pub record AreDone (g : Ground) (log : LogId) (sessions : List ℕ) (pass : Stan
   pub carried : pass.sessions ≡ sessions
   pub ended : HaveEnded g pass.seen sessions lists
 
+-- this is kept of the answers of each session of a row
+abbrev pub AreKeptOf : {K : Type 0} → (ℕ → List CommandView → List Reply → K → Type 0) → List (List CommandView) → List ℕ → List (List Reply) → List K → Type 0
+AreKeptOf keeps scripts [] [] [] = Unit {0}
+AreKeptOf keeps scripts (session ∷ sessions) (replies ∷ lists) (k ∷ kept) = keeps (session + 1) (commands_of scripts session) replies k × AreKeptOf keeps scripts sessions lists kept
+AreKeptOf keeps scripts sessions lists kept = ⊥
+
+-- a row of sessions has ended, their pass has come so far, and this is kept of their answers
+pub record AreDoneWith {K : Type 0} (keeps : ℕ → List CommandView → List Reply → K → Type 0) (g : Ground) (log : LogId) (sessions : List ℕ) (pass : Standing) (kept : List K) : Type 0 where
+  pub lists : List (List Reply)
+  pub done : AreDone g log sessions pass lists
+  pub are : AreKeptOf keeps g.scripts sessions lists kept
+
 -- a session that has not begun: its script is there, and its pass has seen nothing and carries it alone
 abbrev pub IsFresh : LogId → List (List CommandView) → Job → Type 0
 IsFresh log scripts job = (job.session < length scripts) × (job.pass ≡ at_start log (job.session ∷ []))

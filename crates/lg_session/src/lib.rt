@@ -7,6 +7,7 @@ pub mod gate;
 mod halves;
 mod job;
 mod journal;
+pub mod keeper;
 mod law;
 mod learning;
 pub mod outcome;
@@ -16,6 +17,7 @@ pub mod turn;
 
 pub use engine::{Engine, Opening};
 pub use gate::{FreeGate, Gate};
+pub use keeper::{Keeper, WholeReplies};
 pub use law::paths_make_runs;
 pub use outcome::Outcome;
 pub use run::run_sessions;

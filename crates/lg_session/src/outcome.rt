@@ -1,10 +1,10 @@
 //! What comes of sessions.
 
-use lg_gram::{Places, ReplyLists};
+use lg_gram::Places;
 
-/// What comes of sessions: the edits that were published, in their order, and what each session was answered.
-#[derive(Debug, Drop)]
-pub struct Outcome {
+/// What comes of sessions: the edits that were published, in their order, and what is kept of the answers of each session.
+#[derive(Drop)]
+pub struct Outcome<K: Drop> {
     pub journal: Places,
-    pub replies: ReplyLists,
+    pub kept: Vec<K>,
 }

@@ -15,22 +15,22 @@ answers-requires-clause-scripts g c =
 pub sums_of-sums-requires-clause-few : goal.sums_of-sums-requires-clause-few
 sums_of-sums-requires-clause-few g c =
     let outcome = c.in_ok-outcome.outcome in
-    few_replies c.args.seed c.args.words c.args.sentences c.in_ok-dict.dict (script_views c.in_ok-dict.scripts) c.in_ok-dict.ensures outcome.journal outcome.replies
-    c.in_ok-outcome.ensures.legal c.in_ok-outcome.ensures.whole c.items-2.result.now (search rules) c.requires.sentences.few
+    few_replies c.args.seed c.args.words c.args.sentences c.in_ok-dict.dict (script_views c.in_ok-dict.scripts) c.in_ok-dict.ensures outcome.journal outcome.kept.items
+    c.in_ok-outcome.ensures.legal c.in_ok-outcome.ensures.whole c.items.result.now (search rules) c.requires.sentences.few
 
 pub sums_of-sums-requires-clause-small : goal.sums_of-sums-requires-clause-small
 sums_of-sums-requires-clause-small g c =
     let outcome = c.in_ok-outcome.outcome in
-    small_sums c.args.seed c.args.words c.args.sentences c.in_ok-dict.dict (script_views c.in_ok-dict.scripts) c.in_ok-dict.ensures outcome.journal outcome.replies
-    c.in_ok-outcome.ensures.legal c.in_ok-outcome.ensures.whole c.items-2.result.now (search rules)
+    small_sums c.args.seed c.args.words c.args.sentences c.in_ok-dict.dict (script_views c.in_ok-dict.scripts) c.in_ok-dict.ensures outcome.journal outcome.kept.items
+    c.in_ok-outcome.ensures.legal c.in_ok-outcome.ensures.whole c.items.result.now (search rules)
 
 -- the sums are those over the answers
 pub returns : goal.returns
 returns g c =
     let outcome = c.in_ok-outcome.outcome in
-    let rs = c.items-2.result.now in
-    let is : rs ≡ get_or outcome.replies 0 rs = search rules in
+    let rs = c.items.result.now in
+    let is : rs ≡ get_or outcome.kept.items 0 rs = search rules in
     of_each c.text_of.result (λ text. text.items ≡ sums_text c.args.seed c.args.words c.args.sentences rs) (λ text. IsMadeDocument c.args.seed c.args.words c.args.sentences text.items)
-    (λ text written. made_document_is c.args.seed c.args.words c.args.sentences c.in_ok-dict.dict (script_views c.in_ok-dict.scripts) c.in_ok-dict.ensures outcome.journal outcome.replies
+    (λ text written. made_document_is c.args.seed c.args.words c.args.sentences c.in_ok-dict.dict (script_views c.in_ok-dict.scripts) c.in_ok-dict.ensures outcome.journal outcome.kept.items
     c.in_ok-outcome.ensures.legal c.in_ok-outcome.ensures.whole rs is text.items written)
     (c.text_of.ensures rs c.sums_of-sums.ensures)
