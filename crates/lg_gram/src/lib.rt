@@ -33,6 +33,6 @@ pub use macros::Macros;
 pub use measures::{Excess, filled_formula, first_excess};
 pub use ordered::in_order;
 pub use problem::Problem;
-pub use reply::{CommandKind, Place, Places, Replies, Reply, ReplyLists};
+pub use reply::{CommandKind, Place, Places, Replies, Reply};
 pub use shared::{Connectors, Word};
 pub use sizes::{choices, longest_side, nodes};

@@ -71,6 +71,3 @@ pub type Places = List<Place>;
 
 /// A list of answers, of one session.
 pub type Replies = List<Reply>;
-
-/// The answers of each session, by sessions.
-pub type ReplyLists = List<Replies>;

@@ -1,5 +1,5 @@
 -- Shares of usage: what they have counted, and that there is room for more.
-use Rattle.std.proofs.Common.{◌≡◌, ◌⊎◌, inl, inr, ℕ, ◌+◌, ◌^◌, ◌<◌, ◌≤◌, Bool, true, false, cond, List, [], ◌∷◌, ◌++◌, map, All, is_none, refl, sym, ap, subst, ◌∙◌, append-nil, append_assoc, arith}
+use Rattle.std.proofs.Common.{◌≡◌, ℕ, ◌+◌, ◌^◌, ◌<◌, ◌≤◌, Bool, true, false, cond, List, [], ◌∷◌, ◌++◌, All, is_none, refl, sym, ap, subst, ◌∙◌, append-nil, append_assoc, arith}
 use Rattle.std.proofs.lemmas.List.Elements.{All-drop}
 use Rattle.lg_gram.specs.Linkages.{Linkage, IsLinkage}
 use Rattle.lg_gram.specs.declared.listing.PageItem.{PageItem}
@@ -8,16 +8,13 @@ use Rattle.lg_gram.specs.declared.reply.CommandKind.{CommandKind}
 use Rattle.lg_gram.specs.declared.reply.CommandKind.TheVariants as kinds
 use Rattle.lg_gram.specs.declared.reply.Reply.{Reply}
 use Rattle.lg_gram.specs.declared.reply.Reply.TheVariants.{Listed}
-use Rattle.lg_script.specs.declared.command.Command.{Command}
-use Rattle.lg_script.specs.Commands.{command_view, script_views}
-use Rattle.lg_script.specs.Kinds.{kind_of}
 use Rattle.lg_text.specs.Replies.{IsPrintableReply}
 use Rattle.lg_text.specs.Texts.{IsPrintable}
 use Rattle.lg_usage.specs.Totals.{Totals, AreTotals, usage_text, Adds, IsSum, IsGood, HasRoomFor, MayBeAdded, no_totals}
 use Rattle.lg_usage.specs.Shares.{TotalsGrow}
 use Rattle.lg_usage.specs.Bounds.{UsesAreFew}
 use Rattle.lg_run.specs.Counted.{IsShare}
-use Rattle.lg_run.specs.Documents.{first_passing, items_of, first_linkage, first_linkages, all_first_linkages, AreUsageLines}
+use Rattle.lg_run.specs.Documents.{first_passing, items_of, first_linkage, AreUsageLines}
 
 -- ---- what a share has counted
 
@@ -101,36 +98,6 @@ all_so_far {all} {rest} {n} {left} {t} w e =
 pub lines_asked : (asked : Bool) (gs : List Linkage) (lines : List ℕ) (t : Totals) → asked ≡ true → AreTotals gs t → lines ≡ usage_text t → AreUsageLines asked gs lines
 lines_asked true gs lines t e are is = (t, are, is)
 lines_asked false gs lines t e are is = absurd (cc e)
-
--- ---- first linkages
-
--- no command or no answer is left
-pub no_firsts : (commands : List Command) (rs : List Reply) → (commands ≡ []) ⊎ (rs ≡ []) → first_linkages (map command_view commands) rs ≡ []
-no_firsts [] [] e = refl
-no_firsts [] (r ∷ rs) e = refl
-no_firsts (command ∷ commands) [] e = refl
-no_firsts (command ∷ commands) (r ∷ rs) (inl e) = absurd (cc e)
-no_firsts (command ∷ commands) (r ∷ rs) (inr e) = absurd (cc e)
-
--- no script or no list of answers is left
-pub no_session_firsts : (scripts : List (List Command)) (replies : List (List Reply)) → (scripts ≡ []) ⊎ (replies ≡ []) → all_first_linkages (script_views scripts) replies ≡ []
-no_session_firsts [] [] e = refl
-no_session_firsts [] (rs ∷ replies) e = refl
-no_session_firsts (commands ∷ scripts) [] e = refl
-no_session_firsts (commands ∷ scripts) (rs ∷ replies) (inl e) = absurd (cc e)
-no_session_firsts (commands ∷ scripts) (rs ∷ replies) (inr e) = absurd (cc e)
-
--- that of the next answer, and the others
-pub next_first : {scripts more : List Command} {rs left : List Reply} (command : Command) (r : Reply) → scripts ≡ command ∷ more → rs ≡ r ∷ left
-    → first_linkages (map command_view scripts) rs ≡ first_linkage (kind_of (command_view command)) r ++ first_linkages (map command_view more) left
-next_first command r e f = λ i. first_linkages (map command_view (e i)) (f i)
-
--- those of the next session, and the others
-pub next_firsts : {scripts more : List (List Command)} {replies left : List (List Reply)} {commands : List Command} {rs : List Reply} (here : List Command) (answers : List Reply)
-    → scripts ≡ commands ∷ more → replies ≡ rs ∷ left → here ≡ commands → answers ≡ rs
-    → all_first_linkages (script_views scripts) replies ≡ first_linkages (map command_view here) answers ++ all_first_linkages (script_views more) left
-next_firsts {more = more} {left = left} here answers e f p q =
-    λ i. all_first_linkages (script_views ((e ∙ ap (λ (l : List Command). l ∷ more) (sym p)) i)) ((f ∙ ap (λ (l : List Reply). l ∷ left) (sym q)) i)
 
 -- ---- first linkages are good
 

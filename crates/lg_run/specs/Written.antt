@@ -1,28 +1,13 @@
 -- What is written of sessions, piece by piece.
-use Rattle.std.specs.Prelude.{◌≡◌, ◌≤◌, ℕ, List, [], ◌∷◌, ⊤}
+use Rattle.std.specs.Prelude.{◌≡◌, ◌≤◌, ℕ, List}
 use Rattle.std.specs.declared.result.Result.{Result}
 use Rattle.std.specs.declared.result.Result.TheVariants.{Ok, Err}
 use Rattle.std.specs.declared.option.Option.{Option}
 use Rattle.std.specs.Io.KnownBytes.{Appends}
 use Rattle.lg_base.specs.Faults.{Rose}
 use Rattle.lg_base.specs.Sinks.{AppendsFront}
-use Rattle.lg_gram.specs.declared.reply.Reply.{Reply}
-use Rattle.lg_script.specs.Commands.{CommandView}
-use Rattle.lg_script.specs.Kinds.{kind_of}
-use Rattle.lg_text.specs.Replies.{IsAnswerTo, IsPrintableReply}
 use Rattle.lg_run.specs.declared.outcome.Halt.{Halt}
 use Rattle.lg_run.specs.declared.outcome.Halt.TheVariants.{Output}
-
--- each answer is one that its command can have, and can be printed
-abbrev pub ArePrintable : List CommandView → List Reply → Type 0
-ArePrintable (command ∷ commands) (r ∷ rs) = IsAnswerTo (kind_of command) r × IsPrintableReply r × ArePrintable commands rs
-ArePrintable commands [] = ⊤
-ArePrintable [] rs = ⊤
-
-abbrev pub AreAllPrintable : List (List CommandView) → List (List Reply) → Type 0
-AreAllPrintable (commands ∷ scripts) (rs ∷ replies) = ArePrintable commands rs × AreAllPrintable scripts replies
-AreAllPrintable scripts [] = ⊤
-AreAllPrintable [] replies = ⊤
 
 -- the bytes are written, or a front part of them where memory runs out or the output fails
 abbrev pub Writes : {T : Type 0} → Option (List ℕ) → Option (List ℕ) → List ℕ → Result T Halt → Type 0
