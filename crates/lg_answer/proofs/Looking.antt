@@ -73,13 +73,6 @@ pub looked_at_all : (know : Knowledge) (c : Course) (front : List Linkage) (from
     → AreLookedAt know front from want examine items → passed items < want → length items < examine → HasLooked know c from want examine items true
 looked_at_all know c front from want examine items last old wanted unseen = record { front = front; come = last.0; looked = old; stops = (wanted, unseen, last.1) }
 
--- before the first one
-pub none_looked_at : (know : Knowledge) (front : List Linkage) (from want examine : ℕ) → length front ≡ from → AreLookedAt know front from want examine []
-none_looked_at know front from want examine long = record {
-  within = omega arith;
-  numbered = sym (ap (enumerate_from (from + 1)) (Rattle.std.proofs.Math.ListN.drop_of_length-le front (omega arith)));
-  judged = λ k d within. absurd (omega arith);
-  goes_on = λ k below. absurd (omega arith);
 }
 
 -- a page is at its end where it stopped for no other reason

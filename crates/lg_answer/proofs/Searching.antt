@@ -8,9 +8,6 @@ use Rattle.lg_gram.specs.Linkages.{Linkage, linkage_cmp, unlinked}
 use Rattle.lg_gram.specs.Levels.{IsFewest}
 use Rattle.lg_gram.specs.Rules.{Good}
 use Rattle.lg_gram.specs.declared.disjunct.Disjunct.{Disjunct}
-use Rattle.lg_gram.specs.declared.listing.Stats.{Stats}
-use Rattle.lg_gram.specs.declared.listing.Token.{Token}
-use Rattle.lg_dict.specs.Dictionary.{Dictionary}
 use Rattle.lg_region.specs.Parts.{UnderWhole}
 use Rattle.lg_region.specs.declared.key.Key.TheVariants.{Whole}
 use Rattle.lg_forest.specs.Demands.{HasLinkageUnder, IsDemanded}
@@ -21,8 +18,6 @@ use Rattle.lg_rank.specs.Rankings.{Ranking, IsThere}
 use Rattle.lg_sharpen.specs.Sharp.{IsSharpened}
 use Rattle.lg_answer.specs.Pages.{HasLinkagesOf}
 use Rattle.lg_answer.specs.Searches.{wide_of, StandsUpTo, Begins, BeginsSharper, blanks, HasFew, HasNoFewer}
-use Rattle.lg_answer.specs.Steps.{IsSearched}
-use Rattle.lg_answer.specs.declared.options.Options.{Options}
 use Rattle.lg_answer.proofs.Kept.{front_of}
 
 -- a position without disjuncts is unlinked
@@ -157,13 +152,4 @@ module _ (nulls : ℕ) (ranked : List (List Disjunct)) where
       let is = next (front_of linkage_cmp of_wide (UnderWhole ranked nulls) gs (λ v. (same v).0) (λ v. (same v).1) front) in
       (is.0, next_of_wide wide stands gs is.0 (λ here. is.1) front, is.2)
 
--- the problem of a search has the linkages of that which was given
-pub searched_more : (dict : Dictionary) (tokens : List Token) (options : Options) (kept more : List (List Disjunct)) (stats : Stats)
-    → IsSearched dict tokens options kept stats → HasLinkagesOf kept more → length more ≡ length kept → IsSearched dict tokens options more stats
-searched_more dict tokens options kept more stats is keeps long = record {
-  problem = is.problem;
-  of_tokens = is.of_tokens;
-  keeps = λ g. let one = is.keeps g in let two = keeps g in (λ good. two.0 (one.0 good), λ good. one.1 (two.1 good));
-  counted = is.counted;
-  same_length = long ∙ is.same_length;
 }

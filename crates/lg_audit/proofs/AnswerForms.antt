@@ -13,16 +13,9 @@ use Rattle.lg_audit.specs.Documents.{item_lines, page_lines, IsPageInForm, IsBou
 use Rattle.lg_audit.specs.Fronts.{Leaves, HasNone, IsRead, Anything}
 use Rattle.lg_audit.specs.Answers.{told_text, HasNoAnswer, IsAnswer, MayBeStats, HasNoStats}
 use Rattle.lg_audit.proofs.Cuts.{has_blank, decimal_solid, behind_same}
-use Rattle.lg_audit.proofs.Singles.{cut_front, no_front, joined, one_line}
+use Rattle.lg_audit.proofs.Singles.{cut_front, joined, one_line}
 
 -- ---- a line of numbers of disjuncts
-
-pub no_line_stats : (text : List ℕ) → IsOneLine text → IsRead MayBeStats unread_of HasNoStats text None text
-no_line_stats text single = record { form = tt; is = refl; only = λ y s form ends is. by y s form is }
-  where
-    by : (y : Option (List ℕ)) (s : List ℕ) → MayBeStats y → Leaves (unread_of y) text s → s ≡ text
-    by None s form is = sym is
-    by (Some l) s form is = absurd (no_front text l s [] single is)
 
 module _ (text line rest : List ℕ) (single : IsOneLine line) (cut : text ≡ closed line ++ rest) where
   pub no_stats : starts_with eqb line (codes "stats ") ≢ true → IsRead MayBeStats unread_of HasNoStats text None text
@@ -63,14 +56,6 @@ module _ (told text : List ℕ) where
       by _ s form tells is = absurd form
 
   module _ (no_bound : (v : ℕ) (b : Bound) → IsNumber v → IsBoundInForm b → told ≡ codes "version " ++ (decimal v ++ 32 ∷ line (bound_pieces b)) → ⊥) where
-    pub no_version : ((v : ℕ) → IsNumber v → told ≡ codes "version " ++ decimal v → ⊥) → HasNoAnswer kinds.Parse told text
-    no_version none = record { none = λ r s form tells is. by r form tells }
-      where
-        by : (r : ShownReply) → IsReplyInForm kinds.Parse r → told ≡ told_text r → ⊥
-        by (listed w stats page) form tells = none w form.0 tells
-        by (beyond w c) form tells = no_bound w c form.0 form.1 tells
-        by _ form tells = form
-
     module _ (stats : Option (List ℕ)) (after : List ℕ) (read : IsRead MayBeStats unread_of HasNoStats text stats after) where
       behind_stats : (w : ℕ) (o : Option (List ℕ)) (page : ShownPage) (s : List ℕ) → MayBeStats o → Leaves (unread_of o ++ page_lines page) text s → Leaves (page_lines page) after s
       behind_stats w o page s form is = sym (read.only o (flat_map closed (page_lines page) ++ s) form (page_has_no_stats page.items page s) (is ∙ joined (unread_of o) (page_lines page) s))
@@ -109,14 +94,6 @@ module _ (told text : List ℕ) where
       by _ s form tells is = absurd form
 
   module _ (something : told ≢ codes "nothing held") where
-    pub no_more_version : ((v : ℕ) → IsNumber v → told ≡ codes "version " ++ decimal v → ⊥) → HasNoAnswer kinds.More told text
-    no_more_version none = record { none = λ r s form tells is. by r form tells }
-      where
-        by : (r : ShownReply) → IsReplyInForm kinds.More r → told ≡ told_text r → ⊥
-        by (listed w stats page) form tells = none w form.0 tells
-        by nothing_held form tells = something tells
-        by _ form tells = form
-
     without_stats : (o : Option (List ℕ)) (page : ShownPage) (s : List ℕ) → o ≡ None → Leaves (unread_of o ++ page_lines page) text s → Leaves (page_lines page) text s
     without_stats o page s none is = is ∙ ap (λ (p : Option (List ℕ)). flat_map closed (unread_of p ++ page_lines page) ++ s) none
 
@@ -166,10 +143,3 @@ module _ (told text : List ℕ) where
       by : (q : ShownReply) (s : List ℕ) → IsReplyInForm kinds.Version q → Leaves (more_lines q) text s → s ≡ text
       by (at w) s form is = sym is
       by _ s form is = absurd form
-
-  pub no_at : ((v : ℕ) → IsNumber v → told ≡ decimal v → ⊥) → HasNoAnswer kinds.Version told text
-  no_at none = record { none = λ r s form tells is. by r form tells }
-    where
-      by : (r : ShownReply) → IsReplyInForm kinds.Version r → told ≡ told_text r → ⊥
-      by (at w) form tells = none w form tells
-      by _ form tells = form

@@ -20,7 +20,7 @@ use Rattle.lg_pp.specs.Breaks.{Judges}
 use Rattle.lg_token.specs.Problems.{IsProblemOf}
 use Rattle.lg_audit.specs.Lines.{ShownLinkage, ShownPage}
 use Rattle.lg_audit.specs.Replies.{Begins, with_some, behind_all, IsPageOf, shown_linkage, linkages_on}
-use Rattle.lg_audit.specs.Pages.{HaveNamedWords, AreOnesOf, BeginsWith, IsFramed, IsPageFor}
+use Rattle.lg_audit.specs.Pages.{HaveNamedWords, AreOnesOf, BeginsWith, IsPageFor}
 use Rattle.lg_audit.proofs.Existing.{some_problem}
 use Rattle.lg_audit.proofs.Sentences.{one_of_sentence, good_in_sentence}
 use Rattle.lg_audit.proofs.ShownLinkages.{one_linkage}
@@ -122,9 +122,6 @@ module _ (exist : ExpressionsHaveDisjuncts) (one : (dict : Dictionary) (text : L
 -- ---- each way that there is none, and the one
 
 module _ (written : NamesAreWritten) (apart : ConnectorsToldApart) (know : Knowledge) (dict : Dictionary) (tokens : List Token) (named : HaveNamedWords dict tokens) (from : ℕ) (page : ShownPage) where
-  pub not_framed : (IsFramed know tokens from page.items page.last → ⊥) → (before gs : List Linkage) → IsPageFor know dict tokens from before gs page → ⊥
-  not_framed never before gs is = never is.framed
-
   pub none_found : ((gs : List Linkage) → AreOnesOf know dict tokens (linkages_on page) gs → ⊥) → (before gs : List Linkage) → IsPageFor know dict tokens from before gs page → ⊥
   none_found never before gs is = never gs is.ones
 
@@ -137,10 +134,6 @@ module _ (written : NamesAreWritten) (apart : ConnectorsToldApart) (know : Knowl
 
     pub not_rising : (before : List Linkage) → (IsStrictlySortedBy linkage_cmp (before ++ shown) → ⊥) → (gs : List Linkage) → IsPageFor know dict tokens from before gs page → ⊥
     not_rising before never gs is = never (subst (λ (hs : List Linkage). IsStrictlySortedBy linkage_cmp (before ++ hs)) (same_shown before gs is) is.rise)
-
-    pub this_page : (before : List Linkage) → IsFramed know tokens from page.items page.last → page.last.shown ≡ length shown → IsStrictlySortedBy linkage_cmp (before ++ shown)
-        → IsPageFor know dict tokens from before shown page
-    this_page before framed counted rise = record { framed = framed; ones = ones; counted = counted; rise = rise }
 
 -- ---- a sentence past a bound
 

@@ -96,11 +96,6 @@ on_contains : (items : List Item) (x : Item) (s : ShownLinkage) → Contains ite
 on_contains items x s has is = flat_in linkages_of (map item_of items) (item_of x) s (map_in item_of items x has) (subst (λ (ss : List ShownLinkage). Contains ss s) (sym is) (contains_here s []))
 
 module _ (know : Knowledge) (dict : Dictionary) (tokens : List Token) (items : List Item) (i : ℕ) (x : Item) (within : i < length items) (read : x ≡ get_or items i x) where
-  pub ones_same : (gs : List Linkage) → linkages_of (item_of x) ≡ [] → AreOnesOf know dict tokens (shown_on (take i items)) gs → AreOnesOf know dict tokens (shown_on (take (i + 1) items)) gs
-  ones_same gs none ones =
-      subst (λ (ss : List ShownLinkage). AreOnesOf know dict tokens ss gs)
-      (sym (on_more items i x within read ∙ ap (λ (ss : List ShownLinkage). shown_on (take i items) ++ ss) none ∙ append-nil (shown_on (take i items)))) ones
-
   pub ones_more : (gs new : List Linkage) (s : ShownLinkage) (g : Linkage) → linkages_of (item_of x) ≡ s ∷ [] → new ≡ gs ++ g ∷ [] → IsOneOf know dict tokens s g
       → AreOnesOf know dict tokens (shown_on (take i items)) gs → AreOnesOf know dict tokens (shown_on (take (i + 1) items)) new
   ones_more gs new s g some grown one ones =

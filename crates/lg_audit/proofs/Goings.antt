@@ -1,5 +1,5 @@
 -- What is kept of a listing, as its pages are shown.
-use Rattle.std.proofs.Common.{◌≡◌, ℕ, ◌↔◌, Bool, List, [], ◌∷◌, ◌++◌, Option, Some, None, Result, MatchOption, IfOk, IsTrue, option_copied, refl, ap, sym, subst, ◌∙◌}
+use Rattle.std.proofs.Common.{◌≡◌, ℕ, ◌↔◌, Bool, List, [], ◌∷◌, ◌++◌, Option, Some, None, Result, IfOk, IsTrue, refl, ap, sym, subst, ◌∙◌}
 use Rattle.std.specs.Borrow.{Bor}
 use Rattle.std.specs.List.{last_or}
 use Rattle.std.specs.List.Sorted.{IsStrictlySortedBy}
@@ -9,16 +9,14 @@ use Rattle.lg_gram.specs.declared.listing.Bound.{Bound}
 use Rattle.lg_gram.specs.declared.listing.Token.{Token}
 use Rattle.lg_gram.specs.declared.reply.Place.{Place}
 use Rattle.lg_dict.specs.Dictionary.{Dictionary}
-use Rattle.lg_knowread.specs.declared.knowledge.Knowledge.{Knowledge}
-use Rattle.lg_script.specs.Bounds.{IsSentence}
 use Rattle.lg_script.specs.Commands.{CommandView, goes_on, asks}
 use Rattle.lg_token.specs.Bounds.{AreListed, IsBeyond, bound_of}
 use Rattle.lg_token.specs.Tokens.{AreTokens}
 use Rattle.lg_audit.specs.Answers.{reply_of}
 use Rattle.lg_audit.specs.Lines.{ShownPage, ShownReply, listed, beyond, published, refused, at, nothing_held}
-use Rattle.lg_audit.specs.Replies.{Basis, Held, GoesOn, IsPageOf, ReplyHolds, tells, no_more, dictionary_at}
+use Rattle.lg_audit.specs.Replies.{Basis, Held, GoesOn, IsPageOf, tells, no_more, dictionary_at}
 use Rattle.lg_audit.specs.Views.{text_of}
-use Rattle.lg_audit.specs.Walks.{IsKept, IsGoing, IsJustPage, Follows, ComesTo, IsNext}
+use Rattle.lg_audit.specs.Walks.{IsKept, IsGoing, Follows, ComesTo}
 use Rattle.lg_audit.specs.declared.listed.Going.{Going}
 use Rattle.lg_audit.specs.declared.shown.ShownReply.{ShownReply as Reply}
 use Rattle.lg_audit.specs.declared.shown.ShownReply.TheVariants as replies
@@ -71,15 +69,6 @@ something basis p version (replies.Published v) other then holds = means basis p
 something basis p version (replies.Refused v cause) other then holds = means basis p None goes_on (refused v cause.now) then holds
 something basis p version (replies.At v) other then holds = means basis p None goes_on (at v) then holds
 something basis p version replies.NothingHeld other then holds = absurd (other refl)
-
-pub another_kind : (basis : Basis) (p : Place) (h : Held) (here : ℕ) (r : Reply) → ((version : ℕ) (stats : Option (Bor (List ℕ))) (page : ShownPage) → r ≡ replies.Listed version stats page → ⊥)
-    → ComesTo basis p (Some h) goes_on (reply_of r) here Wrong
-another_kind basis p h here (replies.Listed v stats page) other then holds = absurd (other v stats page refl)
-another_kind basis p h here (replies.Beyond v bound) other then holds = means basis p (Some h) goes_on (beyond v bound) then holds
-another_kind basis p h here (replies.Published v) other then holds = means basis p (Some h) goes_on (published v) then holds
-another_kind basis p h here (replies.Refused v cause) other then holds = means basis p (Some h) goes_on (refused v cause.now) then holds
-another_kind basis p h here (replies.At v) other then holds = means basis p (Some h) goes_on (at v) then holds
-another_kind basis p h here replies.NothingHeld other then holds = means basis p (Some h) goes_on nothing_held then holds
 
 -- an answer at the version that the dictionary has come to
 module _ (basis : Basis) (p : Place) (h : Option Held) (command : CommandView) (reply : Reply) (version here : ℕ) (same : here ≡ version) where

@@ -87,9 +87,6 @@ pub record HasPage (text s : List ℕ) : Type 0 where
 abbrev pub GivesPages : List ℕ → List ℕ → Type 0
 GivesPages text left = (s : List ℕ) → HasPage text s → HasPage left s
 
-end_lines : ShownEnd → List (List ℕ)
-end_lines last = page_line last ∷ []
-
 ends : (ys : List ShownItem) (last : ShownEnd) (s : List ℕ) → EndsLinkage (flat_map closed (flat_map item_lines ys ++ page_line last ∷ []) ++ s)
 ends [] last s = record { no_word = refl; no_link = refl; no_drawn = refl }
 ends (passes n g us ∷ ys) last s = record { no_word = refl; no_link = refl; no_drawn = refl }

@@ -8,7 +8,6 @@ use Rattle.lg_gram.specs.declared.disjunct.Disjunct.{Disjunct}
 use Rattle.lg_gram.specs.declared.listing.Token.{Token}
 use Rattle.lg_dict.specs.Dictionary.{Dictionary}
 use Rattle.lg_audit.specs.Lines.{ShownChoice, ShownWord}
-use Rattle.lg_audit.specs.Replies.{shown_choice, shown_of, shown_word}
 use Rattle.lg_audit.specs.Printed.{IsPrintedSo, IsPrintedBy}
 use Rattle.lg_audit.specs.Pages.{IsShownAs, IsFoundAs, IsShownAt, IsFoundAt, AreShown, AreFound}
 
@@ -46,28 +45,8 @@ module _ (dict : Dictionary) (words : List (List ℕ)) (s : ShownChoice) where
 -- ---- a position
 
 module _ (dict : Dictionary) (position : ℕ) (t : Token) (w : ShownWord) where
-  pub other_position : (w.position ≡ position → ⊥) → (o : Option Disjunct) → IsShownAt dict position t w o → ⊥
-  other_position never o is = never (sym (ap (λ (v : ShownWord). v.position) is.is))
-
   pub other_text : (w.text ≡ t.text → ⊥) → (o : Option Disjunct) → IsShownAt dict position t w o → ⊥
   other_text never o is = never (sym (ap (λ (v : ShownWord). v.text) is.is))
-
-  module _ (here : w.position ≡ position) (text : w.text ≡ t.text) where
-    shown_with : (o : Option Disjunct) → w.choice ≡ shown_of o → shown_word (position, (t, o)) ≡ w
-    shown_with o choice = λ i. record { position = sym here i; text = sym text i; choice = sym choice i }
-
-    pub at_none : w.choice ≡ None → IsFoundAt dict position t w None
-    at_none none = record { shown = record { of_words = tt; is = shown_with None none }; fits = tt }
-
-    pub at_some : (s : ShownChoice) → w.choice ≡ Some s → (d : Disjunct) → IsFoundAs dict t.words s d → IsFoundAt dict position t w (Some d)
-    at_some s some d is = record { shown = record { of_words = is.shown.of_words; is = shown_with (Some d) (some ∙ ap Some (sym is.shown.is)) }; fits = is.fits }
-
-  pub at_nothing : (s : ShownChoice) → w.choice ≡ Some s → ((d : Disjunct) → IsShownAs dict t.words s d → ⊥) → (o : Option Disjunct) → IsShownAt dict position t w o → ⊥
-  at_nothing s some never None is = let none = ap (λ (v : ShownWord). v.choice) is.is in let bad : ⊥ = cc in bad
-  at_nothing s some never (Some d) is =
-      let shows = ap (λ (v : ShownWord). v.choice) is.is in
-      let same : shown_choice d ≡ s = cc in
-      never d (record { of_words = is.of_words; is = same })
 
 -- ---- all positions
 
@@ -96,15 +75,6 @@ module _ (dict : Dictionary) (tokens : List Token) (words : List ShownWord) wher
       tail never [] h = h
       tail never (p ∷ os) h = never os h.1
 
-  pub no_line : (position : ℕ) (left rest : List Token) (lines : List ShownWord) (done : List (Option Disjunct)) (t : Token) → left ≡ t ∷ rest → lines ≡ []
-      → Gives dict tokens words position left lines done → (os : List (Option Disjunct)) → AreShown dict 0 tokens words os → ⊥
-  no_line position left rest lines done t is none g =
-      g.none (λ os h. cut os (subst (λ (ls : List ShownWord). AreShown dict position (t ∷ rest) ls os) none (subst (λ (ts : List Token). AreShown dict position ts lines os) is h)))
-    where
-      cut : (os : List (Option Disjunct)) → AreShown dict position (t ∷ rest) [] os → ⊥
-      cut [] h = h
-      cut (o ∷ os) h = h
-
   pub no_use : (position : ℕ) (left rest : List Token) (lines more : List ShownWord) (done : List (Option Disjunct)) (t : Token) (w : ShownWord) → left ≡ t ∷ rest → lines ≡ w ∷ more
       → ((o : Option Disjunct) → IsShownAt dict position t w o → ⊥) → Gives dict tokens words position left lines done → (os : List (Option Disjunct)) → AreShown dict 0 tokens words os → ⊥
   no_use position left rest lines more done t w is are never g =
@@ -119,15 +89,6 @@ module _ (dict : Dictionary) (tokens : List Token) (words : List ShownWord) wher
   all_found position left lines done is are g =
       subst (AreFound dict 0 tokens words) (append-nil done)
       (g.all [] (subst (λ (ls : List ShownWord). AreFound dict position left ls []) (sym are) (subst (λ (ts : List Token). AreFound dict position ts [] []) (sym is) (record { shown = tt; fit = tt }))))
-
-  pub line_left : (position : ℕ) (left : List Token) (lines : List ShownWord) (done : List (Option Disjunct)) → left ≡ [] → (lines ≡ [] → ⊥) → Gives dict tokens words position left lines done
-      → (os : List (Option Disjunct)) → AreShown dict 0 tokens words os → ⊥
-  line_left position left lines done is some g = g.none (λ os h. cut lines os some (subst (λ (ts : List Token). AreShown dict position ts lines os) is h))
-    where
-      cut : (ls : List ShownWord) (os : List (Option Disjunct)) → (ls ≡ [] → ⊥) → AreShown dict position [] ls os → ⊥
-      cut [] os some h = some refl
-      cut (w ∷ ls) [] some h = h
-      cut (w ∷ ls) (o ∷ os) some h = h
 
   -- as many lines as tokens
   pub as_many : (position : ℕ) (ts : List Token) (ws : List ShownWord) (os : List (Option Disjunct)) → AreShown dict position ts ws os → length ws ≡ length ts

@@ -1,8 +1,7 @@
 -- A linkage by what is shown of it: its choices and links are determined, and its words, sums and links are shown so.
-use Rattle.std.proofs.Common.{◌≡◌, ℕ, zero, suc, ◌+◌, ◌-◌, ◌<◌, ◌≤◌, true, false, is_some, List, [], ◌∷◌, length, map, get_or, drop, Contains, Option, Some, None, MatchOption, Result, Ok, Err, refl, sym, ap, ◌∙◌, subst, arith}
-use Rattle.std.specs.List.{All, AllByRecursion, enumerate_from, zip}
+use Rattle.std.proofs.Common.{◌≡◌, ℕ, zero, suc, ◌+◌, ◌-◌, ◌<◌, ◌≤◌, false, is_some, List, [], ◌∷◌, length, map, get_or, drop, Contains, Option, Some, None, MatchOption, Result, Ok, Err, refl, sym, ap, ◌∙◌, subst, arith}
+use Rattle.std.specs.List.{AllByRecursion, enumerate_from, zip}
 use Rattle.std.specs.Result.{IfOk}
-use Rattle.std.proofs.lemmas.Option.{slice_get_within, get_or_from_slice_get}
 use Rattle.lg_base.proofs.Elements.{contains_here, contains_later}
 use Rattle.lg_gram.specs.Connectors.{ConnectorsToldApart}
 use Rattle.lg_gram.specs.Limits.{LINKAGE_POSITIONS}
@@ -14,7 +13,7 @@ use Rattle.lg_gram.specs.declared.listing.Token.{Token}
 use Rattle.lg_gram.specs.declared.listing.Violation.{Violation}
 use Rattle.lg_dict.specs.Dictionary.{Dictionary}
 use Rattle.lg_knowread.specs.declared.knowledge.Knowledge.{Knowledge}
-use Rattle.lg_pp.specs.Breaks.{Holds, IsBroken, Judges}
+use Rattle.lg_pp.specs.Breaks.{Judges}
 use Rattle.lg_text.specs.Texts.{label_text}
 use Rattle.lg_audit.specs.Lines.{ShownWord, ShownLink, ShownLinkage}
 use Rattle.lg_audit.specs.Replies.{shown_word}
@@ -147,16 +146,6 @@ link_in g ss links i s within read =
 
 -- ---- judged
 
-broken_not : (know : Knowledge) (g : Linkage) (v : Violation) → IsBroken know g v → All (Holds know g) know.rules → ⊥
-broken_not know g v b all =
-    let within = slice_get_within know.rules (v.rule - 1) b.rule b.number.1 in
-    let at = get_or_from_slice_get know.rules (v.rule - 1) b.rule b.rule b.number.1 in
-    subst (Holds know g) at (all (v.rule - 1) b.rule within) b.link b.fails
-
 pub passed : (know : Knowledge) (g : Linkage) (v : Option Violation) → is_some v ≡ false → Judges know g v → Judges know g None
 passed know g None e j = j
 passed know g (Some v) e j = let no : ⊥ = cc in absurd no
-
-pub not_passed : (know : Knowledge) (g : Linkage) (v : Option Violation) → is_some v ≡ true → Judges know g v → Judges know g None → ⊥
-not_passed know g None e j all = let no : ⊥ = cc in absurd no
-not_passed know g (Some v) e j all = broken_not know g v j all

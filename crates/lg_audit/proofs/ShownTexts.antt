@@ -1,9 +1,8 @@
 -- What is printed of an answer is the lines of what it shows.
-use Rattle.std.proofs.Common.{◌≡◌, ℕ, zero, suc, ◌+◌, Bool, true, false, List, [], ◌∷◌, ◌++◌, map, length, codes, decimal, Option, Some, None, is_none, refl, ap, sym, ◌∙◌, append-nil}
+use Rattle.std.proofs.Common.{◌≡◌, ℕ, zero, suc, ◌+◌, Bool, true, false, List, [], ◌∷◌, ◌++◌, map, length, codes, decimal, Option, Some, None, refl, ap, sym, ◌∙◌, append-nil}
 use Rattle.std.specs.List.{flat_map, enumerate_from, zip}
 use Rattle.std.proofs.lemmas.Grind.{flat_map-append}
 use Rattle.std.proofs.lemmas.List.{append_assoc}
-use Rattle.std.proofs.lemmas.List.Folds.{flat_map-map}
 use Rattle.lg_gram.specs.Linkages.{Linkage}
 use Rattle.lg_gram.specs.declared.disjunct.Disjunct.{Disjunct}
 use Rattle.lg_gram.specs.declared.linkage.Link.{Link}
@@ -24,7 +23,7 @@ use Rattle.lg_text.specs.Replies as replies
 use Rattle.lg_text.specs.Shown.{closed}
 use Rattle.lg_text.specs.Texts as texts
 use Rattle.lg_text.specs.declared.look.Look.{Look}
-use Rattle.lg_audit.specs.Lines.{ShownItem, ShownPage, ShownReply, beyond, published, refused, at, nothing_held, line, heading_line, word_line, link_line, fail_line, page_line, head_line}
+use Rattle.lg_audit.specs.Lines.{beyond, published, refused, at, nothing_held, line, heading_line, word_line, link_line, fail_line, page_line, head_line}
 use Rattle.lg_audit.specs.Documents.{item_lines, page_lines, unread_of, more_lines}
 use Rattle.lg_audit.specs.Replies.{shown_word, shown_linkage}
 use Rattle.lg_audit.specs.ShownAnswers.{height_lines, diagram_lines, drawn_if, counted_if, unread_by, shown_item, shown_page, shown_reply}
@@ -37,9 +36,6 @@ closed_one l = append-nil (closed l)
 
 both_lines : (xs ys : List (List ℕ)) → flat_map closed (xs ++ ys) ≡ flat_map closed xs ++ flat_map closed ys
 both_lines xs ys = flat_map-append closed xs ys
-
-mapped_lines : {A : Type 0} (f : A → List ℕ) (xs : List A) → flat_map closed (map f xs) ≡ flat_map (λ x. closed (f x)) xs
-mapped_lines {A} f xs = flat_map-map closed f xs
 
 -- ---- diagrams
 

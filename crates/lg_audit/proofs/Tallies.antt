@@ -1,5 +1,5 @@
 -- A document has a line for each linkage that it shows.
-use Rattle.std.proofs.Common.{◌≡◌, ℕ, ◌+◌, ◌≤◌, List, [], ◌∷◌, ◌++◌, length, map, drop, get_or, ◌<◌, ap, ◌∙◌, arith, length-append}
+use Rattle.std.proofs.Common.{◌≡◌, ℕ, ◌+◌, ◌≤◌, List, [], ◌∷◌, ◌++◌, length, map, ap, arith, length-append}
 use Rattle.std.specs.List.{flat_map, sum_by}
 use Rattle.std.proofs.lemmas.List.Sums.{sum_by-cons}
 use Rattle.lg_text.specs.Shown.{closed}
@@ -10,7 +10,6 @@ use Rattle.lg_audit.specs.Fronts.{AreFormed}
 use Rattle.lg_audit.specs.Answers.{AreRepliesTo, IsReplyTo}
 use Rattle.lg_audit.specs.Audits.{shown_by, shown_count}
 use Rattle.lg_audit.specs.Replies.{linkages_of}
-use Rattle.lg_audit.proofs.Chains.{split_at_place, none_left}
 use Rattle.lg_audit.proofs.Walking.{formed_lengths}
 
 -- each line has a line feed
@@ -66,14 +65,3 @@ shown_fit scripts bytes d form shows =
     omega (arith, sessions, lines, same, length-append (sessions_lines 1 scripts d.replies) (journal_lines d.journal d.usage))
 
 -- ---- sums of what is left
-
-pub sum_left : {A X : Type 0} (g : X → ℕ) (f : A → X) (xs : List A) (i : ℕ) (x : A) (all count : ℕ) → i < length xs → x ≡ get_or xs i x → count + sum_by g (map f (drop i xs)) ≡ all
-    → (count + g (f x)) + sum_by g (map f (drop (i + 1) xs)) ≡ all
-sum_left g f xs i x all count lt is sum =
-    let split = ap (sum_by g) (split_at_place f xs i x lt is) ∙ sum_by-cons g (f x) (map f (drop (i + 1) xs)) in
-    omega (arith, sum, split)
-
-pub sum_ended : {A X : Type 0} (g : X → ℕ) (f : A → X) (xs : List A) (i : ℕ) (all count : ℕ) → length xs ≤ i → count + sum_by g (map f (drop i xs)) ≡ all → count ≡ all
-sum_ended g f xs i all count past sum =
-    let none = ap (sum_by g) (none_left f xs i past) in
-    omega (arith, sum, none)

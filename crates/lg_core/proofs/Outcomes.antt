@@ -1,5 +1,5 @@
 -- What each event comes to: the steps, read backwards.
-use Rattle.std.proofs.Common.{◌≡◌, ℕ, ◌+◌, ◌<◌, ◌≤◌, List, length, Option, Some, None, refl, ap, sym, subst, ◌∙◌, arith}
+use Rattle.std.proofs.Common.{◌≡◌, ℕ, ◌+◌, ◌<◌, List, length, Option, Some, None, refl, ap, sym, subst, ◌∙◌}
 use Rattle.std.proofs.lemmas.Option.{none-some, same_Some}
 use Rattle.lg_gram.specs.declared.edit.EditRefusal.{EditRefusal}
 use Rattle.lg_gram.specs.declared.listing.Bound.{Bound}
@@ -23,7 +23,7 @@ use Rattle.lg_core.specs.declared.state.Core.{Core}
 use Rattle.lg_core.specs.declared.state.Hold.{Hold}
 use Rattle.lg_core.specs.Core as happens
 use Rattle.lg_core.specs.Core.{journal_of, with_actor, ended, published, next_place, next_code, note_of, seen_by, sentence_of, IsNext, IsNextAtEnd, Happens, StepsAreDetermined}
-use Rattle.lg_core.specs.Steps.{HasNoNext, IsNotAtEnd, held_after, HasBound, kind_by, looked_by, LooksSo, newest_of}
+use Rattle.lg_core.specs.Steps.{HasNoNext, held_after, HasBound, kind_by, looked_by, LooksSo, newest_of}
 
 -- a text has one list of tokens
 abbrev pub OneList : Type 0
@@ -189,25 +189,10 @@ module _ (scripts : List (List CommandView)) (base : Dictionary) (core : Core) w
   abbrev pub Cannot : Event → Type 0
   Cannot event = (then : Core) (told : Option Note) → Happens scripts base core event then told → ⊥
 
-  pub no_learn : (s : ℕ) → HasNoNext scripts core s → Cannot (Learn s)
-  no_learn s none then told h = let g = gives (Learn s) then told h in none g.0 g.1 g.2
-
   pub no_more : (s : ℕ) → HasNoNext scripts core s → Cannot (More s)
   no_more s none then told h = let g = gives (More s) then told h in none g.0 goes_on g.1
 
-  pub no_look : (s : ℕ) → IsNotAtEnd scripts core s → Cannot (Look s)
-  no_look s none then told h = let g = gives (Look s) then told h in none g.0 g.1 g.3
-
-  pub no_publish : (s : ℕ) → IsNotAtEnd scripts core s → Cannot (Publish s)
-  no_publish s none then told h = let g = gives (Publish s) then told h in none g.0 (makes g.1) g.2
-
   module _ (s : ℕ) (a : Actor) (command : CommandView) where
-    pub learnt_all : IsNext scripts core s a command → length core.history ≤ a.seen → Cannot (Learn s)
-    learnt_all next all then told h =
-        let g = gives (Learn s) then told h in
-        let same = same_actor s g.0 a g.1 command g.2 next in
-        let less : a.seen < length core.history = subst (λ (z : Actor). z.seen < length core.history) same g.3 in absurd (omega (arith, less, all))
-
     pub waits_for : IsNextAtEnd scripts core s a command → LooksSo (seen_by scripts base core a) command looks.Waits → Cannot (Look s)
     waits_for end so then told h =
         let g = gives (Look s) then told h in

@@ -1,6 +1,5 @@
 -- Names that are added one after another.
-use Rattle.std.proofs.Common.{◌≡◌, ℕ, List, [], ◌∷◌, ◌++◌, refl, sym, ap, subst, ◌∙◌, append_assoc}
-use Rattle.std.proofs.lemmas.List.{append-nil}
+use Rattle.std.proofs.Common.{◌≡◌, ℕ, List, [], ◌∷◌, ◌++◌, sym, ap, subst, ◌∙◌, append_assoc}
 use Rattle.lg_dictread.specs.declared.dict_error.DictError.{DictError}
 use Rattle.lg_dictread.specs.Telling.{UnlessMemory}
 use Rattle.lg_dictread.proofs.ErrorMaps.{memory_map}
@@ -15,9 +14,6 @@ pub record Remains (first now : Lines) (names more : List (List ℕ)) (all rest 
   pub listed : more ++ names_in rest ≡ names ++ names_in all
   pub twice : (error : DictError) → IsTwice now rest error → IsTwice first all error
 
-pub remains_all : (first : Lines) (names : List (List ℕ)) (all : Lines) → Remains first first names names all all
-remains_all first names all = record { are_new = λ h. h; table = refl; listed = refl; twice = λ error h. h }
-
 pub remains_less : (first now next : Lines) (names more most : List (List ℕ)) (all left rest : Lines) (d : List ℕ × ℕ) → left ≡ d ∷ rest → Remains first now names more all left → AddsNames now next more most (d ∷ [])
     → Remains first next names most all rest
 remains_less first now next names more most all left rest d is h adds =
@@ -27,15 +23,6 @@ remains_less first now next names more most all left rest d is h adds =
       table = ap (λ (l : Lines). l ++ rest) adds.table ∙ append_assoc now (d ∷ []) rest ∙ at_first.table;
       listed = ap (λ (l : List (List ℕ)). l ++ names_in rest) adds.listed ∙ append_assoc more (d.0 ∷ []) (names_in rest) ∙ at_first.listed;
       twice = λ error further. at_first.twice error (more_twice now rest d error adds.are_new.0 (subst (λ (l : Lines). IsTwice l rest error) adds.table further));
-    }
-
-pub remains_none : (first now : Lines) (names more : List (List ℕ)) (all left : Lines) → left ≡ [] → Remains first now names more all left → AddsNames first now names more all
-remains_none first now names more all left is h =
-    let at_end : Remains first now names more all [] = subst (λ (l : Lines). Remains first now names more all l) is h in
-    record {
-      are_new = at_end.are_new tt;
-      table = sym (append-nil now) ∙ at_end.table;
-      listed = sym (append-nil more) ∙ at_end.listed;
     }
 
 twice_more : (earlier rest : Lines) (d : List ℕ × ℕ) (error : DictError) → IsTwice earlier (d ∷ []) error → IsTwice earlier (d ∷ rest) error

@@ -37,10 +37,6 @@ pub known_then : (known : Option Contents) (a b : List Asked) → AreKnown known
 known_then None a b h k = tt
 known_then (Some contents) a b h k = in_then contents a b h k
 
-pub known_front : (known : Option Contents) (a b : List Asked) → AreKnown known (a ++ b) → AreKnown known a
-known_front None a b h = tt
-known_front (Some contents) a b h = in_front contents a b h
-
 -- the contents that are known, or none
 abbrev pub or_none : Option Contents → Contents
 or_none None = from_entries []

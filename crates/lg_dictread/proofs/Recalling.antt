@@ -10,8 +10,8 @@ use Rattle.lg_lex.specs.Tokens.{Token}
 use Rattle.lg_dictread.specs.declared.dict_error.DictError.{DictError}
 use Rattle.lg_dictread.specs.declared.dict_error.DictError.TheVariants as errors
 use Rattle.lg_dictread.specs.Entries.{part}
-use Rattle.lg_dictread.specs.Recalling.{Means, Writes, IsOfText}
-use Rattle.lg_dictread.specs.Telling.{UnlessMemory, IsCause}
+use Rattle.lg_dictread.specs.Recalling.{Means, Writes}
+use Rattle.lg_dictread.specs.Telling.{UnlessMemory}
 use Rattle.lg_dictread.specs.Texts.{IsLarge, nodes, choices, side}
 
 parts_moved : (n : ℕ) (ts : List Token) → map part (map (moved n) ts) ≡ map part ts
@@ -85,21 +85,3 @@ pub large_unless : (t : Tree) (line : ℕ) (error : DictError) (Told : DictError
 large_unless t line error Told (nodes n) told = told
 large_unless t line error Told (choices n k) told = told
 large_unless t line error Told (side n k l) told = told
-
-pub large_own : (t : Tree) (line : ℕ) (error : DictError) → IsLarge t line error → IsOfText error
-large_own t line error (nodes n) = tt
-large_own t line error (choices n k) = tt
-large_own t line error (side n k l) = tt
-
-pub own_cause : (before now : ℕ) (asked : List (List ℕ)) (error : DictError) → IsOfText error → IsCause before now asked error
-own_cause before now asked (errors.WordFile line name cause) h = absurd h
-own_cause before now asked errors.NoMemory h = tt
-own_cause before now asked (errors.NotUtf8 n) h = tt
-own_cause before now asked (errors.Syntax l c) h = tt
-own_cause before now asked (errors.UnknownMacro l m) h = tt
-own_cause before now asked (errors.CostForm l) h = tt
-own_cause before now asked (errors.TooDeep l) h = tt
-own_cause before now asked (errors.TooManyNodes l n) h = tt
-own_cause before now asked (errors.TooManyChoices l n) h = tt
-own_cause before now asked (errors.SideTooLong l n) h = tt
-own_cause before now asked (errors.DuplicateWord w l m) h = tt

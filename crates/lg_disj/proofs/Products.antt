@@ -1,5 +1,5 @@
 -- Choices of several expressions, one after another.
-use Rattle.std.proofs.Common.{◌≡◌, ℕ, zero, suc, set, drop, ◌<◌, ◌≤◌, ℤ, pos, ◌+ℤ◌, List, [], ◌∷◌, ◌++◌, map, length, take, get_or, refl, sym, ap, ◌∙◌, arith, append_assoc, append-nil}
+use Rattle.std.proofs.Common.{◌≡◌, ℕ, zero, suc, set, drop, ◌<◌, ℤ, pos, ◌+ℤ◌, List, [], ◌∷◌, ◌++◌, map, length, take, get_or, refl, sym, ap, ◌∙◌, arith, append_assoc, append-nil}
 use Rattle.std.proofs.lemmas.Int.{ints}
 use Rattle.std.proofs.lemmas.List.{map-append}
 use Rattle.std.proofs.lemmas.Grind.{flat_map-append}
@@ -75,10 +75,3 @@ pub one_dearer : {A : Type 0} (f : A → A) (all : List A) (i : ℕ) (d : A) →
 one_dearer f [] i d h = absurd (omega arith)
 one_dearer f (c ∷ all) zero d h = refl
 one_dearer f (c ∷ all) (suc i) d h = ap (λ cs. f c ∷ cs) (one_dearer f all i d (omega arith))
-
--- each has got its price
-pub all_dearer : {A : Type 0} (f : A → A) (all : List A) (i : ℕ) → length all ≤ i → map f (take i all) ++ drop i all ≡ map f all
-all_dearer f [] zero h = refl
-all_dearer f [] (suc i) h = refl
-all_dearer f (c ∷ all) zero h = absurd (omega arith)
-all_dearer f (c ∷ all) (suc i) h = ap (λ cs. f c ∷ cs) (all_dearer f all i (omega arith))

@@ -36,9 +36,6 @@ rows_grown ps more [] lie = refl
 rows_grown ps more (row ∷ rows) lie =
     λ i. row_grown ps more row (All-head (LiesIn ps) row rows lie) i ∷ rows_grown ps more rows (All-tail (LiesIn ps) row rows lie) i
 
-lies_grown : (ps more : List ℕ) (row : Row) → LiesIn ps row → LiesIn (ps ++ more) row
-lies_grown ps more row lies = record { left = lies.left; right = lies.right; within = omega (arith, lies.within, length-append ps more) }
-
 new_row : (ps l r : List ℕ) (row : Row) → row.from ≡ length ps → row.middle ≡ length (ps ++ l) → row.end ≡ length ((ps ++ l) ++ r) →
     row_in ((ps ++ l) ++ r) row ≡ record { left = l; right = r; cost = row.cost }
 new_row ps l r row from middle end =

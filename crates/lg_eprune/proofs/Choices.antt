@@ -2,7 +2,7 @@
 use Rattle.std.proofs.Common.{◌≡◌, ℤ, pos, inl, inr, refl, sym, ap, ◌∙◌, Bool, true, false, ◌&&◌, cond, Option, Some, None, List, [], ◌∷◌, ◌++◌, map, Contains, if◌then◌else◌}
 use Rattle.std.specs.List.{filter, flat_map, list_all}
 use Rattle.std.specs.Option.{option_map}
-use Rattle.std.proofs.lemmas.Bool.{cases_Bool, and_parts, and_from}
+use Rattle.std.proofs.lemmas.Bool.{cases_Bool, and_from}
 use Rattle.std.proofs.lemmas.List.Elements.{filter-append}
 use Rattle.std.proofs.lemmas.List.Folds.{list_all-append}
 use Rattle.lg_gram.specs.Connectors.{Connector}
@@ -10,7 +10,7 @@ use Rattle.lg_gram.specs.Trees.{Tree, Trees, empty, leaf, all_of, one_of, priced
 use Rattle.lg_gram.specs.Measures.{Choice, single, joined, dearer, choices_of, picks_of, choices_of_any}
 use Rattle.lg_eprune.specs.Live.{HasConnector}
 use Rattle.lg_eprune.specs.Cuts.{any_of, both, in_front, cut, cut_all, cut_any}
-use Rattle.lg_base.proofs.Elements.{contains_cases, contains_none, contains_here, contains_later}
+use Rattle.lg_base.proofs.Elements.{contains_here, contains_later}
 
 -- each connector of the choice passes
 abbrev pub passes : (Connector → Bool) → Choice → Bool
@@ -140,19 +140,6 @@ all_pass : (test : Connector → Bool) (cs : List Connector) → ((c : Connector
 all_pass test [] h = refl
 all_pass test (c ∷ cs) h = and_from (test c) (list_all test cs) (h c (contains_here c cs)) (all_pass test cs (λ d m. h d (contains_later c cs d m)))
 
-each_pass : (test : Connector → Bool) (cs : List Connector) → list_all test cs ≡ true → (c : Connector) → Contains cs c → test c ≡ true
-each_pass test [] h c m = absurd (contains_none c m)
-each_pass test (d ∷ cs) h c m =
-    let parts = and_parts (test d) (list_all test cs) h in
-    elim (contains_cases d cs c m) [
-      | inl same ↦ ap test (sym same) ∙ parts.0
-      | inr later ↦ each_pass test cs parts.1 c later
-    ]
-
 pub passes_if : (test : Connector → Bool) (choice : Choice) → ((c : Connector) → HasConnector choice c → test c ≡ true) → passes test choice ≡ true
 passes_if test choice h =
     and_from (list_all test choice.left) (list_all test choice.right) (all_pass test choice.left (λ c m. h c (inl m))) (all_pass test choice.right (λ c m. h c (inr m)))
-
-pub passes_each : (test : Connector → Bool) (choice : Choice) → passes test choice ≡ true → (c : Connector) → HasConnector choice c → test c ≡ true
-passes_each test choice h c (inl m) = each_pass test choice.left (and_parts (list_all test choice.left) (list_all test choice.right) h).0 c m
-passes_each test choice h c (inr m) = each_pass test choice.right (and_parts (list_all test choice.left) (list_all test choice.right) h).1 c m

@@ -37,11 +37,6 @@ module _ (test : Connector → Bool) (es : List Expr) (i : ℕ) (e : Expr) (with
       ∙ ap (λ o. before (map tree_of kept) (in_front o (cut_any test (trees_in (drop (i + 1) es))))) is
       ∙ ap (λ ts. before (map tree_of kept) (cut_any test ts)) (sym (next es i e within read))
 
-  pub any_same : ◌≡◌ {A = Option Tree} None (cut test (tree_of e)) → before (map tree_of kept) (cut_any test (trees_in (drop (i + 1) es))) ≡ before (map tree_of kept) (cut_any test (trees_in (drop i es)))
-  any_same is =
-      ap (λ o. before (map tree_of kept) (in_front o (cut_any test (trees_in (drop (i + 1) es))))) is
-      ∙ ap (λ ts. before (map tree_of kept) (cut_any test ts)) (sym (next es i e within read))
-
 pub all_done : (test : Connector → Bool) (es kept : List Expr) (i : ℕ) → length es ≤ i
     → ◌≡◌ {A = Option Trees} (Some (trees_in kept)) (option_map (before (map tree_of kept)) (cut_all test (trees_in (drop i es))))
 all_done test es kept i past =

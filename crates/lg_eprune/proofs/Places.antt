@@ -1,10 +1,10 @@
 -- A loop over the positions.
-use Rattle.std.proofs.Common.{◌≡◌, ◌∙◌, refl, sym, ap, Bool, true, false, not, ◌||◌, Option, Some, None, List, [], ◌∷◌, ◌++◌, append_assoc}
+use Rattle.std.proofs.Common.{◌≡◌, ◌∙◌, refl, sym, ap, Bool, true, false, not, ◌||◌, List, [], ◌∷◌, ◌++◌, append_assoc}
 use Rattle.std.specs.Option.{option_map}
 use Rattle.lg_gram.specs.Connectors.{Connector}
 use Rattle.lg_gram.specs.Trees.{Tree}
 use Rattle.lg_eprune.specs.Live.{WordTree}
-use Rattle.lg_eprune.specs.Cuts.{cut_word, cut_words, with_word, do_lose, is_whole, is_met, stays, swept, sweep_loses, word_leaves, IsSeen, Lists}
+use Rattle.lg_eprune.specs.Cuts.{cut_words, with_word, do_lose, is_whole, is_met, stays, swept, sweep_loses, word_leaves, IsSeen, Lists}
 use Rattle.lg_eprune.proofs.Bounds.{cut_keeps}
 use Rattle.lg_eprune.proofs.Listed.{tests_same, more_seen}
 
@@ -19,18 +19,8 @@ module _ (test : Connector → Bool) (done rest all : List WordTree) (w : WordTr
       append_assoc done (w ∷ []) (cut_words test rest)
       ∙ ap (λ o. done ++ with_word (option_map (λ (t : Tree). record { word = w.word; tree = t }) o) (cut_words test rest)) (sym (cut_keeps test w.tree whole)) ∙ is
 
-  pub word_left : (v : WordTree) → ◌≡◌ {A = Option WordTree} (Some v) (cut_word test w) → done ++ cut_words test (w ∷ rest) ≡ all → (done ++ v ∷ []) ++ cut_words test rest ≡ all
-  word_left v same is = append_assoc done (v ∷ []) (cut_words test rest) ∙ ap (λ o. done ++ with_word o (cut_words test rest)) same ∙ is
-
-  pub word_gone : ◌≡◌ {A = Option WordTree} None (cut_word test w) → done ++ cut_words test (w ∷ rest) ≡ all → done ++ cut_words test rest ≡ all
-  word_gone same is = ap (λ o. done ++ with_word o (cut_words test rest)) same ∙ is
-
 pub lost_kept : (test : Connector → Bool) (less all : Bool) (w : WordTree) (rest : List WordTree) → is_whole test w.tree ≡ true → (less || do_lose test (w ∷ rest)) ≡ all → (less || do_lose test rest) ≡ all
 lost_kept test less all w rest whole is = ap (λ b. less || (not b || do_lose test rest)) (sym whole) ∙ is
-
-pub lost_less : (test : Connector → Bool) (less all : Bool) (w : WordTree) (rest : List WordTree) → is_whole test w.tree ≡ false → (less || do_lose test (w ∷ rest)) ≡ all → true ≡ all
-lost_less test true all w rest whole is = is
-lost_less test false all w rest whole is = ap (λ b. not b || do_lose test rest) (sym whole) ∙ is
 
 -- what is known after some positions
 abbrev pub Told : Bool → List (List Connector) → List (List WordTree) → Bool → List (List WordTree) → List (List WordTree) → Type 0

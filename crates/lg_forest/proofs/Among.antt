@@ -1,5 +1,5 @@
 -- Alternatives of a key taken part by part.
-use Rattle.std.proofs.Common.{◌≡◌, ◌↔◌, ℕ, zero, suc, ◌+◌, ◌<◌, ◌≤◌, ◌⊎◌, inl, inr, refl, sym, ap, ◌∙◌, subst, List, [], ◌∷◌, ◌++◌, length, Option, Some, None, IfSome, Contains, slice_get, get_or, OnOk, IsTrue, true, false, true≢false, arith, append_assoc, append-nil}
+use Rattle.std.proofs.Common.{◌≡◌, ◌↔◌, ℕ, zero, suc, ◌+◌, ◌<◌, ◌≤◌, ◌⊎◌, inl, inr, refl, sym, ap, ◌∙◌, subst, List, [], ◌∷◌, ◌++◌, length, Option, Some, IfSome, Contains, slice_get, get_or, OnOk, arith, append_assoc, append-nil}
 use Rattle.std.proofs.lemmas.Bool.{cases_lt}
 use Rattle.std.proofs.lemmas.Option.{same_Some, slice_get_within, slice_get-get_or}
 use Rattle.std.specs.declared.result.Result.{Result}
@@ -136,10 +136,6 @@ module _ (n : Numbering) (key : Key) (P Q R : Alt → Type 0) (e : (a : Alt) →
 module _ (n : Numbering) (key : Key) (P Q : Alt → Type 0) (e : (a : Alt) → IsAltOf n.positions n.lists key a → P a ↔ Q a) where
   pub asked_same : (old new : List (Key × List Alt)) → Asked n (AsksAmong n key P) old new → Asked n (AsksAmong n key Q) old new
   asked_same old new x = asked_as n (AsksAmong n key P) (AsksAmong n key Q) old new (λ k (a, is, p, asks). (a, is, (e a is).0 p, asks)) (λ k (a, is, q, asks). (a, is, (e a is).1 q, asks)) x
-
-  pub live_same : (old new : List Alt) → AddsLive n key P old new → AddsLive n key Q old new
-  live_same old new x = adds_as old new (λ a. IsAltOf n.positions n.lists key a × P a × IsLive n.positions n.lists a) (λ a. IsAltOf n.positions n.lists key a × Q a × IsLive n.positions n.lists a)
-      (λ a. (λ (is, p, live). (is, (e a is).0 p, live), λ (is, q, live). (is, (e a is).1 q, live))) x
 
 -- a left key, and what the first alternatives of a list ask for
 abbrev pub AsksFor : Numbering → Key → List Alt → ℕ → Key → Type 0

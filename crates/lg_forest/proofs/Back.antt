@@ -1,9 +1,9 @@
 -- Seats that come back from their workers.
-use Rattle.std.proofs.Common.{◌≡◌, ℕ, List, [], ◌∷◌, ◌++◌, take, drop, Option, Some, None, sym, ap, ◌∙◌, subst, append-nil, take-append-drop, ◌<◌, length, arith}
+use Rattle.std.proofs.Common.{◌≡◌, ℕ, List, [], ◌∷◌, ◌++◌, take, drop, Option, Some, sym, ap, ◌∙◌, subst, take-append-drop, ◌<◌, length, arith}
 use Rattle.std.specs.Prelude.{option_to_list, IfSome}
 use Rattle.std.proofs.lemmas.List.{length-append}
 use Rattle.std.specs.List.{All, flat_map}
-use Rattle.std.proofs.lemmas.List.Elements.{All-pop, All-push, All-same, All-append}
+use Rattle.std.proofs.lemmas.List.Elements.{All-pop, All-same, All-append}
 use Rattle.std.proofs.lemmas.Grind.{flat_map-append}
 
 -- all are free, and stand for the same numbers
@@ -11,20 +11,6 @@ abbrev pub AreBack : {A B : Type 0} → (A → Type 0) → (A → List B) → Li
 AreBack Free numbers old new = All Free new × (flat_map numbers new ≡ flat_map numbers old)
 
 module _ {A B : Type 0} where
-  pub none_back : (old rest : List A) (r : Option A) → old ≡ rest ++ option_to_list r → r ≡ None → (Free : A → Type 0) (numbers : A → List B) → All Free old → AreBack Free numbers old rest
-  none_back old rest r e is Free numbers all =
-      let same : old ≡ rest = e ∙ ap (λ (o : Option A). rest ++ option_to_list o) is ∙ append-nil rest in
-      (All-same Free rest old (sym same) all, ap (λ l. flat_map numbers l) (sym same))
-
-  -- the last seat went to a worker
-  pub one_back : (old rest new : List A) (r : Option A) (seat back : A) → old ≡ rest ++ option_to_list r → r ≡ Some seat → new ≡ rest ++ back ∷ []
-      → (Free : A → Type 0) (numbers : A → List B) → Free back → numbers back ≡ numbers seat → All Free old → AreBack Free numbers old new
-  one_back old rest new r seat back e is are Free numbers free same all =
-      let split : old ≡ rest ++ seat ∷ [] = e ∙ ap (λ (o : Option A). rest ++ option_to_list o) is in (
-        All-same Free new (rest ++ back ∷ []) are (All-push Free rest back (All-pop Free old rest r e all).0 free),
-        ap (λ l. flat_map numbers l) are ∙ flat_map-append numbers rest (back ∷ []) ∙ ap (λ l. flat_map numbers rest ++ (l ++ [])) same ∙ sym (flat_map-append numbers rest (seat ∷ [])) ∙ ap (λ l. flat_map numbers l) (sym split),
-      )
-
   -- two halves came back
   pub both_back : (old low high first second new : List A) (n : ℕ) → low ≡ take n old → high ≡ drop n old → new ≡ first ++ second
       → (Free : A → Type 0) (numbers : A → List B) → AreBack Free numbers low first → AreBack Free numbers high second → AreBack Free numbers old new

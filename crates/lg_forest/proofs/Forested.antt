@@ -89,9 +89,6 @@ module _ (positions : List (List Disjunct)) (from : ℕ) (forest : Forest) (is :
 abbrev pub SpelledBy : List (List Disjunct) → List (List Connector) → Key → List Alt → ℕ → Linkage → Type 0
 SpelledBy positions lists k alts i g = (a : Alt) × Contains (take i alts) a × IsSpelled positions lists k a g
 
-pub drafts_none : (positions : List (List Disjunct)) (lists : List (List Connector)) (k : Key) (alts : List Alt) → AreDraftsOf positions (SpelledBy positions lists k alts 0) []
-drafts_none positions lists k alts = record { each = λ p h. absurd (let x = h.1 in omega arith); all = λ g h. absurd (let x = h.1.1 in omega arith) }
-
 pub drafts_more : (positions : List (List Disjunct)) (lists : List (List Connector)) (k : Key) (alts : List Alt) (i j : ℕ) (a : Alt) (ps qs : List Draft) → slice_get alts i ≡ Some a → j ≡ suc i
     → AreDraftsOf positions (SpelledBy positions lists k alts i) ps → AreDraftsOf positions (IsSpelled positions lists k a) qs → AreDraftsOf positions (SpelledBy positions lists k alts j) (ps ++ qs)
 drafts_more positions lists k alts i j a ps qs at next x y =

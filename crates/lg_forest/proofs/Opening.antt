@@ -89,11 +89,6 @@ same_begin gap other g b (At w i tl tr lk rk) (At w' i' tl' tr' lk' rk') l h =
       λ s. (h.2 ∙ s.0, h.3 ∙ s.1 ∙ sym (ap Some keys)),
     )
 
--- the same alternative, seen from two regions
-begin_from : (gap other : Gap) (g : Group) (b : Beginning) (a : Alt) → gap.left ≡ other.left → BeginsSo gap g b a → BeginsSo other g b a
-begin_from gap other g b AllNull l s = absurd s
-begin_from gap other g b (At w i tl tr lk rk) l s = (s.0, s.1 ∙ ap Some (λ i. left_of (record gap { left = l i }) g b))
-
 start_at : (gap : Gap) (s : Start) (a : Alt) → StartsSo gap s a → StandsAt s.group.word a
 start_at gap s AllNull h = absurd h.0
 start_at gap s (At w i tl tr lk rk) h = h.0.0

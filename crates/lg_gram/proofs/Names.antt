@@ -134,11 +134,6 @@ joint_short rank start joint h =
     let few = joint_digits rank start joint h in
     omega (arith, few.0, few.1.0, few.1.1, length-joint rank start joint)
 
-pub stored_joint : (rank start joint : ℕ) → joint_fits rank start joint ≡ true → IsStored (stored (record { caps = joint_text rank start joint; subs = [] }))
-stored_joint rank start joint fits =
-    let is : IsJoint (joint_text rank start joint) = record { rank = rank; start = start; joint = joint; fits = fits; spelled = refl } in
-    stored_name (record { caps = joint_text rank start joint; subs = [] }) (by_joint is refl) (omega (arith, joint_short rank start joint fits))
-
 -- the first byte of a name, which stands behind the sign `@` (64)
 pub record Starts (caps : List ℕ) : Type 0 where
   pub first : ℕ

@@ -88,13 +88,6 @@ module _ (dict : Dictionary) where
       (listed_begin (BeginsAbove 90) ((b + 32) ∷ bs) ys ay (λ rest. (b + 32, bs ++ rest, refl, omega (arith, range))))
       ax.rise ay.rise
 
-  pub begun_alone : (initial : Bool) (text : List ℕ) (xs : List (List ℕ)) → ((initial ≡ true) → (is_capitalized text ≡ true) → ⊥) → AreCompoundsOf dict text xs → AreWords (IsBegun dict initial text) xs
-  begun_alone initial text xs not_lowered ax = record {
-    rise = ax.rise;
-    exactly = λ word. (
-      λ h. inl ((ax.exactly word).0 h),
-      λ h. elim h [ inl here ↦ (ax.exactly word).1 here | inr here ↦ absurd (not_lowered here.0 here.1) ],
-    );
   }
 
   pub begun_joined : {E : Type 0} (initial : Bool) (text small : List ℕ) (xs ys : List (List ℕ)) (r : Result (List (List ℕ)) E) → initial ≡ true → is_capitalized text ≡ true → small ≡ lowered text

@@ -32,9 +32,6 @@ before_none c end p past = ap (λ b. if b then added_by p c ∷ [] else []) (let
 before_one : (c : Chain) (end p : ℕ) → c.start ≤ p → p < end → added_before c end p ≡ added_by p c ∷ []
 before_one c end p from low = ap (λ b. if b then added_by p c ∷ [] else []) (let e : (nat_le c.start p && nat_lt p end) ≡ true = grind (arith, nat_tests) in e)
 
-before_start : (c : Chain) (p : ℕ) → added_before c c.start p ≡ []
-before_start c p = ap (λ b. if b then added_by p c ∷ [] else []) (let e : (nat_le c.start p && nat_lt p c.start) ≡ false = grind (arith, nat_tests) in e)
-
 before_same : (c : Chain) (k p : ℕ) → (p ≡ k → ⊥) → added_before c (k + 1) p ≡ added_before c k p
 before_same c k p apart =
     ap (λ b. if nat_le c.start p && b then added_by p c ∷ [] else [])
@@ -46,11 +43,6 @@ before_same c k p apart =
     apart_more : (k p : ℕ) → k ≤ p → (p ≡ k → ⊥) → k < p
     apart_more k p more apart = elim (cases_lt k p) [ inl less ↦ less | inr least ↦ absurd (apart (omega (arith, more, least))) ]
 
--- one position more
-pub nothing_added : (c : Chain) (old : List (List WordTree)) → HasAdded c c.start old old
-nothing_added c old = record {
-  same_length = refl;
-  each = λ p words at. at ∙ ap Some (sym (append-nil words) ∙ ap (λ more. words ++ more) (sym (before_start c p)));
 }
 
 module _ (c : Chain) (k : ℕ) (old mid : List (List WordTree)) (row : List WordTree) (from : c.start ≤ k) (low : k < length mid) (at_k : slice_get mid k ≡ Some row) (has : HasAdded c k old mid) where

@@ -30,14 +30,6 @@ valid_longest : (bs : List ℕ) (m n : ℕ) → valid_len_up_to bs n < m → m �
 valid_longest bs m zero low high is = absurd (omega arith)
 valid_longest bs m (suc n) low high is = longest_at bs m n (is_utf8 (take (suc n) bs)) refl low high (valid_longest bs m n) is
 
-within_at : (b : Bool) (n k : ℕ) → k ≤ n → cond b (suc n) k ≤ suc n
-within_at true n k le = omega arith
-within_at false n k le = omega arith
-
-valid_within : (bs : List ℕ) (n : ℕ) → valid_len_up_to bs n ≤ n
-valid_within bs zero = omega arith
-valid_within bs (suc n) = within_at (is_utf8 (take (suc n) bs)) n (valid_len_up_to bs n) (valid_within bs n)
-
 whole : (bs : List ℕ) (m : ℕ) → length bs ≤ m → IsUtf8 (take m bs) → IsUtf8 bs
 whole bs m le = subst IsUtf8 (take_all m bs le)
 

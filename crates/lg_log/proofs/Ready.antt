@@ -1,14 +1,14 @@
 -- A pass is ready after each of its steps.
-use Rattle.std.proofs.Common.{◌≡◌, ℕ, ◌+◌, ◌<◌, ◌≤◌, true, false, eqb, List, [], ◌∷◌, ◌++◌, length, sum, refl, ap, sym, ◌∙◌, subst, arith, length-append, le_trans, leb, le-leb, zero-le}
-use Rattle.std.specs.List.{list_any, list_all, IsDistinct}
-use Rattle.std.proofs.lemmas.Bool.{cond_both, cond-true, cond-false, lt-leb, both_ways}
+use Rattle.std.proofs.Common.{◌≡◌, ℕ, ◌+◌, ◌<◌, ◌≤◌, true, false, eqb, List, [], ◌∷◌, ◌++◌, length, sum, refl, ap, sym, ◌∙◌, subst, arith, length-append, le_trans, zero-le}
+use Rattle.std.specs.List.{list_any, IsDistinct}
+use Rattle.std.proofs.lemmas.Bool.{both_ways}
 use Rattle.std.proofs.lemmas.Map.Keys.{IsDistinct-push}
 use Rattle.std.proofs.lemmas.Cmp.{nat_eq_equiv}
 use Rattle.atomic_table.specs.Seated.{TableId}
 use Rattle.lg_log.specs.declared.view.View.{View}
 use Rattle.lg_log.specs.Codes.{is_code, code_session, is_of}
-use Rattle.lg_log.specs.Passes.{LogId, Standing, longer_of, IsOther, CarriesAll}
-use Rattle.lg_log.specs.Views.{standing, first_view, sees, meets_end, joined, settled, IsReady}
+use Rattle.lg_log.specs.Passes.{LogId, Standing, IsOther, CarriesAll}
+use Rattle.lg_log.specs.Views.{standing, first_view, sees, IsReady}
 use Rattle.lg_log.specs.Steps.{Seated, IsNext}
 use Rattle.lg_log.proofs.CodeLaws.{codes_are_of_edits}
 use Rattle.lg_log.proofs.Lists.{all_push}
@@ -19,10 +19,6 @@ ready_start table me counts seen capacity is words empty room = subst (λ (m : S
     (record { live = refl; no_note = refl; no_slot = refl; same = empty; words = words; room = room; few = zero-le; codes = refl; distinct = tt })
 
 module _ (table : TableId) (me : Seated) (seen : List ℕ) (capacity : ℕ) (r : IsReady table me seen capacity) where
-  pub ready_at_end : (table' : TableId) (after : Seated) → table' ≡ table → after.0 ≡ meets_end me.0 → after.1 ≡ me.1 → IsReady table' after seen capacity
-  ready_at_end table' after there is slots = subst (λ (z : TableId × Seated). IsReady z.0 z.1 seen capacity) (λ i. (sym there i, (sym is i, sym slots i)))
-      (record { live = r.live; no_note = r.no_note; no_slot = r.no_slot; same = r.same; words = r.words; room = r.room; few = r.few; codes = r.codes; distinct = r.distinct })
-
   pub ready_with_code : (table' : TableId) (after : Seated) (code : ℕ) → table' ≡ table → after.0 ≡ sees me.0 code → after.1 ≡ me.1
       → list_any (eqb code) me.0.seen ≡ false → is_code me.0.counts code ≡ true → length me.0.seen + 1 ≤ sum me.0.counts
       → (seen' : List ℕ) (capacity' : ℕ) → seen' ≡ seen ++ code ∷ [] → capacity ≤ capacity' → IsReady table' after seen' capacity'
@@ -40,32 +36,6 @@ module _ (table : TableId) (me : Seated) (seen : List ℕ) (capacity : ℕ) (r :
         codes = all_push (is_code me.0.counts) me.0.seen code r.codes good;
         distinct = IsDistinct-push nat_eq_equiv me.0.seen code r.distinct fresh;
       })
-
-  pub ready_joined : (table₂ : TableId) (other : Seated) (seen₂ : List ℕ) (capacity₂ : ℕ) → IsReady table₂ other seen₂ capacity₂ → other.0.counts ≡ me.0.counts
-      → (table' : TableId) (between after : Seated) → table' ≡ table → between ≡ (joined me.0 other.0, me.1) → after.0 ≡ settled between.0 → after.1 ≡ between.1
-      → (seen' : List ℕ) (capacity' : ℕ) → seen' ≡ longer_of seen seen₂ → sum me.0.counts ≤ capacity' → IsReady table' after seen' capacity'
-  ready_joined table₂ other seen₂ capacity₂ r₂ alike table' between after there was is slots seen' capacity' longer room =
-      let xs : List ℕ = me.0.seen in
-      let ys : List ℕ = other.0.seen in
-      let whole : after ≡ (settled (joined me.0 other.0), me.1) = λ i. ((is ∙ ap (λ (m : Seated). settled m.0) was) i, (slots ∙ ap (λ (m : Seated). m.1) was) i) in
-      subst (λ (z : TableId × Seated). IsReady z.0 z.1 seen' capacity') (λ i. (sym there i, sym whole i))
-      (record {
-        live = r.live;
-        no_note = refl;
-        no_slot = r.no_slot;
-        same = longer ∙ (λ i. longer_of (r.same i) (r₂.same i));
-        words = r.words;
-        room = room;
-        few = cond_both (leb (length ys) (length xs)) xs ys (λ (l : List ℕ). length l ≤ sum me.0.counts) (λ _. r.few) (λ _. subst (λ (k : List ℕ). length ys ≤ sum k) alike r₂.few);
-        codes = cond_both (leb (length ys) (length xs)) xs ys (λ (l : List ℕ). list_all (is_code me.0.counts) l ≡ true) (λ _. r.codes) (λ _. subst (λ (k : List ℕ). list_all (is_code k) ys ≡ true) alike r₂.codes);
-        distinct = cond_both (leb (length ys) (length xs)) xs ys (λ (l : List ℕ). IsDistinct eqb l) (λ _. r.distinct) (λ _. r₂.distinct);
-      })
-
-pub longer_first : (xs ys : List ℕ) → length ys ≤ length xs → xs ≡ longer_of xs ys
-longer_first xs ys le = sym (cond-true (leb (length ys) (length xs)) xs ys (le-leb _ _ le))
-
-pub longer_second : (xs ys : List ℕ) → length xs < length ys → ys ≡ longer_of xs ys
-longer_second xs ys less = sym (cond-false (leb (length ys) (length xs)) xs ys (lt-leb _ _ less))
 
 -- the seat of a pass of this log is of the log's table
 pub same_table : (seat table : TableId) (v : View) (counts : List ℕ) (pass : Standing) (log : LogId) → standing seat v ≡ pass → record { table = table; counts = counts } ≡ log → pass.log ≡ log → seat ≡ table

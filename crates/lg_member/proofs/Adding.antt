@@ -1,13 +1,13 @@
 -- Members are the disjuncts of the positions, in order.
-use Rattle.std.proofs.Common.{◌≡◌, ℕ, ◌+◌, ◌<◌, ◌≤◌, List, [], ◌∷◌, ◌++◌, length, get_or, take, drop, map, refl, sym, ap, ◌∙◌, subst, append_assoc, append-nil, add-one, Some, arith}
+use Rattle.std.proofs.Common.{◌≡◌, ℕ, ◌+◌, ◌<◌, List, [], ◌∷◌, ◌++◌, length, get_or, take, drop, map, refl, sym, ap, ◌∙◌, subst, append_assoc, append-nil, add-one, Some, arith}
 use Rattle.std.specs.List.{All, slice_get}
-use Rattle.std.proofs.lemmas.List.{map-append, take_more, take_all, drop_all}
+use Rattle.std.proofs.lemmas.List.{map-append, take_more}
 use Rattle.std.proofs.lemmas.List.Elements.{All-nil, All-append, All-push, All-weaker}
 use Rattle.std.proofs.lemmas.Grind.{elements}
 use Rattle.std.proofs.Math.Seq.{drop-cons}
 use Rattle.lg_gram.specs.Connectors.{Connector}
 use Rattle.lg_gram.specs.declared.disjunct.Disjunct.{Disjunct}
-use Rattle.lg_member.specs.Members.{seen_of, IsSideAt, IsKnown, Grows, AddsMembers, AreMembers, all_from}
+use Rattle.lg_member.specs.Members.{seen_of, IsSideAt, IsKnown, Grows, AddsMembers, all_from}
 use Rattle.lg_member.specs.declared.side.Side.{Side}
 use Rattle.lg_member.specs.declared.member.Member.{Member}
 
@@ -65,9 +65,6 @@ adds_more i ds k d l0 r0 l r l' r' old now new m h ed gl gr en ei em sl sr a =
       known = All-push (IsKnown l' r') a.more m (All-weaker (IsKnown l r) (IsKnown l' r') (known_grown l r l' r' gl gr) a.more a.known) (record { left = sl'; right = sr' });
     }
 
-pub adds_all : (i : ℕ) (ds : List Disjunct) (k : ℕ) (l0 r0 l r : List Side) (old new : List Member) → length ds ≤ k → AddsMembers i (take k ds) l0 r0 l r old new → AddsMembers i ds l0 r0 l r old new
-adds_all i ds k l0 r0 l r old new h a = subst (λ z. AddsMembers i z l0 r0 l r old new) (take_all k ds h) a
-
 pub record MembersSoFar (positions : List (List Disjunct)) (k : ℕ) (lefts rights : List Side) (members : List Member) : Type 0 where
   pub seen : map seen_of members ++ all_from k (drop k positions) ≡ all_from 0 positions
   pub known : All (IsKnown lefts rights) members
@@ -91,9 +88,4 @@ members_more positions k ds l r l' r' now new h e a s =
           (All-append (IsKnown l' r') now a.more (All-weaker (IsKnown l r) (IsKnown l' r') (known_grown l r l' r' a.left a.right) now s.known) a.known);
     }
 
-pub members_all : (positions : List (List Disjunct)) (k : ℕ) (lefts rights : List Side) (members : List Member) → length positions ≤ k → MembersSoFar positions k lefts rights members
-    → AreMembers positions lefts rights members
-members_all positions k lefts rights members h s = record {
-  seen = sym (append-nil (map seen_of members)) ∙ ap (λ z. map seen_of members ++ all_from k z) (sym (drop_all k positions h)) ∙ s.seen;
-  known = s.known;
 }

@@ -1,24 +1,15 @@
 -- Which sides members have.
-use Rattle.std.proofs.Common.{◌≡◌, ℕ, zero, suc, ◌+◌, ◌<◌, ◌≤◌, List, [], ◌∷◌, ◌++◌, length, get_or, set, take, replicate, sym, ap, ◌∙◌, subst, Some, inl, inr, Bool, true, false, cond, arith}
+use Rattle.std.proofs.Common.{◌≡◌, ℕ, ◌+◌, ◌<◌, List, [], ◌∷◌, ◌++◌, length, get_or, set, take, sym, ap, ◌∙◌, subst, Some, inl, inr, Bool, true, false, cond, arith}
 use Rattle.std.specs.List.{slice_get, All}
 use Rattle.std.proofs.lemmas.Bool.{cases_eq}
-use Rattle.std.proofs.lemmas.Option.{same_Some, slice_get_within}
-use Rattle.std.proofs.lemmas.List.{length-set, length-replicate, take_more, take_all}
+use Rattle.std.proofs.lemmas.Option.{slice_get_within}
+use Rattle.std.proofs.lemmas.List.{length-set, take_more}
 use Rattle.std.proofs.lemmas.List.Elements.{Contains-append_left, Contains-push, Contains-push_cases}
 use Rattle.std.proofs.lemmas.Grind.{elements}
 use Rattle.lg_member.specs.Members.{list_on, side_on, IsSideAt, IsKnown, AreUsed}
 use Rattle.lg_member.specs.declared.side.Side.{Side}
 use Rattle.lg_member.specs.declared.member.Member.{Member}
 
-none_true : (n k : ℕ) → slice_get (replicate n false) k ≡ Some true → ⊥
-none_true zero k e = absurd cc
-none_true (suc n) zero e = let f : ◌≡◌ {A = Bool} false true = same_Some false true e in absurd cc
-none_true (suc n) (suc k) e = none_true n k e
-
-pub used_none : (right : Bool) (count : ℕ) (used : List Bool) → used ≡ replicate count false → AreUsed right count [] used
-used_none right count used e = record {
-  length_is = ap length e ∙ length-replicate count false;
-  each = λ k. ((λ h. absurd (none_true count k (subst (λ z. slice_get z k ≡ Some true) e h))), (λ r. absurd (let l = r.1.1 in omega arith)));
 }
 
 taken : (ms : List Member) (i : ℕ) (m : Member) → i < length ms → m ≡ get_or ms i m → take i ms ++ m ∷ [] ≡ take (i + 1) ms
@@ -42,9 +33,6 @@ used_more right count ms i m k used h em ek l a =
         ))
       ];
     })
-
-pub used_all : (right : Bool) (count : ℕ) (ms : List Member) (i : ℕ) (used : List Bool) → length ms ≤ i → AreUsed right count (take i ms) used → AreUsed right count ms used
-used_all right count ms i used h a = subst (λ z. AreUsed right count z used) (take_all i ms h) a
 
 -- the known side of a member
 side_known : (right : Bool) (lefts rights : List Side) (m : Member) → IsKnown lefts rights m → IsSideAt (cond right rights lefts) (side_on right m) m.position (list_on right m.disjunct.now)

@@ -1,11 +1,11 @@
 -- Members, written by position: those of a problem that are left are a problem.
-use Rattle.std.proofs.Common.{◌≡◌, ◌==◌, ℕ, zero, suc, ◌+◌, ◌-◌, ◌<◌, ◌≤◌, List, [], ◌∷◌, ◌++◌, length, get_or, take, map, refl, sym, ap, ◌∙◌, subst, inl, inr, Bool, true, false, not, ◌&&◌, ◌↔◌, Contains, append_assoc, append-nil, arith}
+use Rattle.std.proofs.Common.{◌≡◌, ◌==◌, ℕ, zero, suc, ◌+◌, ◌-◌, ◌<◌, ◌≤◌, List, [], ◌∷◌, ◌++◌, length, get_or, map, refl, sym, ap, ◌∙◌, subst, inl, inr, Bool, true, false, not, ◌&&◌, ◌↔◌, Contains, append_assoc, append-nil, arith}
 use Rattle.std.specs.List.{filter, sum_by, range_with_len, AllByRecursion}
 use Rattle.std.specs.List.Sorted.{IsStrictlySortedBy}
 use Rattle.std.specs.declared.cmp.Ordering.{Ordering}
 use Rattle.std.specs.declared.cmp.Ordering.TheVariants.{Less}
 use Rattle.std.proofs.lemmas.Bool.{cases_Bool, cases_lt, eq-eqb, eqb-true, ne_eqb}
-use Rattle.std.proofs.lemmas.List.{map-append, length-map, take_more, get_or_past, get_or-map}
+use Rattle.std.proofs.lemmas.List.{map-append, length-map, get_or_past, get_or-map}
 use Rattle.std.proofs.lemmas.List.Elements.{All-contains, All-map, All-weaker, All-contains_itself, filter_agree, filter-append}
 use Rattle.std.proofs.lemmas.List.Filters.{length-filter_both}
 use Rattle.std.proofs.lemmas.List.FromFn.{length-map-range_with_len, get_or-map-range_with_len}
@@ -196,22 +196,6 @@ left_of positions lefts rights old new p a k =
       fewer = fewer;
       seen = seen_have new;
     }
-
--- one member more
-row_append : (ms ns : List Member) (i : ℕ) → row_at (ms ++ ns) i ≡ row_at ms i ++ row_at ns i
-row_append ms ns i = ap (map disjunct_of) (filter-append (is_at i) ms ns) ∙ map-append disjunct_of (filter (is_at i) ms) (filter (is_at i) ns)
-
-pub row_yes : (ms : List Member) (k i : ℕ) (m : Member) → k < length ms → m ≡ get_or ms k m → m.position ≡ i → row_at (take (k + 1) ms) i ≡ row_at (take k ms) i ++ m.disjunct.now ∷ []
-row_yes ms k i m h e at =
-    let t = eq-eqb m.position i at in
-    let one : row_at (m ∷ []) i ≡ m.disjunct.now ∷ [] = rw t refl in
-    ap (λ z. row_at z i) (subst (λ z. take (k + 1) ms ≡ take k ms ++ z ∷ []) (sym e) (take_more ms k m h)) ∙ row_append (take k ms) (m ∷ []) i ∙ ap (λ z. row_at (take k ms) i ++ z) one
-
-pub row_no : (ms : List Member) (k i : ℕ) (m : Member) → k < length ms → m ≡ get_or ms k m → (m.position ≡ i → ⊥) → row_at (take (k + 1) ms) i ≡ row_at (take k ms) i
-row_no ms k i m h e n =
-    let t = ne_eqb m.position i n in
-    let none : row_at (m ∷ []) i ≡ [] = rw t refl in
-    ap (λ z. row_at z i) (subst (λ z. take (k + 1) ms ≡ take k ms ++ z ∷ []) (sym e) (take_more ms k m h)) ∙ row_append (take k ms) (m ∷ []) i ∙ ap (λ z. row_at (take k ms) i ++ z) none ∙ append-nil (row_at (take k ms) i)
 
 -- one row more: what is left gives the rest
 pub rows_more : (f : ℕ → List Disjunct) (now new : List (List Disjunct)) (i n : ℕ) (all : List (List Disjunct)) → i < n → new ≡ now ++ f i ∷ []

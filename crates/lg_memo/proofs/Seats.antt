@@ -1,43 +1,27 @@
 -- What a seat is after each of its calls.
 use Rattle.std.proofs.Common.{◌≡◌, ℕ, ◌*◌, ◌^◌, ◌<◌, ◌≤◌, List, [], ◌∷◌, refl, ap, sym, ◌∙◌, subst}
-use Rattle.std.specs.Prelude.{None, Some, IfSome, IfNone, IsSomeAnd}
+use Rattle.std.specs.Prelude.{None, Some, IfNone, IsSomeAnd}
 use mathlib.Core.Option.{none}
 use Rattle.atomic_table.specs.Table.{Me, step, Allows, rest}
 use Rattle.atomic_table.specs.Seated.{TableId}
 use Rattle.lg_memo.specs.declared.view.About.{About}
 use Rattle.lg_memo.specs.declared.view.View.{View}
-use Rattle.lg_memo.specs.Views.{loses, takes_shard, gives_shard, joined}
+use Rattle.lg_memo.specs.Views.{takes_shard, gives_shard, joined}
 use Rattle.lg_memo.specs.Rule.{IsKept}
 use Rattle.lg_memo.specs.Steps.{Taken, Gives, IsFree, HasShard}
 use Rattle.lg_memo.proofs.Keeping.{Maybe}
 use Rattle.lg_memo.proofs.Taking.{give_allows}
-
--- what holds of the value that is there
-pub if_some_and : {X : Type 0} {Q P : X → Type 0} (x : Maybe X) → IsSomeAnd x Q → ((s : X) → Q s → P s) → IfSome x P
-if_some_and None is told = absurd is
-if_some_and (Some s) is told = told s is
 
 pub not_none : {X : Type 0} (Q : X → Type 0) (Z : Type 0) (x : Maybe X) → IsSomeAnd x Q → IfNone x Z
 not_none Q Z None is = absurd is
 not_none Q Z (Some s) is = tt
 
 module _ {S : Type 0} where
-  abbrev content_of : List (ℕ × S) → S → S
-  content_of [] d = d
-  content_of (x ∷ xs) d = x.1
-
   -- the list of a seat's slots, with the first apart
   pub first_apart : (slots more : List (ℕ × S)) (x : ℕ × S) → slots ≡ x ∷ more → slots ≡ x ∷ rest slots
   first_apart slots more x e = e ∙ ap (λ (l : List (ℕ × S)). x ∷ l) (sym (ap (λ (l : List (ℕ × S)). rest l) e))
 
-  pub same_content : (slots a b : List (ℕ × S)) (i j : ℕ) (x y : S) → slots ≡ (i, x) ∷ a → slots ≡ (j, y) ∷ b → x ≡ y
-  same_content slots a b i j x y first second = ap (λ (l : List (ℕ × S)). content_of l x) (sym first ∙ second)
-
 module _ {N S : Type 0} (table : TableId) (about : About N) (its_table : TableId) (me : Me S (View N)) where
-  pub lost_is_free : IsFree table about its_table me → (its_table' : TableId) (after : Me S (View N)) → its_table' ≡ its_table → after ≡ (loses me.0, me.1) → IsFree table about its_table' after
-  lost_is_free free its_table' after there is = subst (λ (z : TableId × Me S (View N)). IsFree table about z.0 z.1) (λ i. (sym there i, sym is i))
-      (record { same_table = free.same_table; same_memo = free.same_memo; no_shard = free.no_shard; no_slot = free.no_slot })
-
   -- the seat took what was there, and left something else in the slot
   module _ (Good : About N → ℕ → ℕ → S → Type 0) (free : IsFree table about its_table me) (shard : ℕ) (within : shard < about.shards) (between after : Me S (View N)) (t : Taken Good shard me between) (found vacant : S)
       (had : between.1 ≡ (shard, found) ∷ rest between.1) (is : after ≡ (between.0, (shard, vacant) ∷ rest between.1)) where
@@ -46,13 +30,6 @@ module _ {N S : Type 0} (table : TableId) (about : About N) (its_table : TableId
 
     after_is : after ≡ (takes_shard me.0 shard t.entries, (shard, vacant) ∷ [])
     after_is = is ∙ (λ i. ((ap (λ (m : Me S (View N)). m.0) t.seat) i, (shard, vacant) ∷ rest (slots_were i)))
-
-    pub took_view : after.0 ≡ takes_shard me.0 shard t.entries
-    took_view = ap (λ (m : Me S (View N)). m.0) after_is
-
-    pub took_good : Good about shard t.entries found
-    took_good = subst (λ (x : S). Good about shard t.entries x) (same_content between.1 [] (rest between.1) shard shard t.content found slots_were had)
-        (subst (λ o. IfSome o (λ a. Good a shard t.entries t.content)) free.same_memo t.good)
 
     pub took_shard : (its_table' : TableId) → its_table' ≡ its_table → HasShard table about vacant its_table' after shard t.entries
     took_shard its_table' there = subst (λ (z : TableId × Me S (View N)). HasShard table about vacant z.0 z.1 shard t.entries) (λ i. (sym there i, sym after_is i))

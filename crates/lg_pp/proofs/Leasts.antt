@@ -62,9 +62,6 @@ module _ (R : ℕ → ℕ → Type 0) (count : ℕ) (leasts : List ℕ) (are : A
     same_count : length classes ≡ length have.heads
     same_count = zip_length (AreMembers leasts) have.heads classes have.members
 
-    head_at : ℕ → ℕ
-    head_at i = get_or have.heads i 0
-
     pub is_head : (i : ℕ) → i < length classes → (get_or have.heads i 0 < count) × (least (get_or have.heads i 0) ≡ get_or have.heads i 0)
     is_head i less = (have.are_heads.exactly (get_or have.heads i 0)).0 (Contains-get_or have.heads i 0 (let e = same_count in omega arith))
 

@@ -56,10 +56,6 @@ module _ (leasts : List ℕ) (flags : List Bool) (heads : AreHeads leasts) where
     earlier = λ k less alike. let h = least k (omega arith) (alike.0, λ same. here.1 (sym alike.1 ∙ same)) in omega arith;
   }
 
-  pub no_others : (count : ℕ) → count ≡ length leasts → AreFirstOthers leasts flags 0 (replicate count count)
-  no_others count same h within = record {
-    least = λ k less other. absurd (omega (arith, less));
-    here = λ below. absurd (let e = get_or-replicate count h count 0 (omega arith) in omega arith);
   }
 
   -- n has the flag of its least number

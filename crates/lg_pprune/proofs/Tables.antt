@@ -94,11 +94,6 @@ same_caps : (right : Bool) (s x : Site) → MeetsOn right s x → s.connector.ca
 same_caps true s x m = m.match_at.capitals
 same_caps false s x m = sym m.match_at.capitals
 
--- what meets a site stands where its link may end
-starts_before : (right : Bool) (s x : Site) → MeetsOn right s x → s.from ≤ x.position
-starts_before true s x m = m.from_left
-starts_before false s x m = m.from_right
-
 ends_behind : (right : Bool) (s x : Site) → MeetsOn right s x → x.position < s.end
 ends_behind true s x m = m.to_left
 ends_behind false s x m = m.to_right
@@ -129,9 +124,6 @@ partner_here right table s i class cell ec at (k, x, w, e, m) =
 pub record ServedSoFar (right : Bool) (n : ℕ) (table : Table Site) (sides : List Side) (used : List Bool) (k : ℕ) (good : List Bool) : Type 0 where
   pub long : length good ≡ k
   pub each : (j : ℕ) (s : Side) → j < k → slice_get sides j ≡ Some s → slice_get used j ≡ Some true → (slice_get good j ≡ Some true) ↔ IsServed right n table s.position s.list.now
-
-pub served_none : (right : Bool) (n : ℕ) (table : Table Site) (sides : List Side) (used : List Bool) (good : List Bool) → good ≡ [] → ServedSoFar right n table sides used 0 good
-served_none right n table sides used good e = record { long = ap length e; each = λ j s l. absurd (omega arith) }
 
 pub served_more : (right : Bool) (n : ℕ) (table : Table Site) (sides : List Side) (used : List Bool) (k : ℕ) (good : List Bool) (side : Side) (u b : Bool)
     → slice_get sides k ≡ Some side → slice_get used k ≡ Some u → (u ≡ true → (b ≡ true) ↔ IsServed right n table side.position side.list.now)

@@ -39,9 +39,6 @@ pub record Ways (positions : List (List Disjunct)) (keys : List Key) (k : ℕ) (
   pub long : length ways ≡ n
   pub each : (p : ℕ) (w : Way) → slice_get ways p ≡ Some w → (a : Alt) × (slice_get alts p ≡ Some a) × StandsFor positions keys k key a w
 
-pub no_ways : (positions : List (List Disjunct)) (keys : List Key) (k : ℕ) (key : Key) (alts : List Alt) (ways : List Way) → ways ≡ [] → Ways positions keys k key alts 0 ways
-no_ways positions keys k key alts ways e = subst (λ z. Ways positions keys k key alts 0 z) (sym e) (record { long = refl; each = λ p w at. absurd cc })
-
 more_ways : (positions : List (List Disjunct)) (keys : List Key) (k : ℕ) (key : Key) (alts : List Alt) (n m : ℕ) (ways : List Way) (a : Alt) (w : Way) → m ≡ suc n → slice_get alts n ≡ Some a → StandsFor positions keys k key a w → Ways positions keys k key alts n ways → Ways positions keys k key alts m (ways ++ w ∷ [])
 more_ways positions keys k key alts n m ways a w next at stands is = record {
   long = (let e = length-append ways (w ∷ []) in let f = is.long in omega arith);
@@ -131,8 +128,6 @@ module _ (positions : List (List Disjunct)) (from : ℕ) (forest : Forest) (is :
   })
 
 -- ---- the nodes
-pub nodes_none : (positions : List (List Disjunct)) (subjects : ℕ → Subject) (nodes : List Node) → nodes ≡ [] → AreNodesOf positions subjects 0 nodes
-nodes_none positions subjects nodes e = subst (λ z. AreNodesOf positions subjects 0 z) (sym e) (record { long = refl; ways = λ k n at. absurd cc; fresh = λ k n at. absurd cc })
 
 pub nodes_more : (positions : List (List Disjunct)) (subjects : ℕ → Subject) (n m : ℕ) (nodes new : List Node) (node : Node) → m ≡ suc n → new ≡ nodes ++ node ∷ [] → AreWaysOf positions subjects n node.ways.items → IsFresh node → AreNodesOf positions subjects n nodes → AreNodesOf positions subjects m new
 nodes_more positions subjects n m nodes new node next e ways fresh is = subst (λ z. AreNodesOf positions subjects m z) (sym e) (record {

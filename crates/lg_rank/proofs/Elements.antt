@@ -42,10 +42,6 @@ less_not {V} {cmp} total a b h e = not_self (cmp a a) (total.antisymm a a) (subs
     not_self Equal h e = absurd cc
     not_self Greater h e = absurd cc
 
-pub most_less : {V : Type 0} {cmp : V → V → Ordering} → IsTotalOrder cmp → (a b c : V) → AtMost cmp a b → cmp b c ≡ Less → cmp a c ≡ Less
-most_less {V} {cmp} total a b c (inl h) g = total.trans a b c h g
-most_less {V} {cmp} total a b c (inr e) g = subst (λ (z : V). cmp z c ≡ Less) (sym e) g
-
 pub less_most : {V : Type 0} {cmp : V → V → Ordering} → IsTotalOrder cmp → (a b c : V) → cmp a b ≡ Less → AtMost cmp b c → cmp a c ≡ Less
 less_most {V} {cmp} total a b c h (inl g) = total.trans a b c h g
 less_most {V} {cmp} total a b c h (inr e) = subst (λ (z : V). cmp a z ≡ Less) e h

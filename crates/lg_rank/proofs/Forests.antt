@@ -137,9 +137,6 @@ grown_more m n old mid new le a b = record {
   above = λ k at. b.above k at ∙ a.above k (omega arith);
 }
 
-pub grown_wide : (m n : ℕ) (old new : List Node) → m ≤ n → Grown m old new → Grown n old new
-grown_wide m n old new le a = record { forest = a.forest; long = a.long; more = a.more; above = λ k at. a.above k (omega arith) }
-
 pub begun_more : (n k : ℕ) (old new : List Node) → n ≤ k → Grown n old new → IsBegun old k → IsBegun new k
 begun_more n k old new le g b = record { node = b.node; here = g.above k le ∙ b.here; begun = b.begun }
 

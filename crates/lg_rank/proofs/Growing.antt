@@ -1,11 +1,9 @@
 -- The rows where the parts have more values, and where one more alternative begins.
-use Rattle.std.proofs.Common.{◌≡◌, ℕ, suc, ◌<◌, List, [], ◌∷◌, ◌++◌, length, set, Option, Some, None, slice_get, ◌⊎◌, inl, inr, refl, sym, ap, ◌∙◌, subst, arith}
+use Rattle.std.proofs.Common.{◌≡◌, ℕ, suc, ◌<◌, List, [], ◌∷◌, ◌++◌, length, Option, Some, None, slice_get, ◌⊎◌, inl, inr, refl, sym, ap, ◌∙◌, subst, arith}
 use Rattle.std.proofs.lemmas.Bool.{cases_lt}
 use Rattle.lg_rank.specs.Fronts.{IsFront, Extends}
-use Rattle.lg_rank.specs.Merges.{Setting, Makes, Row, HasRow, Ahead, IsRow, Opened, Merged, Advanced, Begins}
+use Rattle.lg_rank.specs.Merges.{Setting, Makes, Row, HasRow, Ahead, IsRow, Opened, Merged, Begins}
 use Rattle.lg_rank.proofs.Elements.{push_old, push_here, push_from}
-use Rattle.lg_rank.proofs.Places.{set_here, set_other, set_long}
-use Rattle.lg_rank.proofs.Taking.{same_or}
 
 ahead_grown : (s : Setting) (lefts lefts' made : List s.V) (p i : ℕ) (y : s.V) (o : Option s.V) → Extends lefts lefts' → Ahead s lefts made p i y o → Ahead s lefts' made p i y o
 ahead_grown s lefts lefts' made p i y None more a = λ x hx. (let k = a x hx in (k.0, k.1, more k.0 x k.2))
@@ -124,29 +122,7 @@ merged_passed s {R} view n lefts rights rows m none = record {
 }
 
 -- ---- the lists of the code
-pub advanced_alone : {R : Type 0} (rows : List R) (m : ℕ) (after : R) → m < length rows → Advanced rows m after None (set rows m after)
-advanced_alone rows m after less = record {
-  here = set_here rows m after less;
-  kept = λ k t at other. set_other rows m k after other ∙ at;
-  new = λ t e. absurd cc;
-  from = λ k t at. elim (same_or k m) [
-    | inl e ↦ inl (e, let a = set_here rows m after less in let b : slice_get (set rows m after) m ≡ Some t = (λ i. slice_get (set rows m after) (sym e i)) ∙ at in cc)
-    | inr e ↦ inr (inl (e, sym (set_other rows m k after e) ∙ at))
-  ];
 }
-
-pub advanced_both : {R : Type 0} (rows : List R) (m : ℕ) (after b : R) → m < length rows → Advanced rows m after (Some b) (set rows m after ++ b ∷ [])
-advanced_both {R} rows m after b less =
-    let alone = advanced_alone rows m after less in
-    record {
-      here = push_old (set rows m after) b m after alone.here;
-      kept = λ k t at other. push_old (set rows m after) b k t (alone.kept k t at other);
-      new = λ t e. (λ i. slice_get (set rows m after ++ b ∷ []) (sym (set_long rows m after) i)) ∙ push_here (set rows m after) b ∙ e;
-      from = λ k t at. elim (push_from (set rows m after) b k t at) [
-        | inl old ↦ elim (alone.from k t old) [ inl h ↦ inl h | inr h ↦ elim h [ inl g ↦ inr (inl g) | inr g ↦ absurd (let e = g.1 in cc) ] ]
-        | inr new ↦ inr (inr (new.0 ∙ set_long rows m after, ap Some (sym new.1)))
-      ];
-    }
 
 -- ---- rows seen in another way
 -- What is said of the rows depends on what is seen of the rows that there are. So rows may hold places alone, and be seen with the values that stand there.

@@ -1,20 +1,15 @@
 -- What is read of a table.
-use Rattle.std.proofs.Common.{◌≡◌, ℕ, ◌<◌, ◌≤◌, ◌+◌, Bool, true, false, not, List, [], ◌∷◌, ◌++◌, zero, suc, length, length-append, get_or, Option, Some, None, slice_get, refl, sym, ap, ◌∙◌, subst, arith}
-use Rattle.std.specs.BinaryHeap.{heap_items}
-use Rattle.std.proofs.lemmas.List.{length-map}
+use Rattle.std.proofs.Common.{◌≡◌, ℕ, ◌<◌, ◌≤◌, Bool, true, false, not, List, [], length, get_or, Option, Some, None, slice_get, refl, sym, ap, ◌∙◌, subst, arith}
 use Rattle.std.proofs.lemmas.Option.{slice_get_within, slice_get-get_or, get_or_from_slice_get}
 use Rattle.lg_rank.specs.Fronts.{IsAll, IsListOf}
 use Rattle.lg_rank.specs.Merges.{Ahead, IsRow, held}
-use Rattle.lg_rank.specs.Queues.{least_part}
-use Rattle.lg_rank.specs.Values.{Value, value_of, value_cmp}
-use Rattle.lg_rank.specs.declared.part.Part.{Part}
+use Rattle.lg_rank.specs.Values.{Value, value_cmp}
 use Rattle.lg_rank.specs.Nodes.{Has, ways_of, way_at, no_way, setting, IsForest}
-use Rattle.lg_rank.specs.Tables.{seen, place_of, forest_of, values_of, ready_of, ready_in, ready_at, parts, IsTable, Grown, end_of, IsNth, IsBegun, IsIdle, IsWayOf, Holds, value_at, held_by, rows_in, rows_at}
+use Rattle.lg_rank.specs.Tables.{seen, place_of, forest_of, values_of, parts, IsTable, Grown, end_of, IsNth, IsBegun, IsIdle, IsWayOf, Holds, value_at, held_by, rows_in, rows_at}
 use Rattle.lg_rank.specs.declared.part.Way.{Way}
 use Rattle.lg_rank.specs.declared.node.Node.{Node}
 use Rattle.lg_rank.specs.declared.node.Row.{Row}
-use Rattle.lg_rank.proofs.Elements.{append_old, push_here}
-use Rattle.lg_rank.proofs.Places.{map_at, map_some}
+use Rattle.lg_rank.proofs.Places.{map_at}
 use Rattle.lg_rank.proofs.Placing.{same_seen}
 use Rattle.lg_rank.proofs.Listed.{nth_listed}
 use Rattle.lg_rank.proofs.Forests.{parts_front, more_parts}
@@ -45,35 +40,6 @@ way_read z n k p d e forest within less =
     }
 
 -- ---- what can be read of a node
-ready_within : (n : List Node) (k i : ℕ) → i < length (ready_at n k) → k < length n
-ready_within [] k i h = absurd (omega (arith, h))
-ready_within (x ∷ n) zero i h = omega arith
-ready_within (x ∷ n) (suc k) i h = (let r = ready_within n k i h in omega arith)
-
-pub ready_is : (n : List Node) (k i : ℕ) (d : Node) → i < length (ready_at n k) → ready_at n k ≡ ready_of (get_or n k d)
-ready_is n k i d h = ap ready_in (slice_get-get_or n k d (ready_within n k i h))
-
-pub ready_here : (n : List Node) (k : ℕ) (d : Node) → k < length n → ready_at n k ≡ ready_of (get_or n k d)
-ready_here n k d less = ap ready_in (slice_get-get_or n k d less)
-
-pub ready_long : (node : Node) → length (ready_of node) ≡ length node.made.items + length (least_part (heap_items node.queue))
-ready_long node = length-append (values_of node) (least_part (heap_items node.queue)) ∙ ap (λ m. m + length (least_part (heap_items node.queue))) (length-map node.made.items value_of)
-
--- a part that was made
-pub read_made : (node : Node) (i : ℕ) (p : Part) → slice_get node.made.items i ≡ Some p → slice_get (ready_of node) i ≡ Some (value_of p)
-read_made node i p h = append_old (values_of node) (least_part (heap_items node.queue)) i (value_of p) (map_some value_of node.made.items i p h)
-
--- or the part behind those
-pub read_least : (node : Node) (i : ℕ) (v : Value) → length node.made.items ≤ i → i < length (ready_of node) → least_part (heap_items node.queue) ≡ v ∷ [] → slice_get (ready_of node) i ≡ Some v
-read_least node i v le less is =
-    let m = length-map node.made.items value_of in
-    let l = ready_long node in
-    let one = ap length is in
-    let e : i ≡ length (values_of node) = omega arith in
-    (λ j. slice_get (values_of node ++ is j) (e j)) ∙ push_here (values_of node) v
-
-pub least_waits : (node : Node) (i : ℕ) → length node.made.items ≤ i → i < length (ready_of node) → heap_items node.queue ≡ [] → ⊥
-least_waits node i le less none = (let l = ready_long node in let no = ap (λ q. length (least_part q)) none in omega arith)
 
 -- ---- rows
 rows_are : (n : List Node) (k : ℕ) (b : IsBegun n k) → rows_at n k ≡ b.node.rows.items
@@ -101,12 +67,6 @@ held_live true v w e = (refl, cc)
 pub not_false : (b : Bool) → not b ≡ false → b ≡ true
 not_false true e = refl
 not_false false e = absurd cc
-
-pub live_value : (z : Value) (n : List Node) (k : ℕ) (r : Row) → r.live ≡ true → held_by z n k r ≡ Some (value_at z n k r)
-live_value z n k r live = ap (λ (t : Bool). held t (value_at z n k r)) live
-
-pub dead_value : (z : Value) (n : List Node) (k : ℕ) (r : Row) → r.live ≡ false → held_by z n k r ≡ None
-dead_value z n k r dead = ap (λ (t : Bool). held t (value_at z n k r)) dead
 
 pub held_is : (z : Value) (n : List Node) (k : ℕ) (r : Row) (v : Value) → held_by z n k r ≡ Some v → (r.live ≡ true) × (value_at z n k r ≡ v)
 held_is z n k r v e = held_live r.live (value_at z n k r) v e

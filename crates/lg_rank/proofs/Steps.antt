@@ -22,7 +22,7 @@ use Rattle.lg_rank.specs.declared.node.Row.{Row}
 use Rattle.lg_rank.proofs.Covering.{front_more, finished}
 use Rattle.lg_rank.proofs.Elements.{append_old, append_none, none_first}
 use Rattle.lg_rank.proofs.Forests.{makes_front, rows_more, parts_front, parts_are, has_makes, table_set, grown_set, more_parts, begun_more}
-use Rattle.lg_rank.proofs.Growing.{merged_none, merged_begun, merged_passed}
+use Rattle.lg_rank.proofs.Growing.{merged_begun, merged_passed}
 use Rattle.lg_rank.proofs.Places.{set_here}
 use Rattle.lg_rank.proofs.Reading.{row_holds, live_holds, held_is, held_grown}
 use Rattle.lg_rank.proofs.Rows.{merged_more}
@@ -75,9 +75,6 @@ rows_begun z n k p w rows None is h f =
     ]))
 rows_begun z n k p w rows (Some b) is h f =
     merged_begun (setting z (forest_of n) k) (seen z (forest_of n) (parts z n) k) p (λ q. parts z n (way_at (forest_of n) k q).left) (λ q. parts z n (way_at (forest_of n) k q).right) rows b h (first_row z n k p w 0 b is f)
-
-pub begin_none : (z : Value) (n : List Node) (k : ℕ) → RowsOf z (forest_of n) (parts z n) k 0 [] []
-begin_none z n k = merged_none (setting z (forest_of n) k) (seen z (forest_of n) (parts z n) k) (λ q. parts z n (way_at (forest_of n) k q).left) (λ q. parts z n (way_at (forest_of n) k q).right)
 
 pub begin_holds : (z : Value) (n : List Node) (k i : ℕ) (rows : List Row) (d : Row) → RowsOf z (forest_of n) (parts z n) k (length (ways_of (forest_of n) k)) [] rows → i < length rows → (get_or rows i d).live ≡ true → Holds z n k (get_or rows i d)
 begin_holds z n k i rows d all less live = row_holds z n k [] (get_or rows i d) (all.each i (get_or rows i d) (slice_get-get_or rows i d less)) live

@@ -65,10 +65,6 @@ earlier_trans k l m (inl a) (inr b) = inl (omega arith)
 earlier_trans k l m (inr a) (inl b) = inl (omega arith)
 earlier_trans k l m (inr a) (inr b) = inr (omega arith, omega arith)
 
-pub earlier_along : (k l m : Link) → Earlier k l → SamePair l m → Earlier k m
-earlier_along k l m (inl a) s = inl (omega arith)
-earlier_along k l m (inr a) s = inr (omega arith, omega arith)
-
 pub set_less_not : (A B : Link → Type 0) → SetLess A B → SetLess B A → ⊥
 set_less_not A B p q =
     elim (pair_cases p.at q.at) [

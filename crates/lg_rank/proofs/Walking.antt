@@ -1,6 +1,5 @@
 -- The keys that get nodes, parts before wholes.
 use Rattle.std.proofs.Common.{◌≡◌, ℕ, zero, suc, ◌-◌, ◌<◌, ◌≤◌, Result, Ok, Err, List, [], ◌∷◌, ◌++◌, length, map, Some, None, slice_get, Contains, ◌⊎◌, inl, inr, refl, sym, ap, ◌∙◌, subst, arith}
-use Rattle.std.specs.Map.{keys_of}
 use Rattle.std.specs.Result.{OnOk}
 use Rattle.std.proofs.lemmas.Bool.{cases_lt}
 use Rattle.std.proofs.lemmas.Option.{slice_get_within, get_or_from_slice_get, slice_get-get_or}
@@ -179,9 +178,6 @@ placed_adds positions forest old key new placed gets parts adds = elim adds [
   | inr h ↦ subst (λ z. ArePlaced positions forest z) (sym h.0) placed
 ]
 
-pub placed_none : (positions : List (List Disjunct)) (forest : Forest) (keys : List Key) → keys ≡ [] → ArePlaced positions forest keys
-placed_none positions forest keys e = subst (λ z. ArePlaced positions forest z) (sym e) (record { each = λ k m at. absurd cc; below = λ k m at a part alt has. absurd cc })
-
 -- ---- the alternatives of a key, one after another
 abbrev pub PartsIn : List Alt → ℕ → List Key → Type 0
 PartsIn alts n keys = (p : ℕ) (a : Alt) (part : Key) → p < n → slice_get alts p ≡ Some a → HasKey a part → IsNothing part ⊎ IsIn keys part
@@ -190,9 +186,6 @@ pub record Visited (positions : List (List Disjunct)) (forest : Forest) (old : L
   pub placed : ArePlaced positions forest keys
   pub grown : Extends old keys
   pub parts : PartsIn alts n keys
-
-pub visited_none : (positions : List (List Disjunct)) (forest : Forest) (old : List Key) (alts : List Alt) → ArePlaced positions forest old → Visited positions forest old alts 0 old
-visited_none positions forest old alts placed = record { placed = placed; grown = extends_all old; parts = λ p a part less. absurd (omega arith) }
 
 pub visited_more : (positions : List (List Disjunct)) (forest : Forest) (old : List Key) (alts : List Alt) (n m : ℕ) (a : Alt) (keys new : List Key) → m ≡ suc n → slice_get alts n ≡ Some a → Visited positions forest old alts n keys
     → ArePlaced positions forest new → Extends keys new → ((part : Key) → HasKey a part → IsNothing part ⊎ IsIn new part) → Visited positions forest old alts m new
@@ -222,6 +215,3 @@ pub contains_map : {X Y : Type 0} (f : X → Y) (xs : List X) (x : X) → Contai
 contains_map f [] x (k, l, e) = absurd (omega arith)
 contains_map f (y ∷ xs) x (zero, l, e) = (zero, omega arith, ap f e)
 contains_map f (y ∷ xs) x (suc k, l, e) = let r = contains_map f xs x (k, omega arith, e) in let lt = r.1 in (suc r.0, omega arith, r.2)
-
-pub no_parts : (forest : Forest) (key : Key) (keys : List Key) → (Contains (keys_of forest.entries) key → ⊥) → EachPart forest key (IsIn keys)
-no_parts forest key keys none a part at has = absurd (none (contains_map (λ (p : Key × List Alt). p.0) forest.entries (key, at.0) at.1))

@@ -1,13 +1,9 @@
 -- Words that were narrowed, one after another and time after time.
-use Rattle.std.proofs.Common.{◌≡◌, inl, inr, refl, sym, ◌∙◌, subst, List, [], ◌∷◌, ◌++◌, Contains}
+use Rattle.std.proofs.Common.{◌≡◌, inl, inr, refl, sym, ◌∙◌, subst, List, ◌∷◌, ◌++◌, Contains}
 use Rattle.lg_base.proofs.Elements.{contains_cases, contains_none, contains_here, contains_later}
 use Rattle.lg_eprune.specs.Live.{WordTree}
 use Rattle.lg_gram.specs.Measures.{Choice, choices_of}
 use Rattle.lg_reach.specs.Reach.{Narrows, nothing, kept, dropped}
-
-pub narrows_itself : (Used : Choice → Type 0) (ws : List WordTree) → Narrows Used ws ws
-narrows_itself Used [] = nothing
-narrows_itself Used (w ∷ ws) = kept w w ws ws refl (λ c h. h) (λ c h used. h) (narrows_itself Used ws)
 
 -- what is left of a first word that was kept, and of the words behind it
 data Goes (Used : Choice → Type 0) (old : WordTree) (olds ends : List WordTree) : Type 0 where

@@ -1,8 +1,8 @@
 -- The disjuncts of a word by classes.
-use Rattle.std.proofs.Common.{◌≡◌, ◌≢◌, ℕ, suc, ◌-◌, ◌<◌, ◌⊎◌, List, length, get_or, set, replicate, sym, ◌∙◌, ap, subst, Option, Some, None, IsSome, inl, inr, arith, length-set}
+use Rattle.std.proofs.Common.{◌≡◌, ◌≢◌, ℕ, suc, ◌-◌, ◌<◌, ◌⊎◌, List, length, get_or, set, sym, ◌∙◌, ap, subst, Option, Some, None, IsSome, inl, inr, arith, length-set}
 use Rattle.std.specs.List.{slice_get}
 use Rattle.std.proofs.lemmas.Bool.{cases_lt}
-use Rattle.std.proofs.lemmas.List.{get_or-replicate, get_or-set_same, get_or-set_other, length-replicate}
+use Rattle.std.proofs.lemmas.List.{get_or-set_same, get_or-set_other}
 use Rattle.std.proofs.lemmas.Option.{same_Some, slice_get_within}
 use Rattle.lg_gram.specs.Connectors.{Connector}
 use Rattle.lg_gram.specs.declared.disjunct.Disjunct.{Disjunct}
@@ -11,14 +11,6 @@ use Rattle.lg_region.specs.Chains.{class_of_caps, class_at, class_of, list_on, I
 use Rattle.lg_region.specs.declared.key.Joint.{Joint}
 use Rattle.lg_region.specs.declared.chains.Side.{Side}
 
--- no disjunct is looked at, and each number is their count
-pub chain_none : (side : Side) (ds : List Disjunct) (count : ℕ) (firsts nexts : List ℕ) → count ≡ length ds → firsts ≡ replicate 256 count → nexts ≡ replicate (length ds) count → IsChainFrom side ds count firsts nexts
-chain_none side ds count firsts nexts e f g = record {
-  classes = ap (λ z. length z) f ∙ length-replicate 256 count;
-  level = ap (λ z. length z) g ∙ length-replicate (length ds) count;
-  first = λ k l. subst (λ z. IsNext side ds k count z) (sym (ap (λ z. get_or z k 0) f ∙ get_or-replicate 256 k count 0 l))
-      (record { later = omega arith; within = omega arith; others = λ n d a b at. absurd (omega arith); same = λ d at. let w = slice_get_within ds count d at in absurd (omega arith) });
-  next = λ n d a at. let w = slice_get_within ds n d at in absurd (omega arith);
 }
 
 next_here : (side : Side) (ds : List Disjunct) (n : ℕ) (d : Disjunct) → slice_get ds n ≡ Some d → IsNext side ds (class_of (list_on side d)) n n

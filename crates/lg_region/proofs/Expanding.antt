@@ -1,12 +1,11 @@
 -- The alternatives of a key, word by word.
-use Rattle.std.proofs.Common.{◌≡◌, ◌≢◌, ◌↔◌, ℕ, suc, ◌+◌, ◌-◌, ◌<◌, ◌≤◌, List, [], ◌∷◌, ◌++◌, length, get_or, refl, sym, ◌∙◌, ap, subst, Option, Some, None, ◌⊎◌, inl, inr, arith, append_assoc, IsSome}
+use Rattle.std.proofs.Common.{◌≡◌, ◌≢◌, ◌↔◌, ℕ, suc, ◌+◌, ◌-◌, ◌<◌, ◌≤◌, List, [], ◌∷◌, ◌++◌, length, get_or, refl, sym, ◌∙◌, ap, subst, Option, Some, None, ◌⊎◌, inl, inr, arith, append_assoc}
 use Rattle.std.specs.List.{flat_map, range_with_len}
 use Rattle.std.proofs.lemmas.Bool.{cases_lt}
 use Rattle.std.proofs.lemmas.Option.{slice_get_within}
 use Rattle.lg_gram.specs.Connectors.{Connector}
 use Rattle.lg_gram.specs.declared.disjunct.Disjunct.{Disjunct}
 use Rattle.lg_region.specs.Parts.{Region}
-use Rattle.lg_region.specs.Cuts.{IsCutAt}
 use Rattle.lg_region.specs.Whole.{First}
 use Rattle.lg_region.specs.Fronts.{AreListsOf, Numbering, list_of}
 use Rattle.lg_region.specs.Keys.{region_of_numbers, IsDisjunctAt, IsAltOfRegion, IsAltOfWhole}
@@ -22,7 +21,7 @@ use Rattle.lg_region.specs.declared.alternative.Alt.TheVariants.{AllNull, Split 
 use Rattle.lg_region.specs.declared.numbering.Sides.{Sides}
 use Rattle.lg_region.specs.declared.group.Gap.{Gap}
 use Rattle.lg_region.specs.declared.group.Lead.{Lead}
-use Rattle.lg_region.specs.declared.chains.Side.TheVariants.{Left, Right}
+use Rattle.lg_region.specs.declared.chains.Side.TheVariants.{Left}
 use Rattle.lg_region.proofs.Numbers.{apart, one_key, get_contains}
 use Rattle.lg_region.proofs.Once.{exactly_as, exactly_none, exactly_one, exactly_append, adds_none}
 use Rattle.lg_region.proofs.Splitting.{led_itself, led_next, some_number}
@@ -151,12 +150,6 @@ first_words : (from to : ℕ) (I : Alt → Type 0) → LiesIn from to I → (a :
 first_words from to I lies AllNull i s = refl
 first_words from to I lies (At w number tl tr lk rk) i s = let b = (lies w number tl tr lk rk i).0 in absurd (omega arith)
 
--- before the first word there is at most the one that links nothing
-pub start_null : (from to : ℕ) (I : Alt → Type 0) (out : List Alt) → LiesIn from to I → I AllNull → out ≡ AllNull ∷ [] → AreExactly out (λ x. I x × StandsBefore from x)
-start_null from to I out lies i e =
-    let P : Alt → Type 0 = λ x. I x × StandsBefore from x in
-    subst (λ z. AreExactly z P) (sym e) (exactly_as (AllNull ∷ []) (λ x. AllNull ≡ x) P (λ x. (λ q. subst P q (i, tt), λ (j, s). first_words from to I lies x j s)) (exactly_one AllNull))
-
 pub start_none : (from to : ℕ) (I : Alt → Type 0) (out : List Alt) → LiesIn from to I → (I AllNull → ⊥) → out ≡ [] → AreExactly out (λ x. I x × StandsBefore from x)
 start_none from to I out lies n e =
     let P : Alt → Type 0 = λ x. I x × StandsBefore from x in
@@ -164,28 +157,6 @@ start_none from to I out lies n e =
 
 cases_eq : (m n : ℕ) → (m ≡ n) ⊎ (m ≢ n)
 cases_eq m n = elim (cases_lt m n) [ inl h ↦ inr (omega arith) | inr h ↦ elim (cases_lt n m) [ inl k ↦ inr (omega arith) | inr k ↦ inl (omega arith) ] ]
-
-no_far_joint : (o : Option Joint) (near far near' far' : List Connector) → far ≡ [] → IsCutAt o near far near' far' → IsSome o → ⊥
-no_far_joint None near far near' far' e c s = absurd cc
-no_far_joint (Some j) near far near' far' e c s = let a = c.1.0 in let b = ap (λ z. length z) e in omega arith
-
--- between two empty lists no word is linked
-empty_is_null : (positions : List (List Disjunct)) (lists : List (List Connector)) (gap : Gap) → gap.llist ≡ 0 → gap.rlist ≡ 0 → (a : Alt) → IsAltOfRegion positions lists (region_of_gap lists gap) a → AllNull ≡ a
-empty_is_null positions lists gap l r AllNull i = refl
-empty_is_null positions lists gap l r (At w number tl tr None rk) i = absurd i
-empty_is_null positions lists gap l r (At w number tl tr (Some lk) None) i = absurd i
-empty_is_null positions lists gap l r (At w number tl tr (Some lk) (Some rk)) (c, i) =
-    absurd (no_far_joint c.to_right c.disjunct.right (list_of lists gap.rlist) c.rkey.llist c.rkey.rlist (ap (list_of lists) r) i.cut.at_right (i.cut.by_rlist (ap (list_of lists) l)))
-
-pub empty_gap : (positions : List (List Disjunct)) (lists : List (List Connector)) (gap : Gap) (out : List Alt) → gap.llist ≡ 0 → gap.rlist ≡ 0 → (gap.nulls ≡ gap.right - suc gap.left → out ≡ AllNull ∷ []) → (gap.nulls ≢ gap.right - suc gap.left → out ≡ [])
-    → AreExactly out (IsAltOfRegion positions lists (region_of_gap lists gap))
-empty_gap positions lists gap out l r full short =
-    let P = IsAltOfRegion positions lists (region_of_gap lists gap) in
-    let n = gap.right - suc gap.left in
-    elim (cases_eq gap.nulls n) [
-      | inl e ↦ subst (λ z. AreExactly z P) (sym (full e)) (exactly_as (AllNull ∷ []) (λ x. AllNull ≡ x) P (λ x. (λ q. subst P q (ap (list_of lists) l, ap (list_of lists) r, e), empty_is_null positions lists gap l r x)) (exactly_one AllNull))
-      | inr e ↦ subst (λ z. AreExactly z P) (sym (short e)) (exactly_none P (λ x i. e (subst P (sym (empty_is_null positions lists gap l r x i)) i).2))
-    ]
 
 -- where a list is left to be joined, some word is linked
 pub gap_start : (positions : List (List Disjunct)) (lists : List (List Connector)) (gap : Gap) (out : List Alt) → AreListsOf positions lists → gap.llist ≤ length lists → gap.rlist ≤ length lists
@@ -201,11 +172,6 @@ pub led_left : (positions : List (List Disjunct)) (lists : List (List Connector)
 led_left positions lists llist class k are known some e l c cut =
     let n : k.llist ≢ [] = λ x. some (apart positions lists are llist 0 known (omega arith) (sym l ∙ x)) in
     sym (joint_class c.to_left k.llist c.disjunct.left c.lkey.llist c.lkey.rlist cut.at_left (cut.by_llist n)) ∙ ap class_of l ∙ sym e
-
-pub led_right : (positions : List (List Disjunct)) (lists : List (List Connector)) (llist rlist class : ℕ) (k : Region) → llist ≡ 0 → class ≡ class_of (list_of lists rlist) → k.llist ≡ list_of lists llist → k.rlist ≡ list_of lists rlist
-    → Leads (record { side = Right; class = class }) positions k
-led_right positions lists llist rlist class k none e l r c cut =
-    joint_class c.to_right c.disjunct.right k.rlist c.rkey.llist c.rkey.rlist cut.at_right (cut.by_rlist (l ∙ ap (list_of lists) none)) ∙ ap class_of r ∙ sym e
 
 -- up to the next disjunct of the class there is no alternative
 pub adds_skip : (positions : List (List Disjunct)) (lists : List (List Connector)) (gap : Gap) (word start next : ℕ) (out : List Alt) → Leads gap.lead positions (region_of_gap lists gap) → IsNextLed (record { positions = positions; lists = lists }) gap.lead word start next
@@ -270,11 +236,6 @@ all_unlinked positions lists nulls e (At w number None None None None) i = absur
 all_unlinked positions lists nulls e (At w number None None (Some lk) rk) i = absurd i
 all_unlinked positions lists nulls e (At w number None (Some j) lk rk) i = absurd i
 all_unlinked positions lists nulls e (At w number (Some j) tr lk rk) i = absurd i
-
-pub whole_null : (positions : List (List Disjunct)) (lists : List (List Connector)) (nulls : ℕ) (out : List Alt) → nulls ≡ length positions → out ≡ AllNull ∷ [] → AreExactly out (IsAltOfWhole positions lists nulls)
-whole_null positions lists nulls out n e =
-    let P = IsAltOfWhole positions lists nulls in
-    subst (λ z. AreExactly z P) (sym e) (exactly_as (AllNull ∷ []) (λ x. AllNull ≡ x) P (λ x. (λ q. subst P q n, all_unlinked positions lists nulls n x)) (exactly_one AllNull))
 
 abbrev pub first_of : ℕ → ℕ → ℕ → ℕ → ℕ → Alt
 first_of word number words right nulls = At word number None None None (Some (Between word words right 0 nulls))

@@ -273,9 +273,6 @@ under_part positions k g L R A near far kl lr kr b out in' f =
     (fits_same L R (but_at L near (rights_in k g)) (but_at R far (lefts_in k g)) (rights_in key (part_of L R g)) (lefts_in key (part_of L R g)) (IsLinked g) (IsLinked (part_of L R g)) (OpenOf L R A) (HasLink (part_of L R g))
     (part_rights k g L R near kl) (part_lefts k g L R far kr) (λ i a c h. (part_inside L R g i h).1.1) (part_links g L R A out in') f)
 
-LeftPart : Linkage → ℕ → Link → Type 0
-LeftPart g W l = HasLink g l × (l.right ≤ W)
-
 pub is_some_joint : (o : Option Joint) (L R : ℕ) → ((l : Link) × IsJoint o L R l) → IsSome o
 is_some_joint None L R h = absurd h.1
 is_some_joint (Some j) L R h = refl

@@ -53,9 +53,6 @@ first_of_positions g s (suc n) =
       ]
     ]
 
-none_some' : {X : Type 0} (x : X) → ◌≡◌ {A = Option X} None (Some x) → ⊥
-none_some' x e = cc
-
 none_not : (o : Option Disjunct) → o ≡ None → IsSome o → ⊥
 none_not o e h = let x = subst (λ z. IsSome z) e h in cc
 

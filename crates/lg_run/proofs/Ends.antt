@@ -13,7 +13,7 @@ use Rattle.lg_run.specs.Inputs.{Found, Reading, accepted, refused, IsOne, Given,
 use Rattle.lg_run.specs.Lines.{memory_line}
 use Rattle.lg_run.specs.Stops.{is_unread, stop_status, stop_line, EndsAs, EndsWithLine}
 use Rattle.lg_run.specs.Reads.{Comes, TellsStop, IsFaultOf, IsAbout}
-use Rattle.lg_run.specs.Answers.{WhereTold, IsNoTask, Unwritten, Caused, Told, AnswersRefused, AnswersAccepted, names_of, IsRefusal, HasLine, WritesLine, WritesLineFront, Finishes, last_line, IsStopped}
+use Rattle.lg_run.specs.Answers.{WhereTold, Unwritten, Caused, Told, AnswersRefused, AnswersAccepted, names_of, IsRefusal, HasLine, WritesLine, WritesLineFront, Finishes, last_line, IsStopped}
 use Rattle.lg_run.specs.Shown.{RunsOfInputsAreShown, ShowsWhatItSays}
 use Rattle.lg_run.specs.declared.stop.Stop.{Stop}
 use Rattle.lg_run.specs.declared.stop.Stop.TheVariants.{Memory, Unreadable, TooLong, Dictionary, Knowledge, Script, TooManyEdits, TooFewVersions, Quoted}
@@ -31,16 +31,6 @@ OneTask = (words : List (List ℕ)) (t u : Task) → TaskIs words t → TaskIs w
 told_of : OneTask → (contents : Option Contents) (task : Task) (words : List (List ℕ)) (Holds : Reading Given → Type 0) → TaskIs words task → IfSome contents (λ known. Holds (InputsAre known task)) → WhereTold contents words Holds
 told_of one None task words Holds is h = tt
 told_of one (Some known) task words Holds is h = λ other that. subst (λ (t : Task). Holds (InputsAre known t)) (one words task other is that) h
-
--- where the words are not in form nothing is told
-pub untold : (contents : Option Contents) (words : List (List ℕ)) (Holds : Reading Given → Type 0) → IsNoTask words → WhereTold contents words Holds
-untold None words Holds none = tt
-untold (Some known) words Holds none = λ task is. absurd (none task is)
-
-pub told_map : (contents : Option Contents) (words : List (List ℕ)) (Holds More : Reading Given → Type 0) →
-    ((known : Contents) (t : Task) → Holds (InputsAre known t) → More (InputsAre known t)) → WhereTold contents words Holds → WhereTold contents words More
-told_map None words Holds More leads h = tt
-told_map (Some known) words Holds More leads h = λ t is. leads known t (h t is)
 
 -- ---- what the bytes show
 

@@ -351,12 +351,6 @@ module _ (words front behind : List (List ℕ)) (cut : IsCut run_options words f
       let is = is_run (codes "run" ∷ words) task h words refl in
       nowhere is.dictionary is.knowledge is.scripts (cut_once all_settings words front is.front behind _ cut (run_cut words task is)).1 is.operands is.some is.few
 
--- words that are no three numbers in form
-pub no_gen : (words : List (List ℕ)) → ((a b c : List ℕ) (seed n m : ℕ) → words ≡ a ∷ b ∷ c ∷ [] → IsSeed a seed → IsMadeCount b n → IsMadeCount c m → ⊥) → (task : Task) → TaskIs (codes "gen" ∷ words) task → ⊥
-no_gen words nowhere task h =
-    let is = is_gen (codes "gen" ∷ words) task h words refl in
-    nowhere is.seed_word is.made_word is.count_word is.seed is.made is.sentences is.split is.is_seed is.is_made is.are_sentences
-
 -- words that are no two operands and a number in form
 pub no_export : (words : List (List ℕ)) → ((d s c : List ℕ) (n : ℕ) → words ≡ d ∷ s ∷ c ∷ [] → IsTrue (is_operand d) → IsTrue (is_operand s) → IsEditCount c n → ⊥)
     → (task : Task) → TaskIs (codes "export" ∷ words) task → ⊥

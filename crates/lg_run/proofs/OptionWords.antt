@@ -4,7 +4,7 @@ use Rattle.std.proofs.lemmas.List.Elements.{Contains-append_left}
 use Rattle.std.proofs.lemmas.List.Folds.{list_any-append}
 use Rattle.std.proofs.lemmas.Bool.{ne_eqb}
 use Rattle.clap.proofs.WalkLemmas.{list_any-map}
-use Rattle.std.proofs.Common.{◌||◌, Contains, ◌≡◌, ◌≢◌, ◌⊎◌, cond, ℕ, zero, suc, ◌<◌, ◌≤◌, Bool, true, false, not, ◌&&◌, nat_eq, bytes_eq, List, [], map, take, drop, ◌∷◌, ◌++◌, length, get_or, codes, Option, None, Some, is_some, MatchOption, inl, inr, Bor, ◌↔◌, refl, sym, ap, subst, ◌∙◌, arith, append_assoc}
+use Rattle.std.proofs.Common.{◌||◌, Contains, ◌≡◌, ◌≢◌, ◌⊎◌, cond, ℕ, zero, suc, ◌<◌, ◌≤◌, Bool, true, false, not, ◌&&◌, nat_eq, bytes_eq, List, [], map, take, drop, ◌∷◌, ◌++◌, length, get_or, codes, Option, None, Some, MatchOption, inl, inr, Bor, ◌↔◌, refl, sym, ap, subst, ◌∙◌, arith, append_assoc}
 use Rattle.std.proofs.lemmas.Bool.{and_parts}
 use Rattle.std.proofs.lemmas.List.{length-append, length-map, map-append, take-append-drop}
 use Rattle.std.proofs.lemmas.Slice.Eq.{bytes_eq-Decides}
@@ -65,11 +65,6 @@ same_beginning n v m w b c words others (joined p) (joined q) e = let same = one
 -- what is known where nothing is answered
 pub of_none : {T : Type 0} (r : Option T) (P : Type 0) (Q : T → Type 0) → r ≡ None → P → MatchOption r P Q
 of_none {T = T} r P Q e h = subst (λ (o : Option T). MatchOption o P Q) (sym e) h
-
--- and where something is
-pub some_by : {T : Type 0} (r : Option T) (P : Type 0) (Q : T → Type 0) → true ≡ is_some r → MatchOption r P Q → (x : T) × Q x
-some_by None P Q e h = cc
-some_by (Some x) P Q e h = (x, h)
 
 -- no name where the words end behind the first, and that has no equals sign
 pub ends_early : (word : List ℕ) → IsPlain word → (name value : List ℕ) (behind words : List (List ℕ)) → Begins name value behind words → words ≡ word ∷ [] → ⊥

@@ -8,8 +8,7 @@ use Rattle.lg_export.specs.Exports.{quoted_word}
 use Rattle.lg_export.specs.Spelling.{dictionary_spelled}
 use Rattle.lg_script.specs.declared.command.Command.{Command}
 use Rattle.lg_script.specs.Bounds.{IsInBounds, AreInBounds}
-use Rattle.lg_script.specs.Codes.{commands_of}
-use Rattle.lg_script.specs.Commands.{CommandView, parses, lists, goes_on, makes, asks, command_view, script_views}
+use Rattle.lg_script.specs.Commands.{CommandView, parses, lists, goes_on, makes, asks, command_view}
 use Rattle.lg_run.specs.Inputs.{ExportGiven, HasSome, IsOne, accepted, refused, versions, ExportReads, too_few, quoted, spelled}
 use Rattle.lg_run.specs.Lines.{versions_line, quote_line}
 use Rattle.lg_run.specs.Versions.{Reaches}
@@ -127,7 +126,3 @@ module _ (dictionary script : List ℕ) (n : ℕ) (dict : Dictionary) (commands 
   one_version _ _ _ _ (spelled version is p) (spelled other that q) = (refl, ap (λ (d : Dictionary). accepted (ExportGiven (dictionary_spelled d))) (same_version all n version other is that))
 
 -- ---- the commands of the first script
-
-pub first_commands_are : (scripts : List (List Command)) (found : List Command) → 0 < length scripts → found ≡ get_or scripts 0 found → map command_view found ≡ commands_of (script_views scripts) 0
-first_commands_are [] found h e = absurd (omega (arith, h))
-first_commands_are (first ∷ scripts) found h e = ap (map command_view) e

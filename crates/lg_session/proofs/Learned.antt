@@ -12,7 +12,7 @@ use Rattle.lg_dict.specs.Dictionary.{Dictionary}
 use Rattle.lg_edit.specs.Edits.{EditView, accept, after_edit}
 use Rattle.lg_log.specs.Codes.{is_of}
 use Rattle.lg_log.specs.Passes.{Standing, with_code, at_end}
-use Rattle.lg_script.specs.Commands.{CommandView, makes}
+use Rattle.lg_script.specs.Commands.{CommandView}
 use Rattle.lg_script.specs.Histories.{command_at, after_command, dictionary_after, unknown_name}
 use Rattle.lg_script.specs.Codes.{place_of, places_of}
 use Rattle.lg_session.specs.Learning as walk
@@ -21,10 +21,6 @@ use Rattle.lg_session.specs.Learning.{Known, Learns, Walks, Nowhere, Accepts, Ca
 -- an edit that is refused changes nothing
 pub refused_changes_nothing : (dict : Dictionary) (edit : EditView) (cause : EditRefusal) → accept dict edit ≡ Some cause → after_edit dict edit ≡ dict
 refused_changes_nothing dict edit cause is = rw is refl
-
--- the dictionary after the edit of a place
-pub after_place : (scripts : List (List CommandView)) (dict : Dictionary) (p : Place) (edit : EditView) → command_at scripts p ≡ Some (makes edit) → dictionary_after scripts dict (p ∷ []) ≡ after_edit dict edit
-after_place scripts dict p edit is = ap (after_command dict) is
 
 pub after_append : (scripts : List (List CommandView)) (dict : Dictionary) (first then : List Place)
     → dictionary_after scripts dict (first ++ then) ≡ dictionary_after scripts (dictionary_after scripts dict first) then

@@ -1,5 +1,5 @@
 -- What is left of a session's answers gives the rest of what has to hold of them.
-use Rattle.std.proofs.Common.{◌≡◌, ℕ, suc, ◌+◌, ◌≤◌, ◌==◌, List, [], ◌∷◌, ◌++◌, length, map, filter, All, AllPairs, Option, refl, ap, sym, subst, ◌∙◌, arith, append_assoc, length-append, eq-eqb}
+use Rattle.std.proofs.Common.{◌≡◌, ℕ, suc, ◌+◌, ◌≤◌, ◌==◌, List, [], ◌∷◌, ◌++◌, length, map, filter, All, AllPairs, Option, refl, ap, sym, subst, ◌∙◌, arith, append_assoc, length-append}
 use Rattle.std.specs.List.{enumerate_from}
 use Rattle.std.proofs.lemmas.List.Sums.{length-filter, count_by-le-length}
 use Rattle.std.proofs.lemmas.List.Elements.{filter-append, All-cons, All-nil, All-weaker}
@@ -110,15 +110,6 @@ published_cons session n (Published m) rs = refl
 published_cons session n (Refused m cause name) rs = refl
 published_cons session n (At m) rs = refl
 published_cons session n NoListing rs = refl
-
--- the places of an answer are its session's own
-pub own_added : (p : Place) (r : Reply) → own_of p.session (added p r) ≡ added p r
-own_added p (Published n) = rw (eq-eqb p.session p.session refl) refl
-own_added p (Listed n tokens page stats) = refl
-own_added p (Beyond n bound) = refl
-own_added p (Refused n cause name) = refl
-own_added p (At n) = refl
-own_added p NoListing = refl
 
 pub answers_first : (run : Run) (session n : ℕ) (journal new more : List Place) (held then : Option Holding) (command : CommandView) (commands : List CommandView) (r : Reply) (rs : List Reply)
     → new ≡ journal ++ more → own_of session more ≡ added (record { session = session; command = n }) r

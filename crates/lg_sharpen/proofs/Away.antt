@@ -1,14 +1,14 @@
 -- What the lists on the other side need is noted at sites.
-use Rattle.std.proofs.Common.{◌≡◌, ℕ, ◌+◌, ◌<◌, ◌≤◌, List, [], length, set, get_or, refl, sym, ◌∙◌, subst, Some, inl, inr, Bool, not, arith}
+use Rattle.std.proofs.Common.{◌≡◌, ℕ, ◌+◌, ◌<◌, ◌≤◌, List, [], length, set, get_or, sym, ◌∙◌, subst, Some, inl, inr, Bool, not, arith}
 use Rattle.std.specs.List.{slice_get}
 use Rattle.std.proofs.lemmas.Bool.{cases_eq, cases_lt}
-use Rattle.std.proofs.lemmas.Option.{same_Some, slice_get_within, slice_get_read}
+use Rattle.std.proofs.lemmas.Option.{same_Some, slice_get_within}
 use Rattle.std.proofs.lemmas.Grind.{elements}
-use Rattle.std.proofs.lemmas.List.{length-set, get_or-set_same, get_or-set_other}
+use Rattle.std.proofs.lemmas.List.{length-set}
 use Rattle.lg_member.specs.Members.{side_on}
 use Rattle.lg_member.specs.declared.member.Member.{Member}
 use Rattle.lg_sharpen.specs.Sites.{place_on}
-use Rattle.lg_sharpen.specs.Needs.{IsFar, IsFarAt, LowersAt, AreNeeds}
+use Rattle.lg_sharpen.specs.Needs.{IsFar, IsFarAt, LowersAt}
 use Rattle.lg_sharpen.specs.Bounds.{Needs, Allows, Covers, SetsNeed, SetsNeeds}
 use Rattle.lg_sharpen.specs.declared.site.Site.{Site}
 use Rattle.lg_sharpen.proofs.Rows.{past}
@@ -20,13 +20,6 @@ far_lower sites r n le (inr (p, s, at, x)) = inr (p, s, at, omega arith)
 pub far_is : (sites : List Site) (p : ℕ) (s : Site) → slice_get sites p ≡ Some s → IsFar sites s.span.from
 far_is sites p s at = inr (p, s, at, omega arith)
 
-pub lowers_set : (k x y : ℕ) (needs : List ℕ) → k < length needs → y ≤ get_or needs k 0 → y ≤ x → LowersAt k x needs (set needs k y)
-lowers_set k x y needs w le lx = record {
-  lower = λ j. elim (cases_eq j k) [
-    | inl e ↦ (let same : get_or (set needs k y) j 0 ≡ y = subst (λ z. get_or (set needs k y) z 0 ≡ y) (sym e) (get_or-set_same needs k y 0 w) in let l : y ≤ get_or needs j 0 = subst (λ z. y ≤ get_or needs z 0) (sym e) le in omega arith)
-    | inr n ↦ (let other = get_or-set_other needs k j y 0 n in omega arith)
-  ];
-  noted = let same = get_or-set_same needs k y 0 w in omega arith;
 }
 
 pub lowers_none : (k x : ℕ) (needs : List ℕ) → length needs ≤ k → LowersAt k x needs needs
@@ -35,9 +28,6 @@ lowers_none k x needs h = record { lower = λ j. omega arith; noted = let none =
 -- the needs of the first members are noted
 pub record NeedsUpTo (right : Bool) (others : List (List Site)) (ms : List Member) (k : ℕ) (needs : List ℕ) : Type 0 where
   pub each : (j : ℕ) (m : Member) → j < k → slice_get ms j ≡ Some m → IsFarAt others (side_on (not right) m) (get_or needs (side_on right m) 0)
-
-pub needs_none : (right : Bool) (others : List (List Site)) (ms : List Member) (needs : List ℕ) → NeedsUpTo right others ms 0 needs
-needs_none right others ms needs = record { each = λ j m l. absurd (omega arith) }
 
 pub needs_more : (right : Bool) (others : List (List Site)) (ms : List Member) (k r a b : ℕ) (now new : List ℕ) (m : Member) → slice_get ms k ≡ Some m → a ≡ side_on (not right) m → b ≡ side_on right m → IsFarAt others a r → LowersAt b r now new
     → NeedsUpTo right others ms k now → NeedsUpTo right others ms (k + 1) new
@@ -52,16 +42,10 @@ needs_more right others ms k r a b now new m at ea eb far low t = record {
   ];
 }
 
-pub needs_all : (right : Bool) (others : List (List Site)) (ms : List Member) (k : ℕ) (needs : List ℕ) → length ms ≤ k → NeedsUpTo right others ms k needs → AreNeeds right others ms needs
-needs_all right others ms k needs h t m c = let w = c.1 in t.each c.0 m (omega arith) (slice_get_read ms (length ms) c.0 m refl c.1 (sym c.2))
-
 -- the first sites have the need
 pub record SetUpTo (n : ℕ) (old new : List Site) : Type 0 where
   pub long : length new ≡ length old
   pub sets : SetsNeed n old new
-
-pub set_none : (n : ℕ) (sites : List Site) → SetUpTo n sites sites
-set_none n sites = record { long = refl; sets = λ g right i need c. c }
 
 pub set_more : (n p : ℕ) (old now : List Site) (s r : Site) → slice_get now p ≡ Some s → r ≡ record { connector = s.connector; span = s.span; nearest = s.nearest; later = s.later; before = s.before; behind = s.behind; need = n }
     → SetUpTo n old now → SetUpTo n old (set now p r)
@@ -84,10 +68,6 @@ set_more n p old now s r at is t = record {
             ];
       };
 }
-
--- the first lists have their needs
-pub sets_none : (needs : List ℕ) (lists : List (List Site)) → SetsNeeds needs lists lists
-sets_none needs lists = record { long = refl; each = λ g right i k need c. c }
 
 pub sets_more : (needs : List ℕ) (old now : List (List Site)) (k : ℕ) (u w : List Site) → slice_get now k ≡ Some u → SetsNeed (get_or needs k 0) u w → SetsNeeds needs old now → SetsNeeds needs old (set now k w)
 sets_more needs old now k u w is n all = record {

@@ -180,9 +180,6 @@ pub record NarrowsSame (right : Bool) (most : ℕ) (gaps : Gaps) (i : ℕ) (tabl
   pub long : length now ≡ length old
   pub narrows : Narrows right most gaps i table old now
 
-pub same_none : (right : Bool) (most : ℕ) (gaps : Gaps) (i : ℕ) (table : Table Site) (sites : List Site) → NarrowsSame right most gaps i table sites sites
-same_none right most gaps i table sites = record { long = refl; narrows = λ g f e a c. c }
-
 pub same_more : (right : Bool) (most : ℕ) (gaps : Gaps) (i : ℕ) (table : Table Site) (old now : List Site) (p : ℕ) (r : Site) → p < length now → IsNarrowed right most gaps i table now p r → NarrowsSame right most gaps i table old now
     → NarrowsSame right most gaps i table old (set now p r)
 same_more right most gaps i table old now p r w is n = record { long = length-set now p r ∙ n.long; narrows = narrow_set right most gaps i table old now p r w is n.narrows }
@@ -238,16 +235,6 @@ end_before sites p s t r at atq le d x atx high after =
     let lx = ap (λ z. z.span.end) ex in
     le d (omega arith) (after t atq)
 
-pub end_last : (sites : List Site) (p : ℕ) (s : Site) (r : ℕ) → slice_get sites p ≡ Some s → s.span.end ≤ r → IsEndOf sites p r
-end_last sites p s r at le d x atx high after =
-    let ex : x ≡ s = same_Some x s (sym atx ∙ at) in
-    let lx = ap (λ z. z.span.end) ex in
-    omega arith
-
-pub behind_last : (sites : List Site) (p : ℕ) (s : Site) → slice_get sites p ≡ Some s → p + 1 ≡ length sites → IsBehindOf sites p s.behind
-behind_last sites p s at e = record {
-  last = λ x atx w. let ex : x ≡ s = same_Some x s (sym atx ∙ at) in let lx = ap (λ z. z.behind) ex in omega arith;
-  other = λ t atq. let w = slice_get_within sites (p + 1) t atq in absurd (omega arith);
 }
 
 pub behind_next : (sites : List Site) (p : ℕ) (t : Site) → slice_get sites (p + 1) ≡ Some t → IsBehindOf sites p t.span.end

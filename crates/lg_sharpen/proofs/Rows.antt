@@ -1,14 +1,14 @@
 -- Tables of ways to link, and of gaps.
-use Rattle.std.proofs.Common.{◌≡◌, ℕ, zero, suc, ◌⊎◌, ◌+◌, ◌-◌, ◌<◌, ◌≤◌, List, [], ◌∷◌, ◌++◌, length, length-append, set, get_or, refl, sym, ap, ◌∙◌, subst, Option, Some, inl, inr, Bool, true, false, cond, ltb, arith}
+use Rattle.std.proofs.Common.{◌≡◌, ℕ, zero, suc, ◌+◌, ◌-◌, ◌<◌, ◌≤◌, List, [], ◌∷◌, ◌++◌, length, length-append, set, get_or, refl, sym, ap, ◌∙◌, subst, Option, Some, inl, inr, Bool, cond, ltb, arith}
 use Rattle.std.specs.Global.{Vec}
 use Rattle.std.specs.Prelude.{IfSome}
 use Rattle.std.specs.List.{slice_get}
 use Rattle.std.proofs.lemmas.Bool.{cases_eq, cases_lt}
-use Rattle.std.proofs.lemmas.Option.{same_Some, slice_get_read}
-use Rattle.std.proofs.lemmas.List.{map-append, map-set, length-map, length-set, get_or-map, get_or-set_same, get_or-set_other, get_or_append_left, get_or-append_right}
+use Rattle.std.proofs.lemmas.Option.{same_Some}
+use Rattle.std.proofs.lemmas.List.{map-append, map-set, length-map, get_or-map, get_or-set_same, get_or-set_other, get_or_append_left, get_or-append_right}
 use Rattle.std.proofs.lemmas.List.FromFn.{sum_by-map-range_with_len_more}
 use Rattle.lg_member.specs.declared.member.Member.{Member}
-use Rattle.lg_sharpen.specs.Filling.{rows_in, need_at, least_at, IsLowered, IsNoted, Notes, AreLeast, stuck_in, stuck_under, IsSpanRow, AreSpans}
+use Rattle.lg_sharpen.specs.Filling.{rows_in, need_at, least_at, IsLowered, IsNoted, Notes, stuck_in, IsSpanRow, AreSpans}
 use Rattle.lg_sharpen.specs.declared.gaps.Way.{Way}
 use Rattle.lg_sharpen.specs.declared.site.Site.{Site}
 
@@ -18,20 +18,6 @@ pub record LoweredTo (place end : ℕ) (old new : List ℕ) : Type 0 where
   pub lower : (a : ℕ) → get_or new a 0 ≤ get_or old a 0
   pub noted : (a : ℕ) → a < place → get_or new a 0 ≤ end
 
-pub lowered_none : (end : ℕ) (old : List ℕ) → LoweredTo 0 end old old
-lowered_none end old = record { long = refl; lower = λ a. omega arith; noted = λ a l. absurd (omega arith) }
-
-pub lowered_more : (place end : ℕ) (old now : List ℕ) (x : ℕ) → place < length now → x ≤ get_or now place 0 → x ≤ end → LoweredTo place end old now → LoweredTo (place + 1) end old (set now place x)
-lowered_more place end old now x w lx ex t = record {
-  long = length-set now place x ∙ t.long;
-  lower = λ a. let b = t.lower a in elim (cases_eq a place) [
-    | inl e ↦ (let same : get_or (set now place x) a 0 ≡ x = subst (λ z. get_or (set now place x) z 0 ≡ x) (sym e) (get_or-set_same now place x 0 w) in let l : x ≤ get_or now a 0 = subst (λ z. x ≤ get_or now z 0) (sym e) lx in omega arith)
-    | inr n ↦ (let other = get_or-set_other now place a x 0 n in omega arith)
-  ];
-  noted = λ a l. elim (cases_eq a place) [
-    | inl e ↦ (let same : get_or (set now place x) a 0 ≡ x = subst (λ z. get_or (set now place x) z 0 ≡ x) (sym e) (get_or-set_same now place x 0 w) in omega arith)
-    | inr n ↦ (let other = get_or-set_other now place a x 0 n in let b = t.noted a (elim (cases_lt a place) [ inl h ↦ h | inr h ↦ absurd (n (omega arith)) ]) in omega arith)
-  ];
 }
 
 above : (n a m : ℕ) → n ≤ a → (a ≡ n → ⊥) → m ≡ n + 1 → m ≤ a
@@ -42,13 +28,6 @@ past {A} [] a d h = refl
 past {A} (x ∷ xs) zero d h = absurd (omega arith)
 past {A} (x ∷ xs) (suc a) d h = past xs a d (omega arith)
 
-pub lowered_all : (count until end : ℕ) (old new : List ℕ) → (count ≤ until) ⊎ (length old ≤ until) → LoweredTo until end old new → IsLowered count end old new
-lowered_all count until end old new h t = record {
-  lower = t.lower;
-  noted = λ a l. elim h [
-    | inl c ↦ t.noted a (omega arith)
-    | inr c ↦ elim (cases_lt a until) [ inl b ↦ t.noted a b | inr b ↦ (let long = t.long in let z = past new a 0 (omega arith) in omega arith) ]
-  ];
 }
 
 -- a row is lowered
@@ -78,9 +57,6 @@ noted_row i left right count end rows v w h at low c e =
 pub record NotedUpTo (lefts rights : List (List Site)) (ms : List Member) (k : ℕ) (rows : List (List ℕ)) : Type 0 where
   pub each : (j : ℕ) (m : Member) → j < k → slice_get ms j ≡ Some m → (a : ℕ) → a ≤ m.position - need_at lefts m.left → least_at rows m.position a ≤ m.position + need_at rights m.right
 
-pub noted_none : (lefts rights : List (List Site)) (ms : List Member) (rows : List (List ℕ)) → NotedUpTo lefts rights ms 0 rows
-noted_none lefts rights ms rows = record { each = λ j m l. absurd (omega arith) }
-
 pub noted_more : (lefts rights : List (List Site)) (ms : List Member) (k : ℕ) (now new : List (List ℕ)) (m : Member) → slice_get ms k ≡ Some m → Notes m.position (need_at lefts m.left) (need_at rights m.right) now new
     → NotedUpTo lefts rights ms k now → NotedUpTo lefts rights ms (k + 1) new
 noted_more lefts rights ms k now new m at n t = record {
@@ -95,9 +71,6 @@ noted_more lefts rights ms k now new m at n t = record {
 -- a way that was noted is noted again
 pub noted_again : (last : Option Way) (w : Way) (rows : List (List ℕ)) → last ≡ Some w → IfSome last (λ v. IsNoted v rows) → Notes w.position w.left w.right rows rows
 noted_again last w rows e is = record { lower = λ x a. omega arith; noted = λ a l. (subst (λ z. IfSome z (λ v. IsNoted v rows)) e is) a l }
-
-pub noted_all : (lefts rights : List (List Site)) (ms : List Member) (k : ℕ) (rows : List (List ℕ)) → length ms ≤ k → NotedUpTo lefts rights ms k rows → AreLeast lefts rights ms rows
-noted_all lefts rights ms k rows h t m c a la = let w = c.1 in t.each c.0 m (omega arith) (slice_get_read ms (length ms) c.0 m refl c.1 (sym c.2)) a la
 
 no_more : (new s c more' x y : ℕ) → new ≤ s + x → s ≤ c → x ≡ y → more' ≡ c + y → new ≤ more'
 no_more new s c more' x y a b d e = omega arith
@@ -129,23 +102,12 @@ pub record SpanRowTo (right : Bool) (most : ℕ) (rows : List (List ℕ)) (i k :
   pub long : length flags ≡ k
   pub each : IsSpanRow right most rows i flags
 
-pub span_none : (right : Bool) (most : ℕ) (rows : List (List ℕ)) (i : ℕ) → SpanRowTo right most rows i 0 []
-span_none right most rows i = record { long = refl; each = λ d e. absurd (let f : ◌≡◌ {A = Bool} true false = e in cc) }
-
-pub span_more : (right : Bool) (most : ℕ) (rows : List (List ℕ)) (i k : ℕ) (now new : List Bool) (b : Bool) → new ≡ now ++ b ∷ [] → (b ≡ false → most ≤ stuck_under right rows i k) → SpanRowTo right most rows i k now
-    → SpanRowTo right most rows i (k + 1) new
-span_more right most rows i k now new b e off t = subst (λ z. SpanRowTo right most rows i (k + 1) z) (sym e) (record {
-  long = length-append now (b ∷ []) ∙ ap (λ z. z + 1) t.long;
-  each = added now b true (λ d f. f ≡ false → most ≤ stuck_under right rows i d) t.each (subst (λ z. b ≡ false → most ≤ stuck_under right rows i z) (sym t.long) off);
 })
 
 -- the rows of flags
 pub record SpansTo (right : Bool) (most : ℕ) (rows : List (List ℕ)) (k : ℕ) (flags : List (List Bool)) : Type 0 where
   pub long : length flags ≡ k
   pub each : AreSpans right most rows flags
-
-pub spans_none : (right : Bool) (most : ℕ) (rows : List (List ℕ)) → SpansTo right most rows 0 []
-spans_none right most rows = record { long = refl; each = λ i d e. absurd (let f : ◌≡◌ {A = Bool} true false = e in cc) }
 
 pub spans_more : (right : Bool) (most : ℕ) (rows : List (List ℕ)) (k : ℕ) (now new : List (Vec Bool)) (row : Vec Bool) → new ≡ now ++ row ∷ [] → IsSpanRow right most rows k row.items
     → SpansTo right most rows k (rows_in now) → SpansTo right most rows (k + 1) (rows_in new)

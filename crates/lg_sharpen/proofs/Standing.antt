@@ -27,9 +27,6 @@ pub record OpenUpTo (lists : List (List Site)) (k : ℕ) (flags : List Bool) : T
   pub long : length flags ≡ k
   pub each : (j : ℕ) (sites : List Site) → j < k → slice_get lists j ≡ Some sites → All IsOpen sites → slice_get flags j ≡ Some true
 
-pub open_none : (lists : List (List Site)) (flags : List Bool) → flags ≡ [] → OpenUpTo lists 0 flags
-open_none lists flags e = record { long = ap length e; each = λ j s l. absurd (omega arith) }
-
 pub open_more : (lists : List (List Site)) (k : ℕ) (now new : List Bool) (sites : List Site) (b : Bool) → new ≡ now ++ b ∷ [] → slice_get lists k ≡ Some sites → ((b ≡ true) ↔ All IsOpen sites) → OpenUpTo lists k now
     → OpenUpTo lists (k + 1) new
 open_more lists k now new sites b e at iff t = subst (λ z. OpenUpTo lists (k + 1) z) (sym e) (record {
@@ -44,9 +41,6 @@ open_more lists k now new sites b e at iff t = subst (λ z. OpenUpTo lists (k + 
             last ∙ ap (λ z. Some z) (iff.1 (subst (λ z. All IsOpen z) es all)))
       ];
 })
-
-pub open_all : (lists : List (List Site)) (k : ℕ) (flags : List Bool) → length lists ≤ k → OpenUpTo lists k flags → AreOpen lists flags
-open_all lists k flags h t = record { each = λ j s at all. let w = slice_get_within lists j s at in t.each j s (omega arith) at all }
 
 -- a table of the lists in use has a site for each link
 allows_wider : (g : Linkage) (right : Bool) (l : Link) (s w : Site) → Allows g right l s → IsWider w s → Allows g right l w

@@ -10,7 +10,7 @@ use Rattle.std.proofs.lemmas.List.{map-append}
 use Rattle.lg_gram.specs.Connectors.{Connector}
 use Rattle.lg_member.specs.Cells.{Table, Stands, Adds, class_of}
 use Rattle.lg_member.specs.declared.side.Side.{Side}
-use Rattle.lg_sharpen.specs.Sites.{MatchOn, MeetsOver, MayBeLone, IsWider, across, IsHeld, AddsSites, AddsOpen, IsOpen, IsTableOf, HasPartner, IsStarted, AreStarted, AreStartedAll, IsReach, items_in}
+use Rattle.lg_sharpen.specs.Sites.{MatchOn, MeetsOver, MayBeLone, IsWider, across, IsHeld, AddsSites, AddsOpen, IsOpen, IsTableOf, HasPartner, IsStarted, AreStarted, IsReach, items_in}
 use Rattle.lg_sharpen.specs.Filling.{MaySpan}
 use Rattle.lg_sharpen.specs.declared.gaps.Gaps.{Gaps}
 use Rattle.lg_sharpen.specs.declared.site.Site.{Site}
@@ -136,9 +136,6 @@ started_more cs end p now new s e is a = subst (λ z. StartedUpTo cs end (p + 1)
       ];
 })
 
-pub started_all : (cs : List Connector) (end p : ℕ) (sites : List Site) → length cs ≤ p → p ≤ length cs → StartedUpTo cs end p sites → AreStarted cs end sites
-started_all cs end p sites h g a = let l = a.long in record { same_length = omega arith; each = a.each }
-
 pub record AllStartedUpTo (right : Bool) (n : ℕ) (sides : List Side) (k : ℕ) (lists : List (List Site)) : Type 0 where
   pub long : length lists ≡ k
   pub each : (j : ℕ) (side : Side) → j < k → slice_get sides j ≡ Some side → (end : ℕ) × IsReach right n side.position end × (sites : List Site) × (slice_get lists j ≡ Some sites) × AreStarted side.list.now end sites
@@ -167,6 +164,3 @@ all_started_more right n sides k now new side end v e at reach is a =
                 ))
           ];
     })
-
-pub all_started : (right : Bool) (n : ℕ) (sides : List Side) (k : ℕ) (lists : List (List Site)) → length sides ≤ k → k ≤ length sides → AllStartedUpTo right n sides k lists → AreStartedAll right n sides lists
-all_started right n sides k lists h g a = let l = a.long in record { same_length = omega arith; each = λ j side at. let w = slice_get_within sides j side at in a.each j side (omega arith) at }

@@ -52,9 +52,6 @@ pub record AreRaised (links : List Link) (n i : ℕ) (heights : List ℕ) : Type
   pub known : AreKnown links n heights
   pub new : (j : ℕ) → j < i → link_length (get_or links j no_link) ≡ n → get_or heights j 0 ≡ height links (get_or links j no_link)
 
-pub none_raised : (links : List Link) (n : ℕ) (heights : List ℕ) → AreKnown links n heights → AreRaised links n 0 heights
-none_raised links n heights known = record { known = known; new = λ j below. absurd (omega arith) }
-
 module _ (links : List Link) (n i : ℕ) (heights : List ℕ) (lt : i < length links) (so_far : AreRaised links n i heights) where
   abbrev here : Link
   here = get_or links i no_link
@@ -84,13 +81,6 @@ module _ (links : List Link) (n i : ℕ) (heights : List ℕ) (lt : i < length l
         ];
       }
 
-pub all_raised : (links : List Link) (n i : ℕ) (heights : List ℕ) → length links ≤ i → AreRaised links n i heights → AreKnown links (n + 1) heights
-all_raised links n i heights past is = record {
-  same = is.known.same;
-  at = λ j below shorter. elim (cases_eq (link_length (get_or links j no_link)) n) [
-    | inl same ↦ is.new j (omega arith) same
-    | inr apart ↦ is.known.at j below (omega arith)
-  ];
 }
 
 -- all heights are known

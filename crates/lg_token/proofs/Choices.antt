@@ -7,7 +7,6 @@ use Rattle.std.proofs.lemmas.List.Sums.{sum_by_push}
 use Rattle.std.proofs.lemmas.Bool.Decides.{nat_tests}
 use Rattle.lg_gram.specs.Limits.{POSITIONS}
 use Rattle.lg_gram.specs.declared.listing.Token.{Token}
-use Rattle.lg_gram.specs.declared.listing.Bound.{Bound}
 use Rattle.lg_gram.specs.declared.listing.Bound.TheVariants.{TooManyWords, TooWide}
 use Rattle.lg_dict.specs.Dictionary.{Dictionary}
 use Rattle.lg_token.specs.declared.place.Place.{Place}
@@ -17,9 +16,6 @@ use Rattle.lg_token.specs.Bounds.{LISTED_CHOICES, CHOICES_COUNTED, word_choices,
 use Rattle.lg_token.proofs.Adding.{AreAt-push}
 
 -- one place after another
-
-pub none_counted : (dict : Dictionary) → HaveChoices dict [] 0
-none_counted dict = record { tokens = []; stand = refl; counted = refl }
 
 min_sum : (a b c : ℕ) → min (min a c + min b c) c ≡ min (a + b) c
 min_sum a b c = omega arith

@@ -10,7 +10,7 @@ use Rattle.lg_token.specs.declared.cuts.Side.{Side}
 use Rattle.lg_token.specs.declared.cuts.Side.TheVariants.{Before, After}
 use Rattle.lg_token.specs.declared.cuts.Off.{Off}
 use Rattle.lg_token.specs.Words.{Has}
-use Rattle.lg_token.specs.Cuts.{Pieces, whole, AreCut}
+use Rattle.lg_token.specs.Cuts.{Pieces, AreCut}
 use Rattle.lg_token.specs.Steps.{put_back, IsStep, piece_count, HasPieces, Counts}
 use Rattle.lg_token.specs.Tokens.{cut_off, pieces_of, AreOfPieces, AreOfChunk, AreOfChunks, IsWall, stands, absent, HasTokens}
 use Rattle.lg_token.proofs.SomeWords.{words_of, words_of-AreWordsOf}
@@ -36,9 +36,6 @@ module _ (dict : Dictionary) (initial : Bool) (chunk : List ℕ) where
         let counted = all.counted in
         record { pieces = all.pieces; cut = all.cut; counted = omega (arith, counted, count_put_back off.side off.piece.now p) };
   }
-
-  pub counts_all : (rest : List ℕ) (count : ℕ) → AreCut dict initial rest (whole rest) → CountsOff rest count → HasPieces dict initial chunk (count + 1)
-  counts_all rest count last so_far = so_far.cuts (whole rest) last
 
 -- the tokens of pieces
 

@@ -27,9 +27,6 @@ Decided P = P ⊎ (P → ⊥)
 
 -- the words of a dictionary rise
 
-text_cmp : List ℕ → List ℕ → Ordering
-text_cmp = slice_cmp nat_cmp
-
 both : (a b : Bool) → T (a && b) → T a × T b
 both true b h = (tt, h)
 both false b h = absurd h
