@@ -10,7 +10,7 @@ use Rattle.lg_gram.specs.Disjuncts.{choice_of}
 use Rattle.lg_gram.specs.Measures.{Choice, no_connectors, single, joined, dearer, choices_of, picks_of, choices_of_any}
 use Rattle.lg_gram.specs.Trees.{Tree, Trees, empty, leaf, all_of, one_of, priced, no_trees, tree}
 use Rattle.lg_gram.specs.declared.disjunct.Disjunct.{Disjunct}
-use Rattle.lg_eprune.specs.Live.{WordTree, HasConnector, SupportsItself, IsLiveChoice, Narrows, nothing, kept, dropped, AreNarrowed, AreOf}
+use Rattle.lg_eprune.specs.Live.{WordTree, HasConnector, SupportsItself, IsLiveChoice, Narrows, nothing, kept, dropped, AreOf}
 use Rattle.lg_pprune.specs.Alive.{IsAlive}
 use Rattle.lg_pprune.specs.Alive.{KeepsItself}
 use Rattle.lg_answer.specs.Alive.{HasWordWith, KeepAlive}

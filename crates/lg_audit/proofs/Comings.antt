@@ -1,11 +1,10 @@
 -- What it means that an answer holds.
-use Rattle.std.proofs.Common.{◌≡◌, ℕ, zero, suc, ◌≤◌, List, [], ◌∷◌, ◌++◌, Option, Some, None, refl, ap, sym, subst, ◌∙◌, arith}
+use Rattle.std.proofs.Common.{◌≡◌, ℕ, zero, suc, ◌≤◌, List, [], ◌++◌, Option, Some, None, refl, ap, sym, subst, ◌∙◌, arith}
 use Rattle.std.proofs.lemmas.Option.{none-some}
 use Rattle.lg_gram.specs.Linkages.{Linkage}
 use Rattle.lg_gram.specs.declared.listing.Bound.{Bound}
 use Rattle.lg_gram.specs.declared.reply.Place.{Place}
 use Rattle.lg_edit.specs.Edits.{EditView}
-use Rattle.lg_text.specs.Replies.{cause_pieces}
 use Rattle.lg_token.specs.Bounds.{IsBeyond}
 use Rattle.lg_script.specs.Bounds.{IsSentence}
 use Rattle.lg_script.specs.Commands.{CommandView, parses, lists, goes_on, makes, asks}
@@ -13,7 +12,7 @@ use Rattle.lg_script.specs.Histories.{numbered}
 use Rattle.lg_audit.specs.Lines.{ShownPage, ShownReply, listed, beyond, published, refused, at, nothing_held}
 use Rattle.lg_audit.specs.Replies.{Basis, Held, AsksFor, parse, list, GoesOn, IsPageOf, ReplyHolds, edited, not_edited, tells, lists_page, past_bound, more, no_more, dictionary_at, outline}
 use Rattle.lg_audit.specs.Tests.{EditHolds}
-use Rattle.lg_audit.specs.Walks.{IsKept, IsGoing, Follows, IsNext, ComesTo}
+use Rattle.lg_audit.specs.Walks.{IsKept, Follows, ComesTo}
 use Rattle.lg_audit.specs.declared.listed.Going.{Going}
 use Rattle.lg_audit.specs.declared.verdict.Verdict.TheVariants.{Wrong, Right}
 use Rattle.lg_audit.proofs.InTime.{MakesSome}

@@ -1,13 +1,13 @@
 -- The versions that the answers of a session name, as one answer more comes.
 use Rattle.std.proofs.Common.{◌≡◌, ◌⊎◌, inl, inr, ℕ, ◌+◌, ◌≤◌, ◌<◌, List, [], ◌∷◌, ◌++◌, length, get_or, All, AllPairs, Any, refl, ap, sym, subst, ◌∙◌, arith, length-append}
 use Rattle.std.proofs.lemmas.List.{get_or_append_left, get_or_push, append-nil}
-use Rattle.std.proofs.lemmas.List.Elements.{All-append, All-push, All-weaker}
+use Rattle.std.proofs.lemmas.List.Elements.{All-push, All-weaker}
 use Rattle.lg_gram.specs.declared.reply.Place.{Place}
 use Rattle.lg_gram.specs.declared.reply.Reply.{Reply}
 use Rattle.lg_gram.specs.declared.reply.Reply.TheVariants.{Listed, Beyond, Published, Refused, At, NoListing}
 use Rattle.lg_script.specs.Commands.{CommandView, parses, lists, goes_on, makes, asks}
 use Rattle.lg_script.specs.Histories.{AreInTime, Precedes, reply_version, fresh}
-use Rattle.lg_audit.specs.Lines.{ShownReply, listed, beyond, published, refused, at, nothing_held}
+use Rattle.lg_audit.specs.Lines.{ShownReply}
 use Rattle.lg_audit.specs.Replies.{outline}
 use Rattle.lg_audit.specs.Rising.{IsAhead, Rises, named_after, IsNamed}
 

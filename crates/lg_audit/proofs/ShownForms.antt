@@ -1,7 +1,7 @@
 -- What is shown of an answer in form is in form.
-use Rattle.std.proofs.Common.{◌≡◌, ℕ, zero, suc, ◌+◌, ◌<◌, ◌≤◌, ◌^◌, Bool, true, false, eqb, List, [], ◌∷◌, ◌++◌, map, take, length, codes, decimal, Contains, Option, Some, None, IfSome, is_none, slice_get, slice_index_or, refl, sym, ◌∙◌, arith}
-use Rattle.std.specs.List.{list_any, count_by, enumerate_from, zip, join_with_byte, AllByRecursion}
-use Rattle.std.specs.Option.{option_zip, option_map_or}
+use Rattle.std.proofs.Common.{◌≡◌, ℕ, zero, suc, ◌+◌, ◌<◌, ◌≤◌, ◌^◌, Bool, true, false, eqb, List, [], ◌∷◌, ◌++◌, map, take, length, codes, decimal, Contains, Option, Some, None, IfSome, is_none, slice_get, slice_index_or, refl, arith}
+use Rattle.std.specs.List.{list_any, enumerate_from, zip, join_with_byte, AllByRecursion}
+use Rattle.std.specs.Option.{option_zip}
 use Rattle.std.proofs.lemmas.Bool.{or_parts, or_from, cond_both}
 use Rattle.std.proofs.lemmas.List.Sums.{count_by-le-length}
 use Rattle.std.proofs.lemmas.Option.{slice_get_within}
@@ -12,21 +12,16 @@ use Rattle.lg_gram.specs.Linkages.{Linkage}
 use Rattle.lg_gram.specs.Names.{trimmed}
 use Rattle.lg_gram.specs.Rules.{chosen_at, rights_of, lefts_of, left_list, right_list}
 use Rattle.lg_gram.specs.declared.disjunct.Disjunct.{Disjunct}
-use Rattle.lg_gram.specs.declared.edit.EditRefusal.{EditRefusal}
-use Rattle.lg_gram.specs.declared.edit.EditRefusal.TheVariants.{UnknownMacro, TooDeep, TooManyNodes, TooManyChoices, SideTooLong, NoSuchWord}
 use Rattle.lg_gram.specs.declared.linkage.Link.{Link}
 use Rattle.lg_gram.specs.declared.listing.Page.{Page}
 use Rattle.lg_gram.specs.declared.listing.PageItem.{PageItem}
 use Rattle.lg_gram.specs.declared.listing.Stats.{Stats}
 use Rattle.lg_gram.specs.declared.listing.Token.{Token}
 use Rattle.lg_gram.specs.declared.listing.Violation.{Violation}
-use Rattle.lg_gram.specs.declared.reply.CommandKind.{CommandKind}
 use Rattle.lg_gram.specs.declared.reply.CommandKind.TheVariants as kinds
-use Rattle.lg_gram.specs.declared.reply.Reply.{Reply}
 use Rattle.lg_gram.specs.declared.reply.Reply.TheVariants.{Listed, Beyond, Published, Refused, At, NoListing}
 use Rattle.lg_text.specs.Diagrams.{Drawn, cells, starts_of, drawn_of, line_width, highest}
 use Rattle.lg_text.specs.Pages.{shown}
-use Rattle.lg_text.specs.Replies.{IsAnswerTo}
 use Rattle.lg_text.specs.Shown.{IsOneLine, IsPlainDisjunct}
 use Rattle.lg_text.specs.Texts.{side_text, letters_of, label_text}
 use Rattle.lg_text.specs.declared.look.Look.{Look}
@@ -34,10 +29,10 @@ use Rattle.lg_text.proofs.Bytes.{lacks_both}
 use Rattle.lg_text.proofs.PlainDiagrams.{drawn_plain, link_line_plain, cells_plain, words_plain}
 use Rattle.lg_text.proofs.PlainTexts.{AreChosen, number_plain, side_plain, label_plain}
 use Rattle.lg_audit.specs.Pieces.{HasNoBlank, IsNumber, IsSmallNumber}
-use Rattle.lg_audit.specs.Lines.{IsRun, IsChoiceInForm, IsWordInForm, IsLinkInForm, IsLinkageInForm, IsItemInForm, IsUnread, AreUnread, line}
-use Rattle.lg_audit.specs.Documents.{IsCause, IsPageInForm, IsReplyInForm, unread_of}
+use Rattle.lg_audit.specs.Lines.{IsRun, IsChoiceInForm, IsWordInForm, IsLinkInForm, IsLinkageInForm, IsItemInForm, IsUnread, AreUnread}
+use Rattle.lg_audit.specs.Documents.{IsPageInForm, unread_of}
 use Rattle.lg_audit.specs.Replies.{shown_word, shown_linkage}
-use Rattle.lg_audit.specs.ShownAnswers.{height_lines, diagram_lines, drawn_if, counted_if, unread_by, shown_item, shown_page, shown_reply, HasSolidName, IsSolidDisjunct, IsSolidLinkage, IsSolidItem, IsSolidPage, IsSolidReply, IsBareMore, AnswersAreInForm}
+use Rattle.lg_audit.specs.ShownAnswers.{height_lines, diagram_lines, drawn_if, counted_if, unread_by, shown_item, shown_page, HasSolidName, IsSolidDisjunct, IsSolidLinkage, IsSolidItem, IsSolidPage, IsBareMore, AnswersAreInForm}
 
 -- ---- texts without a blank
 

@@ -1,5 +1,5 @@
 -- What the answer to an edit says, by the dictionary of the version that tested it.
-use Rattle.std.proofs.Common.{◌≡◌, ℕ, ◌-◌, ◌≤◌, ◌↔◌, Bool, true, List, length, get_or, Option, Some, None, Result, Ok, Err, is_ok, Decides, IsTrue, refl, ap, sym, ◌∙◌, arith}
+use Rattle.std.proofs.Common.{◌≡◌, ℕ, ◌-◌, ◌≤◌, ◌↔◌, Bool, true, List, length, get_or, Some, None, Result, Ok, Err, is_ok, Decides, IsTrue, refl, ap, sym, ◌∙◌, arith}
 use Rattle.std.specs.Result.{result_err}
 use Rattle.std.proofs.lemmas.Bool.{false≢true}
 use Rattle.std.proofs.lemmas.Option.{none-some, same_Some, slice_get-get_or}

@@ -1,8 +1,7 @@
 -- The commands of a session beside their answers.
-use Rattle.std.proofs.Common.{◌≡◌, ℕ, zero, suc, ◌+◌, ◌^◌, ◌<◌, List, [], ◌∷◌, length, map, get_or, slice_get, Option, Some, None, refl, ap, subst, ◌∙◌, add-one}
+use Rattle.std.proofs.Common.{◌≡◌, ℕ, zero, suc, ◌+◌, ◌^◌, ◌<◌, List, [], ◌∷◌, length, map, get_or, slice_get, Option, Some, refl, ap, subst, ◌∙◌, add-one}
 use Rattle.std.specs.Option.{option_map}
 use Rattle.std.proofs.lemmas.Option.{none-some, same_Some, slice_get-map, slice_get_read, slice_get_within, get_or_from_slice_get}
-use Rattle.lg_gram.specs.declared.reply.Place.{Place}
 use Rattle.lg_script.specs.Bounds.{AreInBounds}
 use Rattle.lg_script.specs.Codes.{AreScripts}
 use Rattle.lg_script.specs.Commands.{CommandView}

@@ -1,20 +1,16 @@
 -- What is kept on the way through the answers of a session.
-use Rattle.std.specs.Prelude.{◌≡◌, ◌⊎◌, ℕ, ◌^◌, ◌≤◌, ◌<◌, true, false, List, ◌++◌, length, map, take, All, Any, Option, Some, None}
-use Rattle.std.specs.Option.{option_map_or}
+use Rattle.std.specs.Prelude.{◌≡◌, ℕ, ◌≤◌, ◌<◌, List, ◌++◌, length, map, take, Option, Some, None}
 use Rattle.std.specs.List.{last_or}
 use Rattle.std.specs.List.Sorted.{IsStrictlySortedBy}
 use Rattle.lg_gram.specs.Linkages.{Linkage, linkage_cmp}
 use Rattle.lg_gram.specs.declared.reply.Place.{Place}
-use Rattle.lg_gram.specs.declared.reply.Reply.{Reply}
-use Rattle.lg_gram.specs.declared.reply.Reply.TheVariants.{At}
 use Rattle.lg_dict.specs.Dictionary.{Dictionary}
 use Rattle.lg_knowread.specs.declared.knowledge.Knowledge.{Knowledge}
 use Rattle.lg_script.specs.Bounds.{IsSentence}
-use Rattle.lg_script.specs.Codes.{AreScripts}
-use Rattle.lg_script.specs.Commands.{CommandView, goes_on, is_edit, script_views}
-use Rattle.lg_script.specs.Histories.{numbered, command_at, AreInTime, IsPublishedAt, IsRefusedAt, Precedes, reply_version, fresh}
-use Rattle.lg_audit.specs.Lines.{ShownPage, ShownReply, published, refused, line}
-use Rattle.lg_audit.specs.Replies.{Basis, Held, Hold, ReplyHolds, IsPageOf, dictionary_at, outline}
+use Rattle.lg_script.specs.Commands.{CommandView}
+use Rattle.lg_script.specs.Histories.{numbered, AreInTime, fresh}
+use Rattle.lg_audit.specs.Lines.{ShownPage, ShownReply}
+use Rattle.lg_audit.specs.Replies.{Basis, Held, Hold, ReplyHolds, IsPageOf, outline}
 use Rattle.lg_audit.specs.Grounds.{IsDated}
 use Rattle.lg_audit.specs.Rising.{Rises, named_after, IsNamed}
 use Rattle.lg_audit.specs.declared.dated.Dated.{Dated}

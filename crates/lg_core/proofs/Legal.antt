@@ -19,7 +19,7 @@ use Rattle.lg_core.specs.declared.state.Core.{Core}
 use Rattle.lg_script.specs.Codes.{place_of, places_of}
 use Rattle.lg_core.specs.Core.{journal_of, with_actor, next_place, note_of}
 use Rattle.lg_core.specs.Lawful as law
-use Rattle.lg_core.specs.Lawful.{notes_of, noted, is_published, is_listing, is_paged, is_fresh, rises, Precedes, Leaves, Says, IsRight, IsLegalCore}
+use Rattle.lg_core.specs.Lawful.{notes_of, noted, is_published, is_fresh, rises, Precedes, Says, IsRight, IsLegalCore}
 use Rattle.lg_core.proofs.Notes.{split_last, all_at, pairs_push, own_more, others_same, Holds}
 
 -- ---- versions as the history grows

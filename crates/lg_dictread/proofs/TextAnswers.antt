@@ -19,7 +19,7 @@ use Rattle.lg_dictread.specs.Scanning as scanning
 use Rattle.lg_dictread.specs.Lines.{part_left, line_of, entry_line}
 use Rattle.lg_dictread.specs.Definitions.{Defined, ItemsAnswer, define, refuse_items, ItemsGive}
 use Rattle.lg_dictread.specs.Texts as texts
-use Rattle.lg_dictread.specs.Texts.{Earlier, nothing, rules_after, Meaning, meaning_of, then_entry, IsSmall, IsLarge, IsErrorOf, EntryOutcome, means, fails, EntryGives, whole, at_fault, large, at_items, TextAnswer, stands, refuse, with_meaning, TextIs, ended}
+use Rattle.lg_dictread.specs.Texts.{Earlier, rules_after, Meaning, meaning_of, then_entry, IsSmall, IsLarge, IsErrorOf, EntryOutcome, means, fails, EntryGives, whole, at_fault, large, at_items, TextAnswer, stands, refuse, with_meaning, TextIs, ended}
 use Rattle.lg_dictread.specs.Findings.{Asked, AreIn}
 use Rattle.lg_dictread.proofs.Found.{in_then}
 use Rattle.lg_dictread.proofs.ItemAnswers.{Laws, Agree, agree_left, agree_right, agree_rest, one_items, SomeItems, some_items}

@@ -1,5 +1,5 @@
 -- The linkage that numbers stand for.
-use Rattle.std.proofs.Common.{◌≡◌, ℕ, List, [], length, get_or, Option, None, inl, inr, refl, sym, ◌∙◌, subst, arith}
+use Rattle.std.proofs.Common.{◌≡◌, ℕ, List, [], length, get_or, Option, None, inl, inr, sym, ◌∙◌, subst, arith}
 use Rattle.std.proofs.lemmas.Bool.{cases_lt}
 use Rattle.std.proofs.lemmas.List.{get_or_past}
 use Rattle.lg_gram.specs.Linkages.{Linkage}

@@ -19,7 +19,7 @@ use Rattle.lg_text.specs.declared.look.Look.{Look}
 use Rattle.lg_usage.specs.Totals.{Totals, usage_line, usage_text}
 use Rattle.lg_audit.specs.Audits.{JournalHolds, Holds, IsPlaceOf}
 use Rattle.lg_audit.specs.ShownAnswers.{Unread, unread_by, counted_if, shown_document, AnswersHaveLines}
-use Rattle.lg_run.specs.Audits.{HasHeld, DocumentsHold}
+use Rattle.lg_run.specs.Audits.{DocumentsHold}
 use Rattle.lg_run.specs.Documents.{all_first_linkages, AreUsageLines, IsOutcome}
 use Rattle.lg_run.specs.Shown.{IsRunOf}
 use Rattle.lg_run.specs.Words.{Run, TaskIs, run, OptionsAre, Known, GivesNumber, value_of}

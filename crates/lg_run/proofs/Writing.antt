@@ -1,6 +1,6 @@
 -- What is written piece by piece: the pieces so far, and what is left.
-use Rattle.std.proofs.Common.{◌≡◌, ℕ, ◌+◌, ◌<◌, ◌≤◌, List, [], ◌∷◌, ◌++◌, map, Option, length, take, drop, get_or, refl, sym, ◌∙◌, ap, subst, add-one, append_assoc, OnOk, OnErr}
-use Rattle.std.proofs.Common.{◌⊎◌, inl, inr, zero, suc}
+use Rattle.std.proofs.Common.{◌≡◌, ℕ, ◌+◌, ◌<◌, ◌≤◌, List, [], ◌∷◌, ◌++◌, Option, length, take, drop, get_or, refl, sym, ◌∙◌, ap, subst, add-one, append_assoc, OnOk, OnErr}
+use Rattle.std.proofs.Common.{inr, zero, suc}
 use Rattle.std.proofs.lemmas.List.{append-nil}
 use Rattle.std.specs.declared.result.Result.{Result}
 use Rattle.std.specs.declared.vec.Vec.{Vec}

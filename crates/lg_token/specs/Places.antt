@@ -6,7 +6,6 @@ use Rattle.lg_token.specs.declared.place.Kind.{Kind}
 use Rattle.lg_token.specs.declared.place.Kind.TheVariants.{Wall, Piece}
 use Rattle.lg_token.specs.declared.place.Place.{Place}
 use Rattle.lg_token.specs.Words.{AreTokenWords}
-use Rattle.lg_token.specs.Tokens.{AreTokens}
 use Rattle.lg_token.specs.Bounds.{CHOICES_COUNTED, all_choices}
 
 -- the words of a token of this text
