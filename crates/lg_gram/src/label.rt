@@ -54,8 +54,9 @@ impl PartialEq for Label {
 
     ghost laws = { partial_equiv_from_equiv (Prim.search (comparing, rules) depth 9) };
 
+    // Zeros stand behind the letters, so that equal names are kept in equal bytes.
     fn eq(&self, other: &Label) -> bool {
-        self.caps() == other.caps() && self.subs() == other.subs()
+        self.caps_len == other.caps_len && self.len == other.len && self.letters == other.letters
     }
 }
 

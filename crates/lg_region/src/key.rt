@@ -31,8 +31,8 @@ pub enum Key {
     },
 }
 
-// Keys are looked up all the time, so each gives the hasher one number. Positions and numbers of unlinked words are small, and lists
-// are far fewer than 2^32, so that two keys of one problem give two numbers.
+// Keys are looked up all the time, so each gives the hasher one number. Positions and numbers of unlinked words are below 2^8, and most
+// problems have fewer than 2^20 lists, so that two keys of one problem give two numbers.
 impl Hash for Key {
     ghost use Rattle.lg_region.specs.Hashed.{input_of};
 
@@ -50,9 +50,9 @@ impl Hash for Key {
                 rlist,
                 nulls,
             } => {
-                let ends = (left as u128) << 96 | ((right as u128) << 80 | (nulls as u128) << 64);
-                let lists = (llist as u128) << 32 | rlist as u128;
-                state.write_u128(ends | lists);
+                let ends = (left as u64) << 56 | ((right as u64) << 48 | (nulls as u64) << 40);
+                let lists = (llist as u64) << 20 | rlist as u64;
+                state.write_u64(ends | lists);
             }
         }
     }

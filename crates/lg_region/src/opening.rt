@@ -18,15 +18,33 @@ use lg_base::NoMemory;
 use lg_gram::Connector;
 use smallvec::SmallVec;
 use std::alloc::Global;
+use std::hash::{Hash, Hasher};
 
 /// How regions begin that begin alike: the left end, the number of its list, and how many words are unlinked to the left of the
 /// word that cuts them. Where that list is empty, the last connector of the right list tells the disjuncts that can cut them.
-#[derive(Clone, Copy, Debug, PartialEq, Eq, Hash)]
+#[derive(Clone, Copy, Debug, PartialEq, Eq)]
 pub struct Origin {
     pub left: u32,
     pub llist: u32,
     pub nulls: u32,
     pub last: Option<Connector>,
+}
+
+// The three numbers are given to the hasher as one, as those of a key are.
+impl Hash for Origin {
+    ghost use Rattle.std.specs.Cmp.Rules.{comparing, hashing};
+    ghost use Rattle.std.proofs.Common.{rules};
+    ghost use Rattle.lg_region.specs.Hashed.{input_of_origin};
+
+    ghost hash_input = { input_of_origin };
+
+    ghost respects_eq = { Prim.search (hashing, rules) };
+
+    fn hash<H: Hasher>(&self, state: &mut H) {
+        let ends = (self.left as u64) << 56 | (self.nulls as u64) << 40;
+        state.write_u64(ends | self.llist as u64);
+        self.last.hash(state);
+    }
 }
 
 /// How the alternatives of a group begin that have one left key: how the two left lists go on, and how many words are unlinked on
