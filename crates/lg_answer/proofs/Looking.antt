@@ -73,8 +73,6 @@ pub looked_at_all : (know : Knowledge) (c : Course) (front : List Linkage) (from
     → AreLookedAt know front from want examine items → passed items < want → length items < examine → HasLooked know c from want examine items true
 looked_at_all know c front from want examine items last old wanted unseen = record { front = front; come = last.0; looked = old; stops = (wanted, unseen, last.1) }
 
-}
-
 -- a page is at its end where it stopped for no other reason
 page_is : (know : Knowledge) (course : Course) (from want examine : ℕ) (items : List PageItem) (end : Bool) → HasLooked know course from want examine items end
     → IsPage course.problem know course.nulls from want examine (record { items = items; next = from + length items + 1; end = end })

@@ -151,5 +151,3 @@ module _ (nulls : ℕ) (ranked : List (List Disjunct)) where
       let of_wide = UnderWhole (wide_of wide ranked) nulls in
       let is = next (front_of linkage_cmp of_wide (UnderWhole ranked nulls) gs (λ v. (same v).0) (λ v. (same v).1) front) in
       (is.0, next_of_wide wide stands gs is.0 (λ here. is.1) front, is.2)
-
-}

@@ -88,8 +88,6 @@ module _ (dict : Dictionary) where
       (listed_begin (BeginsAbove 90) ((b + 32) ∷ bs) ys ay (λ rest. (b + 32, bs ++ rest, refl, omega (arith, range))))
       ax.rise ay.rise
 
-  }
-
   pub begun_joined : {E : Type 0} (initial : Bool) (text small : List ℕ) (xs ys : List (List ℕ)) (r : Result (List (List ℕ)) E) → initial ≡ true → is_capitalized text ≡ true → small ≡ lowered text
       → AreCompoundsOf dict text xs → AreCompoundsOf dict small ys → IfOk r (λ texts. texts ≡ xs ++ ys) → IfOk r (AreWords (IsBegun dict initial text))
   begun_joined initial text small xs ys (Err e) first capital small_is ax ay is = tt

@@ -43,8 +43,6 @@ before_same c k p apart =
     apart_more : (k p : ℕ) → k ≤ p → (p ≡ k → ⊥) → k < p
     apart_more k p more apart = elim (cases_lt k p) [ inl less ↦ less | inr least ↦ absurd (apart (omega (arith, more, least))) ]
 
-}
-
 module _ (c : Chain) (k : ℕ) (old mid : List (List WordTree)) (row : List WordTree) (from : c.start ≤ k) (low : k < length mid) (at_k : slice_get mid k ≡ Some row) (has : HasAdded c k old mid) where
   abbrev next : List (List WordTree)
   next = set mid k (row ++ added_by k c ∷ [])

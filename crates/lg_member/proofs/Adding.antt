@@ -87,5 +87,3 @@ members_more positions k ds l r l' r' now new h e a s =
       known = subst (λ z. All (IsKnown l' r') z) (sym a.added)
           (All-append (IsKnown l' r') now a.more (All-weaker (IsKnown l r) (IsKnown l' r') (known_grown l r l' r' a.left a.right) now s.known) a.known);
     }
-
-}

@@ -10,8 +10,6 @@ use Rattle.lg_member.specs.Members.{list_on, side_on, IsSideAt, IsKnown, AreUsed
 use Rattle.lg_member.specs.declared.side.Side.{Side}
 use Rattle.lg_member.specs.declared.member.Member.{Member}
 
-}
-
 taken : (ms : List Member) (i : ℕ) (m : Member) → i < length ms → m ≡ get_or ms i m → take i ms ++ m ∷ [] ≡ take (i + 1) ms
 taken ms i m h e = subst (λ z. take i ms ++ z ∷ [] ≡ take (i + 1) ms) (sym e) (sym (take_more ms i m h))
 

@@ -56,8 +56,6 @@ module _ (leasts : List ℕ) (flags : List Bool) (heads : AreHeads leasts) where
     earlier = λ k less alike. let h = least k (omega arith) (alike.0, λ same. here.1 (sym alike.1 ∙ same)) in omega arith;
   }
 
-  }
-
   -- n has the flag of its least number
   pub others_stay : (n : ℕ) (others : List ℕ) → get_or flags n false ≡ get_or flags (get_or leasts n 0) false → AreFirstOthers leasts flags n others → AreFirstOthers leasts flags (n + 1) others
   others_stay n others same first h within =

@@ -122,7 +122,6 @@ merged_passed s {R} view n lefts rights rows m none = record {
 }
 
 -- ---- the lists of the code
-}
 
 -- ---- rows seen in another way
 -- What is said of the rows depends on what is seen of the rows that there are. So rows may hold places alone, and be seen with the values that stand there.

@@ -11,8 +11,6 @@ use Rattle.lg_region.specs.Chains.{class_of_caps, class_at, class_of, list_on, I
 use Rattle.lg_region.specs.declared.key.Joint.{Joint}
 use Rattle.lg_region.specs.declared.chains.Side.{Side}
 
-}
-
 next_here : (side : Side) (ds : List Disjunct) (n : ℕ) (d : Disjunct) → slice_get ds n ≡ Some d → IsNext side ds (class_of (list_on side d)) n n
 next_here side ds n d at =
     let w = slice_get_within ds n d at in

@@ -20,8 +20,6 @@ far_lower sites r n le (inr (p, s, at, x)) = inr (p, s, at, omega arith)
 pub far_is : (sites : List Site) (p : ℕ) (s : Site) → slice_get sites p ≡ Some s → IsFar sites s.span.from
 far_is sites p s at = inr (p, s, at, omega arith)
 
-}
-
 pub lowers_none : (k x : ℕ) (needs : List ℕ) → length needs ≤ k → LowersAt k x needs needs
 lowers_none k x needs h = record { lower = λ j. omega arith; noted = let none = past needs k 0 h in omega arith }
 

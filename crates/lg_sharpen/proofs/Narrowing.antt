@@ -235,8 +235,6 @@ end_before sites p s t r at atq le d x atx high after =
     let lx = ap (λ z. z.span.end) ex in
     le d (omega arith) (after t atq)
 
-}
-
 pub behind_next : (sites : List Site) (p : ℕ) (t : Site) → slice_get sites (p + 1) ≡ Some t → IsBehindOf sites p t.span.end
 behind_next sites p t at = record {
   last = λ x atx w. let inside = slice_get_within sites (p + 1) t at in absurd (omega arith);

@@ -18,8 +18,6 @@ pub record LoweredTo (place end : ℕ) (old new : List ℕ) : Type 0 where
   pub lower : (a : ℕ) → get_or new a 0 ≤ get_or old a 0
   pub noted : (a : ℕ) → a < place → get_or new a 0 ≤ end
 
-}
-
 above : (n a m : ℕ) → n ≤ a → (a ≡ n → ⊥) → m ≡ n + 1 → m ≤ a
 above n a m h d e = elim (cases_lt n a) [ inl l ↦ omega arith | inr l ↦ absurd (d (omega arith)) ]
 
@@ -27,8 +25,6 @@ pub past : {A : Type 0} (xs : List A) (a : ℕ) (d : A) → length xs ≤ a → 
 past {A} [] a d h = refl
 past {A} (x ∷ xs) zero d h = absurd (omega arith)
 past {A} (x ∷ xs) (suc a) d h = past xs a d (omega arith)
-
-}
 
 -- a row is lowered
 pub noted_row : (i left right count end : ℕ) (rows : List (Vec ℕ)) (v w : Vec ℕ) → i < length rows → v ≡ get_or rows i v → IsLowered count end (get_or rows i v).items w.items → i - left < count
@@ -101,8 +97,6 @@ added {A} xs x d P old new a =
 pub record SpanRowTo (right : Bool) (most : ℕ) (rows : List (List ℕ)) (i k : ℕ) (flags : List Bool) : Type 0 where
   pub long : length flags ≡ k
   pub each : IsSpanRow right most rows i flags
-
-})
 
 -- the rows of flags
 pub record SpansTo (right : Bool) (most : ℕ) (rows : List (List ℕ)) (k : ℕ) (flags : List (List Bool)) : Type 0 where

@@ -81,8 +81,6 @@ module _ (links : List Link) (n i : ℕ) (heights : List ℕ) (lt : i < length l
         ];
       }
 
-}
-
 -- all heights are known
 pub all_known : (links : List Link) (n : ℕ) (heights : List ℕ) → All (λ l. link_length l < n) links → AreKnown links n heights → heights ≡ map (height links) links
 all_known links n heights short known =
