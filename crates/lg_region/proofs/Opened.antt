@@ -4,7 +4,7 @@ use Rattle.lg_region.specs.Fronts.{AreListsOf, Numbering}
 use Rattle.lg_region.specs.Keys.{IsAltOfRegion}
 use Rattle.lg_region.specs.Ways.{AreExactly, IsWayOf}
 use Rattle.lg_region.specs.Groups.{region_of_gap, IsGroup, IsRightOf, Leads, StandsIn, split_of}
-use Rattle.lg_region.specs.Openings.{AreBeginnings, BeginsSo, HasRight, HasRoomFor, IsIn, LeavesLeft, begins_at}
+use Rattle.lg_region.specs.Openings.{AreBeginnings, BeginsSo, HasEnds, HasRight, HasRoomFor, IsIn, LeavesLeft, begins_at}
 use Rattle.lg_region.specs.declared.key.Key.TheVariants.{Whole, Region as Between}
 use Rattle.lg_region.specs.declared.alternative.Alt.{Alt}
 use Rattle.lg_region.specs.declared.alternative.Alt.TheVariants.{AllNull, Split as At}
@@ -73,6 +73,23 @@ module _ (n : Numbering) (gap : Gap) (g : Group) where
         let q = alt_made n.positions n.lists gap g may a is m are known led i s in
         let e = parts b q.0 q.2.0 q.2.1 (subst (λ z. BeginsSo gap g b z) (sym q.2.4) h) in
         ends_of b rights (subst (λ z. IsWayOf n.lists gap.llist g.left may z) e.1 q.2.2) (subst (λ z. HasRoom gap g.word z) e.0 q.1) r
+
+    -- what they end with
+    pub ends_from : (b : Beginning) → (a : Alt) × IsIn n gap g a × BeginsSo gap g b a → HasEnds n gap g b
+    ends_from b (a, (i, s), h) =
+        let q = alt_made n.positions n.lists gap g may a is m are known led i s in
+        let e = parts b q.0 q.2.0 q.2.1 (subst (λ z. BeginsSo gap g b z) (sym q.2.4) h) in
+        let room = subst (λ z. HasRoom gap g.word z) e.0 q.1 in
+        let way = subst (λ z. IsWayOf n.lists gap.llist g.left may z) e.1 q.2.2 in
+        record {
+          few = room.0;
+          made = λ r of. made_is n.positions n.lists gap g may b.nulls b.way r is m are known room way of;
+          some = λ c (j, t) k.
+              let p = alt_made n.positions n.lists gap g may c is m are known led j t in
+              let f = parts b p.0 p.2.0 p.2.1 (subst (λ z. BeginsSo gap g b z) (sym p.2.4) k) in
+              (p.2.1, p.2.3, (λ i. split_of gap g.word (sym f.0 i) (sym f.1 i) p.2.1) ∙ p.2.4);
+          apart = λ r t same. (split_parts gap g.word b.nulls b.nulls b.way b.way r t same).2;
+        }
 
     pub begins_are : (lefts : List Way) (nulls : ℕ) → AreExactly lefts (IsWayOf n.lists gap.llist g.left may) → HasRight n gap g → HasRoomFor gap g.word nulls → AreBeginnings n gap g nulls (map (begins_at nulls) lefts)
     begins_are lefts nulls x right room =

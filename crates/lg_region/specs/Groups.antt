@@ -10,6 +10,7 @@ use Rattle.lg_region.specs.Keys.{region_of_numbers, IsAltOfRegion, IsAltOfWhole,
 use Rattle.lg_region.specs.Chains.{class_of, list_on, IsNext}
 use Rattle.lg_region.specs.Ways.{AddsExactly}
 use Rattle.lg_region.specs.declared.chains.Side.TheVariants.{Left, Right}
+use Rattle.lg_region.specs.declared.key.Key.{Key}
 use Rattle.lg_region.specs.declared.key.Key.TheVariants.{Region as Between}
 use Rattle.lg_region.specs.declared.alternative.Alt.{Alt}
 use Rattle.lg_region.specs.declared.alternative.Alt.TheVariants.{AllNull, Split as At}
@@ -73,6 +74,10 @@ pub record IsRightOf (numbers : Numbering) (gap : Gap) (group : Group) (r : OnRi
   pub led : (d : Disjunct) → IsDisjunctAt numbers.positions group.word r.disjunct d → IsLed gap.lead d
   pub cut : (d : Disjunct) → IsDisjunctAt numbers.positions group.word r.disjunct d → IsCutAt r.way.joint d.right (list_of numbers.lists gap.rlist) (list_of numbers.lists r.way.near) (list_of numbers.lists r.way.far)
   pub joined : gap.llist ≡ 0 → IsSome r.way.joint
+
+-- the right key of an alternative with this disjunct and way on, which leaves so many words unlinked behind its word
+abbrev pub key_behind : Gap → Group → ℕ → OnRight → Key
+key_behind gap g nulls r = Between g.word gap.right r.way.near r.way.far nulls
 
 abbrev pub right_of : ℕ → Way → OnRight
 right_of number way = record { disjunct = number; way = way }

@@ -1,9 +1,9 @@
 -- How the alternatives of a region begin: by groups of disjuncts, and in a group by the left joint and the left key.
 use Rattle.std.specs.Prelude.{◌≡◌, ◌≢◌, ℕ, suc, ◌-◌, ◌<◌, ◌≤◌, List, ◌++◌, length, Some, slice_get}
 use Rattle.std.specs.List.{Contains}
-use Rattle.lg_region.specs.Fronts.{Numbering, AreOnce}
+use Rattle.lg_region.specs.Fronts.{AreListsOf, Numbering, AreOnce}
 use Rattle.lg_region.specs.Keys.{IsAltOfRegion}
-use Rattle.lg_region.specs.Groups.{region_of_gap, IsGroup, IsKnownGap, IsRightOf, StandsIn, left_lead, right_lead}
+use Rattle.lg_region.specs.Groups.{region_of_gap, split_of, IsGroup, IsKnownGap, IsRightOf, StandsIn, left_lead, right_lead}
 use Rattle.lg_region.specs.declared.key.Key.{Key}
 use Rattle.lg_region.specs.declared.key.Key.TheVariants.{Region as Between}
 use Rattle.lg_region.specs.declared.alternative.Alt.{Alt}
@@ -76,3 +76,19 @@ pub record AreBeginnings (n : Numbering) (gap : Gap) (g : Group) (nulls : ℕ) (
   pub each : (b : Beginning) → Contains bs b → (a : Alt) × IsIn n gap g a × BeginsSo gap g b a
   pub level : (b : Beginning) → Contains bs b → b.nulls ≡ nulls
   pub once : AreOnce bs
+
+-- the alternative of a group that begins so and goes on with a disjunct
+abbrev pub ended : Gap → Group → Beginning → Right → Alt
+ended gap g b = split_of gap g.word b.nulls b.way
+
+-- The alternatives that stand in a group and begin so are those with a disjunct of the group, each of which makes another.
+pub record HasEnds (n : Numbering) (gap : Gap) (g : Group) (b : Beginning) : Type 0 where
+  pub few : b.nulls ≤ gap.nulls
+  pub made : (r : Right) → IsRightOf n gap g r → IsIn n gap g (ended gap g b r)
+  pub some : (a : Alt) → IsIn n gap g a → BeginsSo gap g b a → (r : Right) × IsRightOf n gap g r × (ended gap g b r ≡ a)
+  pub apart : (r s : Right) → ended gap g b r ≡ ended gap g b s → r ≡ s
+
+-- it is so wherever some alternative of the group begins so
+abbrev pub AlternativesEnd : Type 0
+AlternativesEnd = (n : Numbering) (gap : Gap) (g : Group) (b : Beginning) → AreListsOf n.positions n.lists → IsKnownGap n gap → IsGroup n gap g
+    → (a : Alt) × IsIn n gap g a × BeginsSo gap g b a → HasEnds n gap g b

@@ -1,7 +1,7 @@
 //! The alternatives of a region that cut it at one word, by disjuncts with the same left list.
 ghost use Rattle.std.specs.Prelude.{◌≡◌, ◌≤◌, ◌++◌, map, IfOk, OnOk};
 ghost use Rattle.lg_region.specs.Ways.{AreExactly, KeepsFront};
-ghost use Rattle.lg_region.specs.Groups.{AddsIn, IsGroup, IsKnownGap, IsRightOf, right_of, split_of, splits_with};
+ghost use Rattle.lg_region.specs.Groups.{key_behind, AddsIn, IsGroup, IsKnownGap, IsRightOf, right_of, split_of, splits_with};
 
 use crate::alternative::Alt;
 use crate::chains::Side;
@@ -41,9 +41,25 @@ pub struct Group {
 
 /// A disjunct of a word by its number, and how its right list goes on.
 #[derive(Clone, Copy, Debug)]
-pub(crate) struct Right {
-    pub(crate) disjunct: u32,
-    pub(crate) way: Way,
+pub struct Right {
+    pub disjunct: u32,
+    pub way: Way,
+}
+
+impl Right {
+    /// The right key of an alternative that cuts the region at the word of the group with this disjunct, and leaves so many words
+    /// unlinked behind that word.
+    pub fn key(&self, gap: &Gap, group: &Group, nulls: u32) -> Key
+        ensures { result ≡ key_behind gap.now group.now nulls self.now }
+    {
+        Key::Region {
+            left: group.word,
+            right: gap.right,
+            llist: self.way.near,
+            rlist: self.way.far,
+            nulls,
+        }
+    }
 }
 
 /// Adds the alternatives of a region that cut it at the word of a group with one of its disjuncts. Those with the same left
@@ -74,8 +90,9 @@ pub(crate) fn push_group(
     Ok(())
 }
 
-// The disjuncts of the group that can cut the region, with each way on of their right lists.
-pub(crate) fn rights(
+/// The disjuncts of the group that can cut the region, with each way on of their right lists. They are the same for each region that
+/// ends here with the same list and looks for the same class of disjuncts.
+pub fn rights(
     alloc: Global,
     lists: &Lists<'_>,
     gap: &Gap,

@@ -4,6 +4,7 @@ ghost use Rattle.lg_gram.specs.Connectors.{Connector};
 ghost use Rattle.lg_gram.specs.declared.disjunct.Disjunct.{Disjunct};
 ghost use Rattle.lg_region.specs.Fronts.{AreListsOf};
 ghost use Rattle.lg_region.specs.Alike.{RegionsBeginAlike};
+ghost use Rattle.lg_region.specs.Openings.{AlternativesEnd};
 ghost use Rattle.lg_region.specs.Laws.{RegionsAreCutOnce, SentencesAreCutOnce, CutsAreValid, AlternativesDecide, WholeAlternativesDecide, PartsMakeLinkages, NumbersTellListsApart, AlternativesAreSmall};
 
 /// Every linkage under a region is spelled by exactly one alternative of the region, and an alternative spells only linkages
@@ -51,4 +52,10 @@ pub fn alternatives_are_small()
 /// other has one with the same word, disjunct, left joint and left key.
 pub fn regions_begin_alike()
     ensures { RegionsBeginAlike }
+{}
+
+/// The alternatives of a group that begin alike are told apart by their disjunct and how its right list goes on, and each disjunct of
+/// the group makes one.
+pub fn alternatives_end()
+    ensures { AlternativesEnd }
 {}

@@ -18,13 +18,15 @@ pub mod ways;
 
 pub use alternative::{Alt, Alts};
 pub use expand::expand_key;
-pub use group::{Gap, Group};
+pub use group::{Gap, Group, Right, rights};
 pub use key::{Joint, Key};
 pub use law::{
-    alternatives_are_small, alternatives_decide, cuts_are_valid, numbers_tell_lists_apart,
-    parts_make_linkages, regions_are_cut_once, regions_begin_alike, sentences_are_cut_once,
+    alternatives_are_small, alternatives_decide, alternatives_end, cuts_are_valid,
+    numbers_tell_lists_apart, parts_make_linkages, regions_are_cut_once, regions_begin_alike,
+    sentences_are_cut_once,
 };
 pub use lists::Lists;
 pub use opening::{
-    Beginning, Beginnings, Origin, beginnings, end_with, gap_of, groups_at, origin_of, push_endings,
+    Beginning, Beginnings, Origin, beginnings, end_with, gap_of, groups_at, origin_of, push_ended,
+    push_endings,
 };

@@ -2,7 +2,7 @@
 ghost use Rattle.std.specs.Prelude.{◌≡◌, ◌≢◌, ◌+◌, ◌++◌, ◌<◌, ◌≤◌, ◌↔◌, [], length, map, slice_index_or, IfNone, IfOk, IfSome, IsTrue, OnOk};
 ghost use Rattle.lg_region.specs.Alike.{BeginsWith, end_of, last_of};
 ghost use Rattle.lg_region.specs.Fronts.{list_of};
-ghost use Rattle.lg_region.specs.Openings.{AreBeginnings, BeginsSo, GroupsOfWord, HasRight, HasRoomFor, IsGapOf, begins_at, left_of};
+ghost use Rattle.lg_region.specs.Openings.{AreBeginnings, BeginsSo, GroupsOfWord, HasRight, HasRoomFor, IsGapOf, begins_at, ended, left_of};
 ghost use Rattle.lg_region.specs.Groups.{IsGroup, IsKnownGap, StandsIn, region_of_gap};
 ghost use Rattle.lg_region.specs.Keys.{IsAltOfRegion, IsValidKey};
 ghost use Rattle.lg_region.specs.declared.group.Gap.{Gap as SeenGap};
@@ -10,7 +10,7 @@ ghost use Rattle.lg_region.specs.Ways.{AddsExactly, KeepsFront};
 
 use crate::alternative::Alt;
 use crate::expand::{group_at, lead_of};
-use crate::group::{Gap, Group, push_with_left, rights};
+use crate::group::{Gap, Group, Right, push_with_left, rights};
 use crate::key::Key;
 use crate::lists::Lists;
 use crate::ways::{Way, has_way, ways_between};
@@ -268,4 +268,19 @@ pub fn push_endings(
     lists.are_numbered();
     let rights = rights(alloc, lists, gap, group)?;
     push_with_left(gap, group.word, begin.nulls, &begin.way, &rights, out)
+}
+
+/// Adds the alternatives of a group that begin so and go on with these disjuncts. The only error is running out of memory: what the
+/// list had stands in front still, and some that were added may stand behind it.
+pub fn push_ended(
+    gap: &Gap,
+    group: &Group,
+    begin: &Beginning,
+    rights: &[Right],
+    out: &mut Vec<Alt>,
+) -> Result<(), NoMemory>
+    requires { begin.now.nulls ≤ gap.now.nulls }
+    ensures { OnOk result (out.new.items ≡ out.old.items ++ map (ended gap.now group.now begin.now) rights.now) }
+{
+    push_with_left(gap, group.word, begin.nulls, &begin.way, rights, out)
 }
