@@ -5,4 +5,4 @@ use Rattle.lg_region.specs.Hashed.{raised}
 use Rattle.lg_fewest.specs.declared.span.Span.{Span}
 
 abbrev pub input_of : Span → List (List ℕ)
-input_of s = fed.u128 (bit_or (bit_or (raised s.left 96) (raised s.right 64)) (bit_or (raised s.llist 32) s.rlist))
+input_of s = fed.u64 (bit_or (bit_or (raised s.left 56) (raised s.right 48)) (bit_or (raised s.llist 24) s.rlist))

@@ -26,9 +26,9 @@ impl Hash for Span {
     ghost respects_eq = { Prim.search (hashing, rules) };
 
     fn hash<H: Hasher>(&self, state: &mut H) {
-        let ends = (self.left as u128) << 96 | (self.right as u128) << 64;
-        let lists = (self.llist as u128) << 32 | self.rlist as u128;
-        state.write_u128(ends | lists);
+        let ends = (self.left as u64) << 56 | (self.right as u64) << 48;
+        let lists = (self.llist as u64) << 24 | self.rlist as u64;
+        state.write_u64(ends | lists);
     }
 }
 

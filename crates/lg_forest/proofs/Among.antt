@@ -137,10 +137,6 @@ module _ (n : Numbering) (key : Key) (P Q : Alt → Type 0) (e : (a : Alt) → I
   pub asked_same : (old new : List (Key × List Alt)) → Asked n (AsksAmong n key P) old new → Asked n (AsksAmong n key Q) old new
   asked_same old new x = asked_as n (AsksAmong n key P) (AsksAmong n key Q) old new (λ k (a, is, p, asks). (a, is, (e a is).0 p, asks)) (λ k (a, is, q, asks). (a, is, (e a is).1 q, asks)) x
 
--- a left key, and what the first alternatives of a list ask for
-abbrev pub AsksFor : Numbering → Key → List Alt → ℕ → Key → Type 0
-AsksFor n lkey alts i k = (k ≡ lkey) ⊎ ((a : Alt) × Among (λ (x : Alt) (y : Alt). x ≡ y) alts i a × AsksOf n a k)
-
 -- ---- beginnings
 
 pub ending_left : (gap : Gap) (g : Group) (b : Beginning) (a : Alt) → BeginsSo gap g b a → left_key a ≡ Some (left_of gap g b)
@@ -189,68 +185,36 @@ module _ (n : Numbering) (key : Key) (gap : Gap) (g : Group) (b : Beginning) (lk
       only a' _ h' (asks_left k q) = let two : ◌≡◌ {A = Option Key} (Some k) (Some lkey) = sym q ∙ left_is a' h' in cc
       only a' _ h' (asks_right k q l) = absurd (dead (subst (λ z. IfSome z (HasLinkageUnder n.positions n.lists)) (left_is a' h') l))
 
-  module _ (alts : List Alt) where
-    pub first_asked : (old new : List (Key × List Alt)) → Asked n (λ k. k ≡ lkey) old new → Asked n (AsksFor n (left_of gap g b) alts 0) old new
-    first_asked old new x = asked_as n (λ k. k ≡ lkey) (AsksFor n (left_of gap g b) alts 0) old new (λ k q. inl (q ∙ e)) (λ k h. elim h [ inl q ↦ q ∙ sym e | inr (a, (j, y, l, at, r), o) ↦ absurd (omega arith) ]) x
-
-    pub next_asked : (i next : ℕ) (a : Alt) (old mid new : List (Key × List Alt)) → next ≡ suc i → slice_get alts i ≡ Some a → Asked n (AsksFor n lkey alts i) old mid → Asked n (AsksOf n a) mid new → Asked n (AsksFor n lkey alts next) old new
-    next_asked i next a old mid new q at x y =
-        let step = among_next (λ (u v : Alt). u ≡ v) alts i next a q at in
-        asked_then n (AsksFor n lkey alts i) (AsksOf n a) (AsksFor n lkey alts next) old mid new
-        (λ k h. elim h [ inl p ↦ inl p | inr (z, m, o) ↦ inr (z, (step z).1 (inl m), o) ])
-        (λ k o. inr (a, (step a).1 (inr refl), o))
-        (λ k h. elim h [ inl p ↦ inl (inl p) | inr (z, m, o) ↦ elim ((step z).0 m) [ inl m' ↦ inl (inr (z, m', o)) | inr same ↦ inr (subst (λ v. AsksOf n v k) (sym same) o) ] ])
-        x y
-
-    -- all of them were looked at
-    module _ (all : (a : Alt) → Contains alts a ↔ (IsAltOf n.positions n.lists key a × IsEnding gap g b a)) (i : ℕ) (end : length alts ≤ i) where
-      among_these : (a : Alt) → Among (λ (u v : Alt). u ≡ v) alts i a ↔ Contains alts a
-      among_these a = (λ (j, y, l, at, r). subst (λ z. Contains alts z) r (contains_at alts j y at), λ has. among_all (λ (u v : Alt). u ≡ v) alts i a a end has refl)
-
-      pub all_asked : (a : Alt) × IsIn n gap g a × BeginsSo gap g b a → (old new : List (Key × List Alt)) → Asked n (AsksFor n (left_of gap g b) alts i) old new → Asked n (AsksAmong n key (IsEnding gap g b)) old new
-      all_asked (a, i', h) old new x =
-          asked_as n (AsksFor n (left_of gap g b) alts i) (AsksAmong n key (IsEnding gap g b)) old new
-          (λ k q. elim q [
-            | inl p ↦ (a, alt_in n key gap a is i'.0, (i'.1, h), asks_left k (ending_left gap g b a h ∙ ap Some (sym p)))
-            | inr (z, m, o) ↦ (let t = (all z).0 ((among_these z).0 m) in (z, t.0, t.1, o))
-          ])
-          (λ k (z, alt, ending, o). inr (z, (among_these z).1 ((all z).1 (alt, ending)), o))
-          x
-
-      pub all_live : (old new : List Alt) → AddsExactly old new (λ a. IsLive n.positions n.lists a × Among (λ (u v : Alt). u ≡ v) alts i a) → AddsLive n key (IsEnding gap g b) old new
-      all_live old new x = adds_as old new (λ a. IsLive n.positions n.lists a × Among (λ (u v : Alt). u ≡ v) alts i a) (λ a. IsAltOf n.positions n.lists key a × IsEnding gap g b a × IsLive n.positions n.lists a)
-          (λ a. (λ (l, m). (let t = (all a).0 ((among_these a).0 m) in (t.0, t.1, l)), λ (alt, ending, l). (l, (among_these a).1 ((all a).1 (alt, ending)))))
-          x
-
 -- what was added to nothing
 pub from_none : {X : Type 0} (old new : List X) (P : X → Type 0) → old ≡ [] → AddsExactly old new P → AreExactly new P
 from_none old new P e x = subst (λ z. AreExactly z P) (sym (x.added ∙ ap (λ z. z ++ x.more) e)) x.exactly
 
-module _ (n : Numbering) (alts : List Alt) (i next : ℕ) (a : Alt) (q : next ≡ suc i) (at : slice_get alts i ≡ Some a) (once : AreOnce alts) where
-  abbrev Here : Alt → Type 0
-  Here z = IsLive n.positions n.lists z × Among (λ (u v : Alt). u ≡ v) alts i z
+-- those of the first of a list that have P, and one more
+module _ {X : Type 0} (P : X → Type 0) (xs : List X) (i next : ℕ) (x : X) (q : next ≡ suc i) (at : slice_get xs i ≡ Some x) (once : AreOnce xs) where
+  abbrev Here : X → Type 0
+  Here z = P z × Among (λ (u v : X). u ≡ v) xs i z
 
-  abbrev There : Alt → Type 0
-  There z = IsLive n.positions n.lists z × Among (λ (u v : Alt). u ≡ v) alts next z
+  abbrev There : X → Type 0
+  There z = P z × Among (λ (u v : X). u ≡ v) xs next z
 
-  pub live_kept : (old mid new : List Alt) → IsLive n.positions n.lists a → new ≡ mid ++ a ∷ [] → AddsExactly old mid (λ z. IsLive n.positions n.lists z × Among (λ (u v : Alt). u ≡ v) alts i z) → AddsExactly old new (λ z. IsLive n.positions n.lists z × Among (λ (u v : Alt). u ≡ v) alts next z)
-  live_kept old mid new l e x =
-      let step = among_next (λ (u v : Alt). u ≡ v) alts i next a q at in
-      adds_then old mid new Here (λ z. a ≡ z) There x (adds_one mid new a e)
+  pub one_kept : (old mid new : List X) → P x → new ≡ mid ++ x ∷ [] → AddsExactly old mid (λ z. P z × Among (λ (u v : X). u ≡ v) xs i z) → AddsExactly old new (λ z. P z × Among (λ (u v : X). u ≡ v) xs next z)
+  one_kept old mid new l e adds =
+      let step = among_next (λ (u v : X). u ≡ v) xs i next x q at in
+      adds_then old mid new Here (λ z. x ≡ z) There adds (adds_one mid new x e)
       (λ z (l', (j, y, lt, at', r)) same. let p = once j i y at' (at ∙ ap Some (same ∙ sym r)) in omega arith)
       (λ z. (
         λ (l', m). elim ((step z).0 m) [ inl m' ↦ inl (l', m') | inr same ↦ inr same ],
-        λ h. elim h [ inl (l', m) ↦ (l', (step z).1 (inl m)) | inr same ↦ (subst (IsLive n.positions n.lists) same l, (step z).1 (inr same)) ],
+        λ h. elim h [ inl (l', m) ↦ (l', (step z).1 (inl m)) | inr same ↦ (subst P same l, (step z).1 (inr same)) ],
       ))
 
-  pub live_dropped : (old mid : List Alt) → (IsLive n.positions n.lists a → ⊥) → AddsExactly old mid (λ z. IsLive n.positions n.lists z × Among (λ (u v : Alt). u ≡ v) alts i z) → AddsExactly old mid (λ z. IsLive n.positions n.lists z × Among (λ (u v : Alt). u ≡ v) alts next z)
-  live_dropped old mid dead x =
-      let step = among_next (λ (u v : Alt). u ≡ v) alts i next a q at in
+  pub one_dropped : (old mid : List X) → (P x → ⊥) → AddsExactly old mid (λ z. P z × Among (λ (u v : X). u ≡ v) xs i z) → AddsExactly old mid (λ z. P z × Among (λ (u v : X). u ≡ v) xs next z)
+  one_dropped old mid dead adds =
+      let step = among_next (λ (u v : X). u ≡ v) xs i next x q at in
       adds_as old mid Here There
       (λ z. (
         λ (l', m). (l', (step z).1 (inl m)),
-        λ (l', m). elim ((step z).0 m) [ inl m' ↦ (l', m') | inr same ↦ absurd (dead (subst (IsLive n.positions n.lists) (sym same) l')) ],
-      )) x
+        λ (l', m). elim ((step z).0 m) [ inl m' ↦ (l', m') | inr same ↦ absurd (dead (subst P (sym same) l')) ],
+      )) adds
 
 -- ---- groups
 
@@ -261,14 +225,6 @@ In g a = StandsIn g.word g.from g.to a
 
 pub at_of : {X : Type 0} (xs : List X) (i : ℕ) (x : X) → i < length xs → x ≡ get_or xs i x → slice_get xs i ≡ Some x
 at_of xs i x lt e = slice_get-get_or xs i x lt ∙ ap Some (sym e)
-
-pub ends_all : (n : Numbering) (key : Key) (gap : Gap) (g : Group) (b : Beginning) (alts : List Alt) → IsKeyOfGap key gap
-    → AreExactly alts (λ a. IsAltOfRegion n.positions n.lists (region_of_gap n.lists gap) a × StandsIn g.word g.from g.to a × BeginsSo gap g b a)
-    → (a : Alt) → Contains alts a ↔ (IsAltOf n.positions n.lists key a × IsEnding gap g b a)
-ends_all n key gap g b alts is are a = (
-  λ has. let t = (are.each a).0 has in (alt_in n key gap a is t.0, (t.1, t.2)),
-  λ (alt, h). (are.each a).1 (alt_out n key gap a is alt, h.0, h.1),
-)
 
 pub ok_any : {T E : Type 0} (r : Result T E) (Q : Type 0) → Q → OnOk r Q
 ok_any (Ok x) Q q = q

@@ -34,7 +34,7 @@ reach_in n es _ _ t (itself k) has = has
 reach_in n es _ _ t (onward k m p r a) has = t.closed m p (reach_in n es k m t r has) a
 
 -- a key that is asked for is narrower
-part_narrow : (n : Numbering) (o : Option Key) (k : Key) (w : ℕ) → IfSome o (IsValidKey n.positions n.lists) → part_bound n.positions o ≤ w → o ≡ Some k → IsValidKey n.positions n.lists k × (key_width n.positions k < w)
+pub part_narrow : (n : Numbering) (o : Option Key) (k : Key) (w : ℕ) → IfSome o (IsValidKey n.positions n.lists) → part_bound n.positions o ≤ w → o ≡ Some k → IsValidKey n.positions n.lists k × (key_width n.positions k < w)
 part_narrow n o k w v b e =
     let s = ap (part_bound n.positions) e in
     (subst (λ z. IfSome z (IsValidKey n.positions n.lists)) e v, omega arith)

@@ -16,6 +16,8 @@ pub mod SameLinkage
 mod Among
 pub mod Levels
 pub mod Opening
+pub mod Ending
 pub mod Starting
 pub mod Origins
+pub mod HalfKeys
 pub mod Going

@@ -5,7 +5,7 @@ use Rattle.std.proofs.lemmas.List.{take_all}
 use Rattle.std.proofs.lemmas.List.Elements.{Contains-push_cases}
 use Rattle.std.proofs.Math.Seq.{take-suc}
 use Rattle.std.specs.List.{filter, IsDistinct, AllByRecursion}
-use Rattle.std.proofs.lemmas.Option.{slice_get_within, get_or_from_slice_get, slice_get-get_or}
+use Rattle.std.proofs.lemmas.Option.{same_Some, slice_get_within, get_or_from_slice_get, slice_get-get_or}
 use Rattle.lg_region.specs.Fronts.{AreOnce}
 
 pub contains_here : {X : Type 0} (x : X) (xs : List X) → Contains (x ∷ xs) x
@@ -25,6 +25,18 @@ pub contains_map : {X Y : Type 0} (f : X → Y) (xs : List X) (x : X) → Contai
 contains_map f [] x h = absurd (contains_none x h)
 contains_map f (y ∷ xs) x (zero, l, e) = subst (λ z. Contains (map f (y ∷ xs)) (f z)) e (contains_here (f y) (map f xs))
 contains_map f (y ∷ xs) x (suc k, l, e) = contains_later (f y) (map f xs) (f x) (contains_map f xs x (k, omega arith, e))
+
+pub map_found : {X Y : Type 0} (f : X → Y) (xs : List X) (y : Y) → Contains (map f xs) y → (x : X) × Contains xs x × (f x ≡ y)
+map_found f [] y h = absurd (contains_none y h)
+map_found f (x ∷ xs) y h = elim (contains_cases (f x) (map f xs) y h) [ inl e ↦ (x, contains_here x xs, e) | inr t ↦ (let r = map_found f xs y t in (r.0, contains_later x xs r.0 r.1, r.2)) ]
+
+map_at : {X Y : Type 0} (f : X → Y) (xs : List X) (i : ℕ) (y : Y) → slice_get (map f xs) i ≡ Some y → (x : X) × (slice_get xs i ≡ Some x) × (f x ≡ y)
+map_at f [] i y e = absurd (let bad : ⊥ = cc in bad)
+map_at f (x ∷ xs) zero y e = (x, refl, same_Some (f x) y e)
+map_at f (x ∷ xs) (suc i) y e = map_at f xs i y e
+
+pub map_once : {X Y : Type 0} (f : X → Y) (xs : List X) → ((x y : X) → f x ≡ f y → x ≡ y) → AreOnce xs → AreOnce (map f xs)
+map_once f xs inj once i j y p q = let a = map_at f xs i y p in let b = map_at f xs j y q in once i j a.0 a.1 (b.1 ∙ ap Some (inj b.0 a.0 (b.2 ∙ sym a.2)))
 
 -- a key of a table stands beside a value
 pub contains_key : {X Y : Type 0} (es : List (X × Y)) (k : X) → Contains (map (λ (e : X × Y). e.0) es) k → (v : Y) × Contains es (k, v)

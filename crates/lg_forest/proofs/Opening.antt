@@ -29,6 +29,7 @@ use Rattle.lg_region.specs.declared.opening.Origin.{Origin}
 use Rattle.lg_forest.specs.declared.openings.Start.{Start}
 use Rattle.lg_forest.proofs.Asked.{asked_same, keys_later}
 use Rattle.lg_forest.proofs.Among.{append_cases, alt_in, alt_out}
+use Rattle.lg_forest.proofs.Ending.{ends_kept}
 use Rattle.lg_forest.proofs.Levels.{leaves}
 use Rattle.lg_forest.proofs.Starting.{lefts_as, lefts_then}
 use Rattle.lg_forest.proofs.Once.{contains_at, contains_none}
@@ -50,16 +51,17 @@ module _ (n : Numbering) (old new : Entries) (kept : (k : Key) → Contains (key
   opening_kept origin o x = record { behind = x.behind; before = x.before; level = x.level; each = x.each; some = x.some; apart = x.apart; asked = λ gap a k b i s e. kept k (x.asked gap a k b i s e) }
 
   pub memory_kept : (m : Memory) → IsMemory n old m → IsMemory n new m
-  memory_kept m x = record { known = x.known; opened = λ origin o has. opening_kept origin o (x.opened origin o has) }
+  memory_kept m x = record { known = x.known; opened = λ origin o has. opening_kept origin o (x.opened origin o has); ended = λ half ends has. ends_kept n old new kept half ends (x.ended half ends has) }
 
 pub memory_added : (n : Numbering) (es : Entries) (k : Key) (alts : List Alt) (m : Memory) → IsMemory n es m → IsMemory n (es ++ (k, alts) ∷ []) m
 memory_added n es k alts m x = memory_kept n es (es ++ (k, alts) ∷ []) (λ q h. keys_later es k alts q h) m x
 
 -- before the search
-pub memory_first : (n : Numbering) (es : Entries) (m : Memory) (known : List (Key × List Alt)) → m.known ≡ known → m.openings ≡ [] → AreKnown n known → IsMemory n es m
-memory_first n es m known e f are = record {
+pub memory_first : (n : Numbering) (es : Entries) (m : Memory) (known : List (Key × List Alt)) → m.known ≡ known → m.openings ≡ [] → m.halves ≡ [] → AreKnown n known → IsMemory n es m
+memory_first n es m known e f h are = record {
   known = subst (λ z. AreKnown n z) (sym e) are;
   opened = λ origin o has. absurd (contains_none (origin, o) (subst (λ z. Contains z (origin, o)) f has));
+  ended = λ half ends has. absurd (contains_none (half, ends) (subst (λ z. Contains z (half, ends)) h has));
 }
 
 -- ---- alternatives with the same left joint and the same left key

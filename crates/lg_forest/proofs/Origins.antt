@@ -1,6 +1,5 @@
 -- The test of `==` at where regions begin.
-use Rattle.std.proofs.Common.{◌≡◌, refl, sym, ap, ◌∙◌, Bool, true≢false, inl, inr, List, Option, None, Some, IfSome, Contains, rules}
-use Rattle.std.proofs.lemmas.Bool.{cases_Bool}
+use Rattle.std.proofs.Common.{◌≡◌, refl, sym, ap, Bool, true≢false, List, Option, None, Some, IfSome, Contains, rules}
 use Rattle.std.proofs.lemmas.Bool.Decides.{Decides-and, Decides-eqb}
 use Rattle.std.proofs.lemmas.Option.{same_Some}
 use Rattle.std.specs.Bool.{Decides}
@@ -13,6 +12,7 @@ use Rattle.lg_gram.specs.Connectors.{Connector, connector_eq}
 use Rattle.lg_forest.specs.declared.openings.Opening.{Opening}
 use Rattle.lg_region.specs.declared.opening.Origin.{Origin}
 use Rattle.lg_region.specs.contracts.opening.OriginPartialEq.TheImpl.{eq-value}
+use Rattle.lg_forest.proofs.Tables.{laws_from}
 
 abbrev pub origin_eq : Origin → Origin → Bool
 origin_eq = eq-value.it
@@ -34,17 +34,7 @@ origins_same x y =
     )
 
 pub origins_laws : IsEquivalence origin_eq
-origins_laws = record {
-  refl = λ x. (origins_same x x).1 refl;
-  symm = λ x y. elim (cases_Bool (origin_eq x y)) [
-    | inl t ↦ t ∙ sym ((origins_same y x).1 (sym ((origins_same x y).0 t)))
-    | inr f ↦ elim (cases_Bool (origin_eq y x)) [
-      | inl t ↦ absurd (true≢false (sym ((origins_same x y).1 (sym ((origins_same y x).0 t))) ∙ f))
-      | inr g ↦ f ∙ sym g
-    ]
-  ];
-  congr = λ x y z h. ap (λ o. origin_eq o z) ((origins_same x y).0 h);
-}
+origins_laws = laws_from origin_eq origins_same
 
 pub taken_some : (es : List (Origin × Opening)) (o : Origin) (r : Option Opening) → r ≡ lookup (origin_eq o) es → IfSome r (λ x. Contains es (o, x))
 taken_some es o (Some x) is = Contains-from_lookup (λ x y. (origins_same x y).0) o x es (sym is)

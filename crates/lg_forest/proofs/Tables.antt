@@ -1,5 +1,6 @@
 -- What a hash table tells of its entries, where `==` at the keys tells whether they are the same.
 use Rattle.std.proofs.Common.{◌≡◌, ◌≢◌, ◌↔◌, refl, sym, ap, ◌∙◌, subst, Bool, true, false, true≢false, List, [], ◌∷◌, ◌++◌, Option, Some, None, IsSome, MatchOption, ◌⊎◌, inl, inr, cond, if◌then◌else◌, is_some, ◌+◌, length, Contains, Bor, arith, rules}
+use Rattle.std.proofs.lemmas.Bool.{cases_Bool}
 use Rattle.std.specs.List.{filter}
 use Rattle.std.specs.Cmp.{IsEquivalence}
 use Rattle.std.specs.Bool.{Decides}
@@ -21,6 +22,20 @@ keys_same x y = search rules
 
 pub keys_laws : IsEquivalence key_eq
 keys_laws = search rules
+
+-- a test that decides equality is an equivalence
+pub laws_from : {K : Type 0} (eq : K → K → Bool) → ((x y : K) → Decides (eq x y) (x ≡ y)) → IsEquivalence eq
+laws_from eq same = record {
+  refl = λ x. (same x x).1 refl;
+  symm = λ x y. elim (cases_Bool (eq x y)) [
+    | inl t ↦ t ∙ sym ((same y x).1 (sym ((same x y).0 t)))
+    | inr f ↦ elim (cases_Bool (eq y x)) [
+      | inl t ↦ absurd (true≢false (sym ((same x y).1 (sym ((same y x).0 t))) ∙ f))
+      | inr g ↦ f ∙ sym g
+    ]
+  ];
+  congr = λ x y z h. ap (λ k. eq k z) ((same x y).0 h);
+}
 
 -- the same of any keys
 module _ {K X : Type 0} (eq : K → K → Bool) (same : (x y : K) → Decides (eq x y) (x ≡ y)) (laws : IsEquivalence eq) {S : Type 0} (old new : IndexMap K X S) (k : K) (unique : IsUnique eq new) where

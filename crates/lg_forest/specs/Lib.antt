@@ -4,5 +4,7 @@ pub mod Known
 pub mod Search
 pub mod Drafts
 pub mod Halves
+pub mod Hashed
+pub mod Ends
 pub mod Opened
 pub mod Goes

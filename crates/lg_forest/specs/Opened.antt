@@ -14,8 +14,11 @@ use Rattle.lg_region.specs.declared.alternative.Alt.TheVariants.{AllNull, Split 
 use Rattle.lg_region.specs.declared.group.Gap.{Gap}
 use Rattle.lg_region.specs.declared.group.Group.{Group}
 use Rattle.lg_forest.specs.Demands.{HasLinkageUnder, left_key}
+use Rattle.lg_forest.specs.Ends.{AreEnds}
 use Rattle.lg_forest.specs.Halves.{IsEnding}
 use Rattle.lg_forest.specs.Known.{AreKnown}
+use Rattle.lg_forest.specs.declared.halves.Half.{Half}
+use Rattle.lg_forest.specs.declared.halves.Ends.{Ends}
 use Rattle.lg_forest.specs.declared.memory.Memory.{Memory}
 use Rattle.lg_forest.specs.declared.openings.Opening.{Opening}
 use Rattle.lg_region.specs.declared.opening.Origin.{Origin}
@@ -52,10 +55,11 @@ pub record IsOpening (n : Numbering) (entries : List (Key × List Alt)) (origin 
   pub asked : (gap : Gap) (a : Alt) (k : Key) → BeginsWith n origin gap → IsAltAt n gap origin.nulls a → StandsBefore o.done a → left_key a ≡ Some k
       → Contains (keys_of entries) k
 
--- what is remembered is right: the alternatives that workers found, and each opening, by the table
+-- what is remembered is right: the alternatives that workers found, and each opening and the ends of each half, by the table
 pub record IsMemory (n : Numbering) (entries : List (Key × List Alt)) (m : Memory) : Type 0 where
   pub known : AreKnown n m.known
   pub opened : (origin : Origin) (o : Opening) → Contains m.openings (origin, o) → IsOpening n entries origin o
+  pub ended : (half : Half) (ends : Ends) → Contains m.halves (half, ends) → AreEnds n entries half ends
 
 -- it is still right, and some of what was known is taken out
 pub record IsLeft (n : Numbering) (entries : List (Key × List Alt)) (old new : Memory) : Type 0 where

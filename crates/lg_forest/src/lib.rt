@@ -4,6 +4,7 @@
 mod draft;
 mod fact;
 pub mod forest;
+mod halves;
 mod known;
 mod law;
 mod linkages;

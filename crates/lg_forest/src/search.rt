@@ -8,6 +8,7 @@ ghost use Rattle.lg_forest.specs.Goes.{Goes, IsReady};
 ghost use Rattle.lg_forest.specs.Search.{IsWholeFrom, key_width};
 
 mod alternatives;
+mod ends;
 mod openings;
 
 use crate::known::Known;
@@ -31,6 +32,7 @@ impl Search {
         ensures table { result.table ≡ [] }
         ensures known { result.memory.known ≡ known }
         ensures openings { result.memory.openings ≡ [] }
+        ensures halves { result.memory.halves ≡ [] }
     {
         let table = Table::new(alloc);
         let memory = Memory::of(alloc, known);

@@ -3,17 +3,14 @@ ghost use Rattle.std.specs.Prelude.{◌≡◌, ◌↔◌, ◌+◌, ◌<◌, ◌�
 ghost use Rattle.lg_region.specs.Keys.{IsValidKey};
 ghost use Rattle.lg_forest.specs.Demands.{HasLinkageUnder, AsksNext};
 ghost use Rattle.lg_forest.specs.Forests.{IsLive, AreLive};
-ghost use Rattle.lg_forest.specs.Goes.{Goes, IsReady, IsValidGap, gap_width, key_of};
-ghost use Rattle.lg_forest.specs.Halves.{AddsLive, AsksAmong};
+ghost use Rattle.lg_forest.specs.Goes.{Goes, IsReady};
 ghost use Rattle.lg_forest.specs.Known.{AreAltsOf, AreKnown};
-ghost use Rattle.lg_forest.specs.Opened.{IsStart, StartsSo};
 ghost use Rattle.lg_forest.specs.Search.{HasValidKeys, IsLast, AsksOf, key_width, part_bound, alt_bound};
 
 use super::Search;
 use crate::known::Known;
-use crate::openings::Start;
 use lg_base::{NoMemory, Steps};
-use lg_region::{Alt, Alts, Gap, Key, Lists, expand_key, push_endings};
+use lg_region::{Alt, Alts, Key, Lists, expand_key};
 use std::alloc::Global;
 
 /// The left key that was asked for last, and whether it has a linkage. Alternatives with the same left key stand together.
@@ -51,49 +48,6 @@ impl Search {
             flags.push(live)?;
         }
         Ok(alts.keep(flags.as_slice()))
-    }
-
-    // Adds the live alternatives that start so.
-    #[cycle(search)]
-    pub(super) fn explore_beginning<L>(
-        &mut self,
-        lists: &Lists<'_>,
-        gap: &Gap,
-        start: &Start,
-        live: &mut Vec<Alt>,
-        steps: &mut Steps<L>,
-    ) -> Result<(), NoMemory>
-        requires ready { IsReady lists.now (gap_width gap.now) self.old steps.old }
-        requires gap { IsValidGap lists.now gap.now }
-        requires start { IsStart lists.now gap.now start.now }
-        ensures live { OnOk result (AddsLive lists.entry.now (key_of gap.now) (StartsSo gap.now start.now) live.old.items live.new.items) }
-        ensures goes { let n = lists.entry.now in OnOk result (Goes n (AsksAmong n (key_of gap.now) (StartsSo gap.now start.now)) 0 self.old steps.old self.new steps.new) }
-        ensures later { steps.old ≤ steps.new }
-    {
-        let lkey = start.begin.key(gap, &start.group);
-        if !self.visit(lists, lkey, steps)? {
-            return Ok(());
-        }
-        let mut last = Last {
-            key: Some(lkey),
-            live: true,
-        };
-        let mut alts = Vec::new(self.alloc);
-        push_endings(
-            self.alloc,
-            lists,
-            gap,
-            &start.group,
-            &start.begin,
-            &mut alts,
-        )?;
-        for index in 0..alts.len() {
-            let alt = alts[index];
-            if self.is_live(lists, alt, &mut last, steps)? {
-                live.push(alt)?;
-            }
-        }
-        Ok(())
     }
 
     // Whether each key of an alternative has a linkage. The right key is asked for only where the left one has one.

@@ -1,6 +1,8 @@
-use Rattle.std.proofs.Common.{inl, inr, refl, [], ◌≡◌, ◌↔◌, ◌+◌, ◌<◌, ◌≤◌, ◌∙◌, true≢false, Option, subst, sym, ap, Some, IsTrue, IfOk, OnOk, IfSome, length, take, slice_get, get_or, Contains, map, arith, rules}
+use Rattle.std.proofs.Common.{inl, inr, refl, [], ◌++◌, ◌≡◌, ◌↔◌, ◌+◌, ◌-◌, ◌<◌, ◌≤◌, ◌∙◌, true≢false, Option, subst, sym, ap, Some, IsTrue, IfOk, OnOk, IfSome, length, take, slice_get, get_or, Contains, map, arith, rules}
 use Rattle.std.proofs.lemmas.Option.{slice_get-get_or}
-use Rattle.lg_region.specs.Keys.{kept}
+use Rattle.lg_region.specs.Groups.{key_behind}
+use Rattle.lg_region.specs.Keys.{IsValidKey, kept}
+use Rattle.lg_region.specs.declared.group.Right.{Right}
 use Rattle.lg_region.specs.Small.{full}
 use Rattle.lg_forest.specs.Demands.{HasLinkageUnder, left_key}
 use Rattle.lg_forest.specs.Forests.{IsLive, AreLive}
@@ -9,21 +11,24 @@ use Rattle.lg_region.specs.declared.key.Key.{Key}
 use Rattle.lg_region.specs.declared.alternative.Alt.TheVariants.{Split as At}
 use Rattle.lg_forest.proofs.Going.{goes_added, goes_as, goes_none, goes_then, gap_valid, ok_goes, ok_then, ok_ticked, ready_after, ready_less, ready_ticked}
 use Rattle.lg_forest.specs.Goes.{Goes, gap_width, key_of}
-use Rattle.lg_forest.proofs.Asked.{live_decides, not_there, asked_added, asked_as, asked_more, asked_all, asked_left, asked_both, ok_as, on_ok_as, last_kept, alt_at, exact}
+use Rattle.lg_forest.proofs.Asked.{live_decides, not_there, asked_as, asked_more, asked_all, asked_left, asked_both, ok_as, on_ok_as, last_kept, alt_at, exact}
 use Rattle.lg_forest.proofs.Flags.{Flags, kept_live, flags_long, flags_more, all_flags}
 use Rattle.lg_forest.specs.Halves.{AddsLive}
 use Rattle.lg_forest.proofs.Among as part
 use Rattle.lg_forest.proofs.Among.{Among, In}
-use Rattle.lg_region.specs.declared.alternative.Alt.{Alt}
 use Rattle.lg_region.specs.Alike.{end_of}
-use Rattle.lg_region.specs.Openings.{LeavesLeft, left_of}
+use Rattle.lg_region.specs.Openings.{LeavesLeft, ended, left_of}
 use Rattle.lg_region.specs.declared.opening.Beginning.{Beginning}
-use Rattle.lg_forest.specs.Opened.{AsksLeft, IsAny, IsMemory, IsOpening, StandsAt, StartsSo}
-use Rattle.lg_region.specs.Ways.{AddsExactly}
+use Rattle.lg_forest.specs.Opened.{AsksLeft, IsAny, IsOpening, StandsAt, StartsSo}
+use Rattle.lg_region.specs.Ways.{AddsExactly, AreExactly}
+use Rattle.std.specs.Map.{keys_of}
+use Rattle.lg_forest.specs.Ends.{AreEnds, AsksRight, EndsWith, IsLiveRight}
+use Rattle.lg_forest.specs.declared.halves.Half.{Half}
 use Rattle.lg_forest.proofs.Once.{contains_at}
 use Rattle.lg_forest.proofs.search.Search.+search.Goals as goal
-use Rattle.lg_forest.proofs.search.Search.+search.Goals.{explore_beginning-then-branch+in_ok-push, explore_beginning-else-branch, open_group-then-branch+in_ok-push, open_group-else-branch, open-in-Some, open-in-None}
-use Rattle.lg_forest.proofs.Opening.{memory_added, no_beginning, none_starts, opening_kept, opening_new, opening_some, same_begins, word_opened, words_all, words_first, words_next}
+use Rattle.lg_forest.proofs.search.Search.+search.Goals.{explore_rights-then-branch+in_ok-push, explore_rights-else-branch, open_group-then-branch+in_ok-push, open_group-else-branch, open-in-Some, open-in-None}
+use Rattle.lg_forest.proofs.Opening.{no_beginning, none_starts, opening_kept, opening_new, opening_some, same_begins, word_opened, words_all, words_first, words_next}
+use Rattle.lg_forest.proofs.Ending.{all_asked, all_live, ended_asked, ended_live, ends_asked, ends_here, ends_known, first_asked, next_asked, right_valid}
 use Rattle.lg_forest.proofs.Levels.{LeavesFewer, fewer_apart, fewer_next, fewer_none, levels_asked, levels_live}
 use Rattle.lg_forest.proofs.Starting.{IsOfGroup, OfFirst, SoFar, opening_asked, opening_live, start_asked, group_asked, group_started, group_there, groups_apart, groups_started, left_asked, lefts_as, lefts_then, start_dropped, start_kept, at_word, word_started}
 
@@ -306,7 +311,7 @@ open-loop-word-init g t c =
       opened = opened;
       goes = record {
         asked = words_first n c.are_numbered.ensures c.regions_begin_alike.ensures c.args.origin.now (key_of c.args.gap.now) c.args.gap.now refl c.requires.alike c.match-take.opening c.args.self.now.table c.requires.ready.table opened;
-        left = record { known = record { known = c.requires.ready.known.known; opened = λ o x has. c.requires.ready.known.opened o x (c.take.ensures.left o x has) }; fewer = omega arith };
+        left = record { known = record { known = c.requires.ready.known.known; opened = λ o x has. c.requires.ready.known.opened o x (c.take.ensures.left o x has); ended = c.requires.ready.known.ended }; fewer = omega arith };
         steps = omega arith;
         later = omega arith;
       };
@@ -440,6 +445,7 @@ explore_opening-returns-clause-goes g t c =
             | inl h ↦ goes.left.known.opened o x h
             | inr (e, f) ↦ subst (λ z. IsOpening n c.loop-index.self.table z x) (sym e) (subst (λ z. IsOpening n c.loop-index.self.table c.origin_of-origin.result z) (sym f) opened)
           ];
+          ended = goes.left.known.ended;
         };
         fewer = goes.left.fewer;
       };
@@ -470,68 +476,155 @@ explore_beginning-returns-then-not-branch-clause-goes g t c =
     (part.dead_asked c.args.lists.now (key_of c.args.gap.now) c.args.gap.now c.args.start.now.group c.args.start.now.begin c.key-lkey.result refl c.key-lkey.ensures
     (λ h. true≢false (sym (c.in_ok-visit.ensures.found.1 h) ∙ c.if-not-branch.true)) c.requires.start.some c.args.self.now.table c.visit.new.self.table c.in_ok-visit.ensures.goes.asked)
 
-pub explore_beginning-loop-index-init : goal.explore_beginning-loop-index-init
-explore_beginning-loop-index-init g t c = record {
-  goes = goes_as c.in_ok-visit.ensures.goes
-      (part.first_asked c.args.lists.now (key_of c.args.gap.now) c.args.gap.now c.args.start.now.group c.args.start.now.begin c.key-lkey.result refl c.key-lkey.ensures c.push_endings.new.out.items c.args.self.now.table c.visit.new.self.table c.in_ok-visit.ensures.goes.asked);
-  live = part.adds_none c.args.live.now.items _ (λ a (l, m). part.among_none (λ (x : Alt) (y : Alt). x ≡ y) c.push_endings.new.out.items a m);
-  last = record { live = ((λ yes. c.in_ok-visit.ensures.found.0 c.if-not-branch.false), (λ h. refl)); there = c.in_ok-visit.ensures.goes.asked.there c.key-lkey.result refl };
-}
-
-pub explore_beginning-is_live-requires : goal.explore_beginning-is_live-requires
-explore_beginning-is_live-requires g t c κs within =
+pub explore_beginning-explore_ending-requires : goal.explore_beginning-explore_ending-requires
+explore_beginning-explore_ending-requires g t c κs within =
     let n = c.args.lists.now in
-    let alts = c.push_endings.new.out.items in
-    let end : c.len-index-end.result ≡ length alts = c.len-index-end.ensures ∙ c.push_endings.new.out.ok.0 in
-    let test = c.loop-index-test.true in
-    let at = part.at_of alts c.loop-index.index c.index-alt.result.now (omega arith) c.index-alt.ensures in
-    let ends = part.from_none c.new-alts.result.items alts _ c.new-alts.ensures.items c.in_ok-push_endings.ensures.endings in
-    let alt = part.alt_in n (key_of c.args.gap.now) c.args.gap.now c.index-alt.result.now refl ((ends.each c.index-alt.result.now).0 (contains_at alts c.loop-index.index c.index-alt.result.now at)).0 in
-    let below = c.requires.ready.decided.below (key_of c.args.gap.now) c.index-alt.result.now c.requires.gap.valid alt in
-    (search rules, (search rules, (ready_after c.requires.ready c.loop-index.invariant.goes (omega arith), (c.requires.ready.decided.valid (key_of c.args.gap.now) c.index-alt.result.now c.requires.gap.valid alt, c.loop-index.invariant.last))))
-
-pub explore_beginning-loop-index-preserved : goal.explore_beginning-loop-index-preserved
-explore_beginning-loop-index-preserved g t c =
-    let n = c.args.lists.now in
-    let alts = c.push_endings.new.out.items in
-    let i = c.loop-index.index in
-    let a = c.index-alt.result.now in
-    let end : c.len-index-end.result ≡ length alts = c.len-index-end.ensures ∙ c.push_endings.new.out.ok.0 in
-    let test = c.loop-index-test.true in
-    let at = part.at_of alts i a (omega arith) c.index-alt.ensures in
-    let once = (part.from_none c.new-alts.result.items alts _ c.new-alts.ensures.items c.in_ok-push_endings.ensures.endings).once in
-    let old = c.args.live.now.items in
-    let lkey = left_of c.args.gap.now c.args.start.now.group c.args.start.now.begin in
-    record {
-      goes = goes_then c.loop-index.invariant.goes c.in_ok-is_live.ensures.goes
-          (part.next_asked n (key_of c.args.gap.now) c.args.gap.now c.args.start.now.group c.args.start.now.begin lkey refl refl alts i (i + 1) a c.args.self.now.table c.loop-index.self.table c.is_live.new.self.table (omega arith) at c.loop-index.invariant.goes.asked c.in_ok-is_live.ensures.goes.asked);
-      live = elim c.if-branch.branch [
-        | explore_beginning-then-branch+in_ok-push w ↦ subst (λ z. AddsExactly old z (λ x. IsLive n.positions n.lists x × Among (λ (u v : Alt). u ≡ v) alts (i + 1) x)) (sym (ap (λ v. v.items) w.live-is))
-            (part.live_kept n alts i (i + 1) a (omega arith) at once old c.loop-index.live.items _ (c.in_ok-is_live.ensures.live.0 w.if-branch.true) w.in_ok-push.ensures.items c.loop-index.invariant.live)
-        | explore_beginning-else-branch w ↦ subst (λ z. AddsExactly old z (λ x. IsLive n.positions n.lists x × Among (λ (u v : Alt). u ≡ v) alts (i + 1) x)) (sym (ap (λ v. v.items) w.live-is))
-            (part.live_dropped n alts i (i + 1) a (omega arith) at once old c.loop-index.live.items (λ l. true≢false (sym (c.in_ok-is_live.ensures.live.1 l) ∙ w.if-branch.false)) c.loop-index.invariant.live)
-      ];
-      last = c.in_ok-is_live.ensures.last;
-    }
-
-pub explore_beginning-returns-clause-live : goal.explore_beginning-returns-clause-live
-explore_beginning-returns-clause-live g t c =
-    let alts = c.push_endings.new.out.items in
-    let end : c.len-index-end.result ≡ length alts = c.len-index-end.ensures ∙ c.push_endings.new.out.ok.0 in
-    let test = c.loop-index-test.false in
-    let ends = part.from_none c.new-alts.result.items alts _ c.new-alts.ensures.items c.in_ok-push_endings.ensures.endings in
-    part.all_live c.args.lists.now (key_of c.args.gap.now) c.args.gap.now c.args.start.now.group c.args.start.now.begin c.key-lkey.result refl c.key-lkey.ensures alts
-    (part.ends_all c.args.lists.now (key_of c.args.gap.now) c.args.gap.now c.args.start.now.group c.args.start.now.begin alts refl ends) c.loop-index.index (omega arith) c.args.live.now.items c.loop-index.live.items c.loop-index.invariant.live
+    (search rules, (search rules, (ready_after c.requires.ready c.in_ok-visit.ensures.goes (omega arith), (c.requires.gap, (c.requires.start, subst (HasLinkageUnder n.positions n.lists) c.key-lkey.ensures (c.in_ok-visit.ensures.found.0 c.if-not-branch.false))))))
 
 pub explore_beginning-returns-clause-goes : goal.explore_beginning-returns-clause-goes
 explore_beginning-returns-clause-goes g t c =
-    let alts = c.push_endings.new.out.items in
-    let end : c.len-index-end.result ≡ length alts = c.len-index-end.ensures ∙ c.push_endings.new.out.ok.0 in
+    let n = c.args.lists.now in
+    let gap = c.args.gap.now in
+    let s = c.args.start.now in
+    let ends = c.alternatives_end.ensures n gap s.group s.begin c.are_numbered.ensures c.requires.gap.is_gap.known c.requires.start.group c.requires.start.some in
+    let left = subst (HasLinkageUnder n.positions n.lists) c.key-lkey.ensures (c.in_ok-visit.ensures.found.0 c.if-not-branch.false) in
+    ok_then c.explore_ending.result c.explore_ending.new.self c.explore_ending.new.steps c.in_ok-visit.ensures.goes c.explore_ending.ensures.goes
+    (ended_asked n gap s.group s.begin (key_of gap) refl ends left c.requires.start.some c.args.self.now.table c.visit.new.self.table c.explore_ending.new.self.table
+    (subst (λ z. Asked n (λ k. k ≡ z) c.args.self.now.table c.visit.new.self.table) c.key-lkey.ensures c.in_ok-visit.ensures.goes.asked))
+
+pub explore_rights-loop-index-init : goal.explore_rights-loop-index-init
+explore_rights-loop-index-init g t c =
+    let n = c.args.lists.now in
+    let all = c.in_ok-all.all.items in
+    record {
+      goes = goes_none c.requires.ready (first_asked n c.args.gap.now c.args.start.now.group c.args.nulls all c.args.self.now.table c.requires.ready.table);
+      live = subst (λ z. AddsExactly [] z (λ r. HasLinkageUnder n.positions n.lists (key_behind c.args.gap.now c.args.start.now.group c.args.nulls r) × Among (λ (x : Right) (y : Right). x ≡ y) all 0 r)) (sym c.new-live.ensures.items)
+          (part.adds_none [] _ (λ r (l, m). part.among_none (λ (x : Right) (y : Right). x ≡ y) all r m));
+    }
+
+pub explore_rights-visit-requires : goal.explore_rights-visit-requires
+explore_rights-visit-requires g t c κs within =
+    let n = c.args.lists.now in
+    let gap = c.args.gap.now in
+    let s = c.args.start.now in
+    let all = c.in_ok-all.all.items in
+    let end : c.len-index-end.result ≡ length all = c.len-index-end.ensures ∙ c.in_ok-all.all.ok.0 in
+    let test = c.loop-index-test.true in
+    let at = part.at_of all c.loop-index.index c.index.result.now (omega arith) c.index.ensures in
+    let ends = c.alternatives_end.ensures n gap s.group s.begin c.are_numbered.ensures c.requires.gap.is_gap.known c.requires.start.group c.requires.start.some in
+    let valid = right_valid n gap s.group s.begin (key_of gap) refl ends c.requires.ready.decided c.requires.gap.valid c.index.result.now ((c.in_ok-all.ensures.each c.index.result.now).0 (contains_at all c.loop-index.index c.index.result.now at)) in
+    let same : key_behind gap s.group (gap.nulls - s.begin.nulls) c.index.result.now ≡ c.key-rkey.result = ap (λ z. key_behind gap s.group z c.index.result.now) (sym c.requires.nulls) ∙ sym c.key-rkey.ensures in
+    let narrow : key_width n.positions c.key-rkey.result < gap_width gap = subst (λ z. key_width n.positions z < gap_width gap) same valid.1 in
+    (search rules, (search rules, (ready_after c.requires.ready c.loop-index.invariant.goes (omega arith), subst (IsValidKey n.positions n.lists) same valid.0)))
+
+pub explore_rights-loop-index-preserved : goal.explore_rights-loop-index-preserved
+explore_rights-loop-index-preserved g t c =
+    let n = c.args.lists.now in
+    let gap = c.args.gap.now in
+    let group = c.args.start.now.group in
+    let nulls = c.args.nulls in
+    let all = c.in_ok-all.all.items in
+    let i = c.loop-index.index in
+    let r = c.index.result.now in
+    let end : c.len-index-end.result ≡ length all = c.len-index-end.ensures ∙ c.in_ok-all.all.ok.0 in
+    let test = c.loop-index-test.true in
+    let at = part.at_of all i r (omega arith) c.index.ensures in
+    let Live : Right → Type 0 = λ z. HasLinkageUnder n.positions n.lists (key_behind gap group nulls z) in
+    record {
+      goes = goes_then c.loop-index.invariant.goes c.in_ok-visit.ensures.goes
+          (next_asked n gap group nulls all i (i + 1) r c.args.self.now.table c.loop-index.self.table c.visit.new.self.table (omega arith) at c.loop-index.invariant.goes.asked
+          (subst (λ z. Asked n (λ k. k ≡ z) c.loop-index.self.table c.visit.new.self.table) c.key-rkey.ensures c.in_ok-visit.ensures.goes.asked));
+      live = elim c.if-branch.branch [
+        | explore_rights-then-branch+in_ok-push w ↦ subst (λ z. AddsExactly [] z (λ x. Live x × Among (λ (u v : Right). u ≡ v) all (i + 1) x)) (sym (ap (λ v. v.items) w.live-is))
+            (part.one_kept Live all i (i + 1) r (omega arith) at c.in_ok-all.ensures.once [] c.loop-index.live.items _ (subst (HasLinkageUnder n.positions n.lists) c.key-rkey.ensures (c.in_ok-visit.ensures.found.0 w.if-branch.true)) w.in_ok-push.ensures.items c.loop-index.invariant.live)
+        | explore_rights-else-branch w ↦ subst (λ z. AddsExactly [] z (λ x. Live x × Among (λ (u v : Right). u ≡ v) all (i + 1) x)) (sym (ap (λ v. v.items) w.live-is))
+            (part.one_dropped Live all i (i + 1) r (omega arith) at c.in_ok-all.ensures.once [] c.loop-index.live.items (λ l. true≢false (sym (c.in_ok-visit.ensures.found.1 (subst (HasLinkageUnder n.positions n.lists) (sym c.key-rkey.ensures) l)) ∙ w.if-branch.false)) c.loop-index.invariant.live)
+      ];
+    }
+
+pub explore_rights-returns-clause-live : goal.explore_rights-returns-clause-live
+explore_rights-returns-clause-live g t c =
+    let end : c.len-index-end.result ≡ length c.in_ok-all.all.items = c.len-index-end.ensures ∙ c.in_ok-all.all.ok.0 in
     let test = c.loop-index-test.false in
-    let ends = part.from_none c.new-alts.result.items alts _ c.new-alts.ensures.items c.in_ok-push_endings.ensures.endings in
+    all_live c.args.lists.now c.args.gap.now c.args.start.now.group c.args.nulls c.in_ok-all.all.items c.in_ok-all.ensures c.loop-index.index (omega arith) [] c.loop-index.live.items refl c.loop-index.invariant.live
+
+pub explore_rights-returns-clause-goes : goal.explore_rights-returns-clause-goes
+explore_rights-returns-clause-goes g t c =
+    let end : c.len-index-end.result ≡ length c.in_ok-all.all.items = c.len-index-end.ensures ∙ c.in_ok-all.all.ok.0 in
+    let test = c.loop-index-test.false in
     goes_as c.loop-index.invariant.goes
-    (part.all_asked c.args.lists.now (key_of c.args.gap.now) c.args.gap.now c.args.start.now.group c.args.start.now.begin c.key-lkey.result refl c.key-lkey.ensures alts
-    (part.ends_all c.args.lists.now (key_of c.args.gap.now) c.args.gap.now c.args.start.now.group c.args.start.now.begin alts refl ends) c.loop-index.index (omega arith) c.requires.start.some c.args.self.now.table c.loop-index.self.table c.loop-index.invariant.goes.asked)
+    (all_asked c.args.lists.now c.args.gap.now c.args.start.now.group c.args.nulls c.in_ok-all.all.items c.in_ok-all.ensures c.loop-index.index (omega arith) c.args.self.now.table c.loop-index.self.table c.loop-index.invariant.goes.asked)
+
+pub explore_ending-returns-in-Some-clause-live : goal.explore_ending-returns-in-Some-clause-live
+explore_ending-returns-in-Some-clause-live g t c =
+    let n = c.args.lists.now in
+    let gap = c.args.gap.now in
+    let s = c.args.start.now in
+    let nulls = gap.nulls - s.begin.nulls in
+    let ends = c.alternatives_end.ensures n gap s.group s.begin c.are_numbered.ensures c.requires.gap.is_gap.known c.requires.start.group c.requires.start.some in
+    let known = c.requires.ready.known.ended c.of-half.result c.in-Some.ends.now c.in-Some.ensures in
+    let with = subst (λ z. EndsWith n z gap s.group) (sym c.of-half.ensures) (ends_here n (key_of gap) gap s.group nulls c.requires.gap.is_gap) in
+    let same : c.of-half.result.nulls ≡ nulls = ap (λ (h : Half). h.nulls) c.of-half.ensures in
+    on_ok_as c.push_ended.result _ _
+    (λ e. ended_live n gap s.group s.begin (key_of gap) refl ends c.requires.left c.in-Some.ends.now.rights.items (subst (λ z. AreExactly c.in-Some.ends.now.rights.items (IsLiveRight n gap s.group z)) same (known.live gap s.group with)) c.args.live.now.items c.push_ended.new.out.items
+    (e ∙ ap (λ z. c.args.live.now.items ++ map (ended gap s.group s.begin) z) c.deref.ensures.value))
+    c.push_ended.ensures
+
+pub explore_ending-returns-in-Some-clause-goes : goal.explore_ending-returns-in-Some-clause-goes
+explore_ending-returns-in-Some-clause-goes g t c =
+    let n = c.args.lists.now in
+    let gap = c.args.gap.now in
+    let s = c.args.start.now in
+    let nulls = gap.nulls - s.begin.nulls in
+    let known = c.requires.ready.known.ended c.of-half.result c.in-Some.ends.now c.in-Some.ensures in
+    let with = subst (λ z. EndsWith n z gap s.group) (sym c.of-half.ensures) (ends_here n (key_of gap) gap s.group nulls c.requires.gap.is_gap) in
+    let same : c.of-half.result.nulls ≡ nulls = ap (λ (h : Half). h.nulls) c.of-half.ensures in
+    part.ok_any c.push_ended.result _
+    (goes_none c.requires.ready (subst (λ z. Asked n (AsksRight n gap s.group z) c.args.self.now.table c.args.self.now.table) same (ends_asked n c.args.self.now.table c.of-half.result c.in-Some.ends.now gap s.group c.requires.ready.table known with)))
+
+pub explore_ending-returns-clause-live : goal.explore_ending-returns-clause-live
+explore_ending-returns-clause-live g t c =
+    let n = c.args.lists.now in
+    let gap = c.args.gap.now in
+    let s = c.args.start.now in
+    let ends = c.alternatives_end.ensures n gap s.group s.begin c.are_numbered.ensures c.requires.gap.is_gap.known c.requires.start.group c.requires.start.some in
+    let rights = c.in_ok-ends.ends.rights.items in
+    part.ok_any c.put.result _
+    (ended_live n gap s.group s.begin (key_of gap) refl ends c.requires.left rights c.in_ok-ends.ensures.live c.args.live.now.items c.push_ended-2.new.out.items
+    (c.in_ok-push_ended.ensures ∙ ap (λ z. c.args.live.now.items ++ map (ended gap s.group s.begin) z) c.deref-2.ensures.value))
+
+pub explore_ending-returns-clause-goes : goal.explore_ending-returns-clause-goes
+explore_ending-returns-clause-goes g t c =
+    let n = c.args.lists.now in
+    let gap = c.args.gap.now in
+    let s = c.args.start.now in
+    let nulls = gap.nulls - s.begin.nulls in
+    let goes = c.in_ok-ends.ensures.goes in
+    let table = c.explore_rights.new.self.table in
+    let half = c.of-half.result in
+    let with = subst (λ z. EndsWith n z gap s.group) (sym c.of-half.ensures) (ends_here n (key_of gap) gap s.group nulls c.requires.gap.is_gap) in
+    let same : half.nulls ≡ nulls = ap (λ (h : Half). h.nulls) c.of-half.ensures in
+    let new : AreEnds n table half c.in_ok-ends.ends = ends_known n table half gap s.group c.in_ok-ends.ends with
+    (subst (λ z. AreExactly c.in_ok-ends.ends.rights.items (IsLiveRight n gap s.group z)) (sym same) c.in_ok-ends.ensures.live)
+    (λ r of. subst (λ z. Contains (keys_of table) (key_behind gap s.group z r)) (sym same) (goes.asked.there (key_behind gap s.group nulls r) (r, of, refl))) in
+    on_ok_as c.put.result _ _
+    (λ put. record {
+      asked = goes.asked;
+      left = record {
+        known = record {
+          known = goes.left.known.known;
+          opened = goes.left.known.opened;
+          ended = λ h x has. elim (put h x has) [
+            | inl k ↦ goes.left.known.ended h x k
+            | inr (e, f) ↦ subst (λ z. AreEnds n table z x) (sym e) (subst (λ z. AreEnds n table half z) (sym f) new)
+          ];
+        };
+        fewer = goes.left.fewer;
+      };
+      steps = goes.steps;
+      later = goes.later;
+    })
+    c.put.ensures.put
 
 pub open-overflow_add-opening : goal.open-overflow_add-opening
 open-overflow_add-opening g t c =

@@ -1,17 +1,19 @@
-use Rattle.std.proofs.Common.{◌≡◌, ◌+◌, ◌*◌, ◌<◌, ◌≤◌, [], take, map, length}
-use Rattle.lg_region.specs.Openings.{left_of}
+use Rattle.std.proofs.Common.{◌≡◌, ◌+◌, ◌*◌, ◌<◌, [], take, map}
+use Rattle.lg_region.specs.Groups.{key_behind}
 use Rattle.lg_region.specs.Small.{full}
 use Rattle.lg_region.specs.Ways.{AddsExactly}
-use Rattle.lg_region.specs.declared.alternative.Alt.{Alt}
+use Rattle.lg_region.specs.declared.group.Right.{Right}
+use Rattle.lg_forest.specs.Demands.{HasLinkageUnder}
 use Rattle.lg_forest.specs.Forests.{IsLive}
 use Rattle.lg_forest.specs.Halves.{AddsLive, AsksAmong}
 use Rattle.lg_region.specs.Groups.{StandsBefore}
-use Rattle.lg_forest.specs.Opened.{AsksLeft, IsLeft, IsOpening, StartsSo}
+use Rattle.lg_forest.specs.Opened.{AsksLeft, IsOpening, StartsSo}
 use Rattle.lg_forest.proofs.Levels.{LeavesFewer}
 use Rattle.lg_forest.proofs.Starting.{IsOfGroup, LeftOfFirst, OfFirst, SoFar}
 use Rattle.lg_forest.specs.Goes.{Goes, gap_width, key_of}
-use Rattle.lg_forest.specs.Search.{IsLast, key_width, part_bound, alt_bound, IsCounted}
-use Rattle.lg_forest.proofs.Among.{Among, AsksFor, In}
+use Rattle.lg_forest.specs.Search.{IsLast, key_width, part_bound, alt_bound}
+use Rattle.lg_forest.proofs.Among.{Among, In}
+use Rattle.lg_forest.proofs.Ending.{AsksFirst}
 use Rattle.lg_forest.proofs.Asked.{AsksBy}
 use Rattle.lg_forest.proofs.Flags.{Flags}
 use Rattle.lg_forest.proofs.search.Search.+search.Given as goal
@@ -46,6 +48,12 @@ decreases-open_group g l = 9 * gap_width l.gap.now + 2
 abbrev pub decreases-explore_beginning : goal.decreases-explore_beginning
 decreases-explore_beginning g l = 9 * gap_width l.gap.now + 3
 
+abbrev pub decreases-explore_ending : goal.decreases-explore_ending
+decreases-explore_ending g l = 9 * gap_width l.gap.now + 2
+
+abbrev pub decreases-explore_rights : goal.decreases-explore_rights
+decreases-explore_rights g l = 9 * gap_width l.gap.now + 1
+
 abbrev pub decreases-is_live : goal.decreases-is_live
 decreases-is_live g l = 9 * alt_bound l.lists.now.positions l.alt + 2
 
@@ -70,12 +78,11 @@ invariant-explore_gap-loop-nulls g l = record {
   live : AddsLive l.lists (key_of l.gap) (LeavesFewer l.nulls) [] l.live.items;
 }
 
--- the alternatives so far
-abbrev pub invariant-explore_beginning-loop-index : goal.invariant-explore_beginning-loop-index
-invariant-explore_beginning-loop-index g l = record {
-  goes : Goes l.lists (AsksFor l.lists (left_of l.gap l.start.group l.start.begin) l.alts.items l.index) 0 l.fn.self l.fn.steps l.self l.steps;
-  live : AddsExactly l.fn.live.items l.live.items (λ a. IsLive l.lists.positions l.lists.lists a × Among (λ (x : Alt) (y : Alt). x ≡ y) l.alts.items l.index a);
-  last : IsLast l.lists l.self.table l.last;
+-- the disjuncts of the group so far
+abbrev pub invariant-explore_rights-loop-index : goal.invariant-explore_rights-loop-index
+invariant-explore_rights-loop-index g l = record {
+  goes : Goes l.lists (AsksFirst l.gap l.start.group l.nulls l.all.items l.index) 0 l.fn.self l.fn.steps l.self l.steps;
+  live : AddsExactly [] l.live.items (λ r. HasLinkageUnder l.lists.positions l.lists.lists (key_behind l.gap l.start.group l.nulls r) × Among (λ (x : Right) (y : Right). x ≡ y) l.all.items l.index r);
 }
 
 -- the starts so far; the opening stands by the table
