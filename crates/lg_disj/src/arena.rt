@@ -84,6 +84,24 @@ impl Choices {
         self.rows[number].cost
     }
 
+    /// Makes room for each of some choices joined with each of others.
+    pub(crate) fn reserve_products(
+        &mut self,
+        firsts: &Choices,
+        seconds: &Choices,
+    ) -> Result<(), NoMemory>
+        requires { IsArena self.old }
+        ensures exact { listed self.new ≡ listed self.old }
+        ensures within { IsArena self.new }
+    {
+        let (first, second) = (firsts.rows.len(), seconds.rows.len());
+        let before = firsts.places.len().saturating_mul(second);
+        let behind = seconds.places.len().saturating_mul(first);
+        self.rows.reserve(first.saturating_mul(second))?;
+        self.places.reserve(before.saturating_add(behind))?;
+        Ok(())
+    }
+
     /// Adds a choice, each of its lists in two parts.
     pub(crate) fn push(
         &mut self,

@@ -80,6 +80,7 @@ fn push_all(firsts: &Choices, seconds: &Choices, all: &mut Choices) -> Result<()
     ensures exact { OnOk result (listed all.new ≡ listed all.old ++ all_both (listed firsts.now) (listed seconds.now)) }
     ensures arena { OnOk result (IsArena all.new) }
 {
+    all.reserve_products(firsts, seconds)?;
     for first in 0..firsts.len() {
         push_products(firsts, first, seconds, all)?;
     }

@@ -43,7 +43,7 @@ pub fn members_of<'a>(
 {
     let mut left_hints = Hints::new(alloc);
     let mut right_hints = Hints::new(alloc);
-    let mut members = Vec::new(alloc);
+    let mut members = Vec::with_capacity(alloc, count_of(positions))?;
     for (position, disjuncts) in positions.iter().enumerate() {
         push_members(
             position as u32,
@@ -56,6 +56,15 @@ pub fn members_of<'a>(
         )?;
     }
     Ok(members)
+}
+
+// How many disjuncts there are, for the room that their list wants.
+fn count_of(positions: &[Disjuncts]) -> usize {
+    let mut count: usize = 0;
+    for disjuncts in positions {
+        count = count.saturating_add(disjuncts.items().len());
+    }
+    count
 }
 
 fn push_members<'a>(

@@ -280,7 +280,8 @@ pub fn push_ended(
     out: &mut Vec<Alt>,
 ) -> Result<(), NoMemory>
     requires { begin.now.nulls ≤ gap.now.nulls }
-    ensures { OnOk result (out.new.items ≡ out.old.items ++ map (ended gap.now group.now begin.now) rights.now) }
+    ensures kept { KeepsFront out.old.items out.new.items }
+    ensures added { OnOk result (out.new.items ≡ out.old.items ++ map (ended gap.now group.now begin.now) rights.now) }
 {
     push_with_left(gap, group.word, begin.nulls, &begin.way, rights, out)
 }

@@ -5,7 +5,7 @@ use Rattle.lg_member.proofs.member.members_of.Goals as goal
 
 pub loop-position-init : goal.loop-position-init
 loop-position-init c = record {
-  members = members_none c.args.positions.now c.args.lefts.now.items c.args.rights.now.items c.new-members.result.items c.new-members.ensures.items;
+  members = members_none c.args.positions.now c.args.lefts.now.items c.args.rights.now.items c.in_ok-members.members.items c.in_ok-members.ensures.items;
   lefts = grows_none c.args.lefts.now.items;
   rights = grows_none c.args.rights.now.items;
 }

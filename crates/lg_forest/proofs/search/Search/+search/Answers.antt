@@ -568,7 +568,7 @@ explore_ending-returns-in-Some-clause-live g t c =
     on_ok_as c.push_ended.result _ _
     (λ e. ended_live n gap s.group s.begin (key_of gap) refl ends c.requires.left c.in-Some.ends.now.rights.items (subst (λ z. AreExactly c.in-Some.ends.now.rights.items (IsLiveRight n gap s.group z)) same (known.live gap s.group with)) c.args.live.now.items c.push_ended.new.out.items
     (e ∙ ap (λ z. c.args.live.now.items ++ map (ended gap s.group s.begin) z) c.deref.ensures.value))
-    c.push_ended.ensures
+    c.push_ended.ensures.added
 
 pub explore_ending-returns-in-Some-clause-goes : goal.explore_ending-returns-in-Some-clause-goes
 explore_ending-returns-in-Some-clause-goes g t c =
@@ -591,7 +591,7 @@ explore_ending-returns-clause-live g t c =
     let rights = c.in_ok-ends.ends.rights.items in
     part.ok_any c.put.result _
     (ended_live n gap s.group s.begin (key_of gap) refl ends c.requires.left rights c.in_ok-ends.ensures.live c.args.live.now.items c.push_ended-2.new.out.items
-    (c.in_ok-push_ended.ensures ∙ ap (λ z. c.args.live.now.items ++ map (ended gap s.group s.begin) z) c.deref-2.ensures.value))
+    (c.in_ok-push_ended.ensures.added ∙ ap (λ z. c.args.live.now.items ++ map (ended gap s.group s.begin) z) c.deref-2.ensures.value))
 
 pub explore_ending-returns-clause-goes : goal.explore_ending-returns-clause-goes
 explore_ending-returns-clause-goes g t c =
