@@ -8,25 +8,27 @@ use Rattle.std.proofs.lemmas.List.Elements.{All-nil, All-append, Contains-append
 use Rattle.std.proofs.lemmas.Slice.Zip.{AllZip-long}
 use Rattle.lg_base.proofs.Elements.{contains_none, map_in, map_out}
 use Rattle.lg_gram.specs.Disjuncts.{IsDisjunctOf}
+use Rattle.lg_gram.specs.Measures.{choices_of, choice_count}
 use Rattle.lg_gram.specs.Trees.{Tree}
 use Rattle.lg_gram.specs.declared.disjunct.Disjunct.{Disjunct}
 use Rattle.lg_gram.specs.declared.listing.Token.{Token}
 use Rattle.lg_dict.specs.Dictionary.{Dictionary}
 use Rattle.lg_disj.specs.Exist.{HasNames, ExpressionsHaveDisjuncts}
 use Rattle.lg_eprune.specs.Live.{WordTree, AreNarrowed, LinkagesAreLive}
-use Rattle.lg_idiom.specs.Overlays.{IsOfAdded}
+use Rattle.lg_idiom.specs.Overlays.{AddedAreFew, IsOfAdded}
 use Rattle.lg_idiom.specs.Sentences.{AddIdioms}
 use Rattle.lg_answer.proofs.Apart.{pairs, pairs_at, exprs_apart}
 use Rattle.lg_answer.proofs.Compounds.{have_own}
-use Rattle.lg_answer.proofs.Few.{few_words}
+use Rattle.lg_answer.proofs.AllDisjuncts.{all_length, all_members}
+use Rattle.lg_answer.proofs.Few.{few_words, made_problem}
 use Rattle.lg_answer.proofs.Lists.{zip_at, zip_each}
-use Rattle.lg_answer.proofs.Made.{expanded_none, are_expanded, have_expanded}
-use Rattle.lg_answer.proofs.Narrowed.{keeps_linkages}
-use Rattle.lg_answer.proofs.Within.{reach_keeps_linkages}
+use Rattle.lg_answer.proofs.Made.{expanded_none, have_expanded}
+use Rattle.lg_answer.proofs.Narrowed.{keeps_linkages, narrowed_apart, narrowed_of}
 use Rattle.lg_answer.proofs.Words.{trees_out, trees_in}
 use Rattle.lg_token.specs.Problems.{IsOfWords}
 use Rattle.lg_answer.specs.Problems.{IsProblemInUse}
-use Rattle.lg_answer.specs.Steps.{AreOfSentence, word_trees, AreNamed, AreWordTrees, AreWordTreesFor, AreExprsInUse, behind, IsOfTrees, AreApart, AreListedOf, AreExpanded, AreMade, HaveProblem, IsNarrowed, IsWithin}
+use Rattle.lg_answer.specs.Steps.{AreOfSentence, word_trees, AreNamed, AreWordTrees, AreWordTreesFor, AreExprsInUse, behind, IsOfTrees, AreApart, AreExpanded, HaveProblem, IsNarrowed}
+use Rattle.lg_answer.specs.Wide.{AreExpandable, all_disjuncts}
 
 -- ---- the formulas in use
 
@@ -206,25 +208,21 @@ module _ (exist : ExpressionsHaveDisjuncts) (dict : Dictionary) (tokens : List T
 
   -- and what is left of the formulas has their linkages
   pub narrowed_problem : (idioms : Bool) (exprs : List (List WordTree)) → AreExprsInUse idioms dict tokens exprs → LinkagesAreLive → (live : List (List WordTree)) → AreNarrowed exprs live
-      → (kept : List (List Disjunct)) → AllZip AreMade live kept → IsNarrowed idioms dict tokens kept
-  narrowed_problem idioms exprs has law live narrow kept made =
+      → IsNarrowed idioms dict tokens (all_disjuncts live)
+  narrowed_problem idioms exprs has law live narrow =
       let whole = have_whole idioms exprs has in
-      let expanded = are_expanded live kept made in
       record {
         problem = whole.0;
         of_tokens = have_problem idioms exprs has whole.0 whole.1;
-        keeps = keeps_linkages law exprs live narrow whole.0 kept whole.1 (zip_each AreExpanded expanded_none live kept expanded) (AllZip-long AreMade live kept made);
-        same_length = AllZip-long AreMade live kept made ∙ narrow.same_length ∙ exprs_length dict tokens idioms exprs has;
+        keeps = keeps_linkages law exprs live narrow whole.0 (all_disjuncts live) whole.1 (all_members live) (all_length live);
+        same_length = all_length live ∙ narrow.same_length ∙ exprs_length dict tokens idioms exprs has;
       }
 
-  -- so has what is left of them within reach
-  pub within_problem : (idioms : Bool) (exprs : List (List WordTree)) → AreExprsInUse idioms dict tokens exprs → LinkagesAreLive → (live : List (List WordTree)) → AreNarrowed exprs live
-      → (left : List (List Disjunct)) → IsWithin live left → IsNarrowed idioms dict tokens left
-  within_problem idioms exprs has law live narrow left within =
-      let whole = have_whole idioms exprs has in
-      record {
-        problem = whole.0;
-        of_tokens = have_problem idioms exprs has whole.0 whole.1;
-        keeps = reach_keeps_linkages law exprs live narrow whole.0 left whole.1 within;
-        same_length = AllZip-long AreListedOf within.kept left within.listed ∙ within.fewer.same_length ∙ narrow.same_length ∙ exprs_length dict tokens idioms exprs has;
-      }
+  -- which may be expanded
+  pub narrowed_ready : ((t : Tree) → length (choices_of t) ≡ choice_count t) → AddedAreFew → (idioms : Bool) (exprs : List (List WordTree)) → AreExprsInUse idioms dict tokens exprs
+      → (live : List (List WordTree)) → AreNarrowed exprs live → AreExpandable live
+  narrowed_ready counted law idioms exprs has live narrow = record {
+    few = (let words = few_words dict tokens listed.1.unbound in let long = narrow.same_length ∙ exprs_length dict tokens idioms exprs has in omega (arith, words, long));
+    apart = narrowed_apart exprs live narrow (in_use_apart idioms exprs has);
+    limits = λ positions made. made_problem counted law idioms dict tokens exprs live positions listed has narrow.same_length (narrowed_of exprs live narrow) made;
+  }

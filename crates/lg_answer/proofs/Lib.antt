@@ -13,6 +13,7 @@ pub mod Apart
 pub mod Few
 pub mod InUse
 pub mod Narrowed
+pub mod AllDisjuncts
 pub mod Within
 pub mod Wholes
 pub mod AliveKept

@@ -95,18 +95,18 @@ live_of words pruned narrow i d (w, m, is) live =
     live_disjunct words i (slice_index_or words i []) (slice_index_or pruned i []) (narrow.each i (inside words i w m)) w m d is live
 
 module _ (live : LinkagesAreLive) (words pruned : List (List WordTree)) (narrow : AreNarrowed words pruned) (whole left : List (List Disjunct))
-    (all : AllZip AreExpanded words whole) (some : (i : ℕ) → AreExpanded (slice_index_or pruned i []) (slice_index_or left i [])) (long : length left ≡ length pruned) where
+    (all : AllZip AreExpanded words whole) (some : (i : ℕ) (d : Disjunct) → Contains (slice_index_or left i []) d ↔ IsOfTrees (slice_index_or pruned i []) d) (long : length left ≡ length pruned) where
   at_whole : (i : ℕ) → AreExpanded (slice_index_or words i []) (slice_index_or whole i [])
   at_whole i = zip_each AreExpanded expanded_none words whole all i
 
   from_left : (i : ℕ) (d : Disjunct) → Contains (slice_index_or left i []) d → Contains (slice_index_or whole i []) d
   from_left i d h =
-      let r = ((some i).exactly d).0 h in
+      let r = (some i d).0 h in
       let less : i < length words = (let same = narrow.same_length in let in_pruned = inside pruned i r.0 r.1 in omega arith) in
       ((at_whole i).exactly d).1 (narrowed_disjunct words i (slice_index_or words i []) (slice_index_or pruned i []) (narrow.each i less) r.0 r.1 d r.2)
 
   to_left : (i : ℕ) (d : Disjunct) → Contains (slice_index_or whole i []) d → IsLiveChoice words i (choice_of d) → Contains (slice_index_or left i []) d
-  to_left i d h is_live = ((some i).exactly d).1 (live_of words pruned narrow i d (((at_whole i).exactly d).0 h) is_live)
+  to_left i d h is_live = (some i d).1 (live_of words pruned narrow i d (((at_whole i).exactly d).0 h) is_live)
 
   same_long : length left ≡ length whole
   same_long = long ∙ narrow.same_length ∙ sym (AllZip-long AreExpanded words whole all)

@@ -1,7 +1,6 @@
 -- A problem of the choices within reach has the good linkages of the problem of all.
 use Rattle.std.proofs.Common.{◌≡◌, ◌≢◌, ◌⊎◌, ◌↔◌, ℕ, zero, suc, ◌<◌, ◌≤◌, ℤ, ◌≤ℤ◌, Option, None, Some, List, [], ◌∷◌, length, map, set, Contains, inl, inr, refl, sym, ap, ◌∙◌, subst, arith, IsSome}
-use Rattle.std.specs.Prelude.{slice_index_or}
-use Rattle.std.specs.Bool.{Decides}
+use Rattle.std.specs.Prelude.{slice_index_or, cond, is_none}
 use Rattle.std.specs.List.{AllZip, sum_by}
 use Rattle.std.specs.List.Sorted.{IsStrictlySortedBy}
 use Rattle.std.specs.Cmp.Lexicographic.{pointwise}
@@ -10,30 +9,30 @@ use Rattle.std.proofs.lemmas.Bool.{cases_Bool, cases_lt, cases_eq}
 use Rattle.std.proofs.lemmas.Cmp.{tied_itself}
 use Rattle.std.proofs.lemmas.Int.{ints, by_lt_z}
 use Rattle.std.proofs.lemmas.List.{get_or_past, get_or-set_same, get_or-set_other, length-map, length-set}
+use Rattle.std.proofs.lemmas.List.Sums.{sum_by-set}
 use Rattle.std.proofs.lemmas.Option.{slice_get-get_or}
-use Rattle.std.proofs.lemmas.Slice.Eq.{slice_eq-Decides}
 use Rattle.std.proofs.lemmas.Slice.Zip.{AllZip-long}
 use Rattle.lg_base.proofs.Elements.{contains_here, contains_later, contains_cases, contains_none}
 use Rattle.lg_gram.proofs.Orders.{disjuncts_total}
-use Rattle.lg_gram.proofs.Same.{connector_Decides}
 use Rattle.lg_gram.specs.Connectors.{Connector, connector_eq}
 use Rattle.lg_gram.specs.Disjuncts.{choice_of, disjunct_cmp, IsDisjunctOf}
 use Rattle.lg_gram.specs.Limits.{DISJUNCTS, POSITIONS}
-use Rattle.lg_gram.specs.Linkages.{Linkage, link_cmp}
+use Rattle.lg_gram.specs.Linkages.{Linkage, link_cmp, unlinked}
 use Rattle.lg_gram.specs.Measures.{Choice, choices_of}
 use Rattle.lg_gram.specs.Problems.{IsProblem}
 use Rattle.lg_gram.specs.Rules.{Good, HasLink, IsConnected, IsLinked, Rules, chosen_at, left_list, lefts_of, right_list, rights_of}
 use Rattle.lg_gram.specs.Walks.{LinkFrom}
 use Rattle.lg_gram.specs.declared.disjunct.Disjunct.{Disjunct}
-use Rattle.lg_eprune.specs.Live.{WordTree, AreNarrowed, LinkagesAreLive}
+use Rattle.lg_eprune.specs.Live.{WordTree}
 use Rattle.lg_reach.specs.Ends.{IsLinkageOf, Uses}
 use Rattle.lg_reach.specs.Reach.{HaveFewer, HaveUsed, Narrows, nothing, kept, dropped, Never}
+use Rattle.lg_answer.proofs.AllDisjuncts.{all_length, all_members, equal_lists}
 use Rattle.lg_answer.proofs.Few.{made_positions}
 use Rattle.lg_answer.proofs.Lists.{zip_each}
-use Rattle.lg_answer.proofs.Made.{expanded_none, listed_none, one_in_rising}
-use Rattle.lg_answer.proofs.Narrowed.{inside, are_of, live_of, narrowed_of}
-use Rattle.lg_answer.specs.Pages.{HasLinkagesOf}
+use Rattle.lg_answer.proofs.Made.{are_expanded, expanded_none, listed_none, one_in_rising}
+use Rattle.lg_answer.proofs.Narrowed.{inside, are_of}
 use Rattle.lg_answer.specs.Steps.{AreExpanded, AreListedOf, AreMade, IsOfTrees, IsWithin}
+use Rattle.lg_answer.specs.Wide.{KeepsFew, all_disjuncts}
 
 -- ---- what is left of the words of a position
 
@@ -84,13 +83,10 @@ record LeastFrom (left right : List Connector) (cs : List Choice) (from : ℤ) :
   comes : (cost ≡ from) ⊎ Contains cs (record { left = left; right = right; cost = cost })
   least : (c : Choice) → Contains cs c → c.left ≡ left → c.right ≡ right → cost ≤ℤ c.cost
 
-same_lists : (xs ys : List Connector) → Decides (pointwise connector_eq xs ys) (xs ≡ ys)
-same_lists xs ys = slice_eq-Decides connector_Decides xs ys _ refl
-
 list_cases : (xs ys : List Connector) → (xs ≡ ys) ⊎ (xs ≢ ys)
 list_cases xs ys = elim (cases_Bool (pointwise connector_eq xs ys)) [
-  | inl same ↦ inl ((same_lists xs ys).0 same)
-  | inr other ↦ inr (λ is. let same = (same_lists xs ys).1 is in cc)
+  | inl same ↦ inl ((equal_lists xs ys).0 same)
+  | inr other ↦ inr (λ is. let same = (equal_lists xs ys).1 is in cc)
 ]
 
 module _ (left right : List Connector) (c : Choice) (cs : List Choice) (from : ℤ) (rest : LeastFrom left right cs from) where
@@ -234,15 +230,26 @@ module _ (g : Linkage) (i : ℕ) (d e : Disjunct) (at : chosen_at g i ≡ Some d
     | inr other ↦ has j x (sym other ∙ is)
   ]
 
+-- 1 where nothing is used
+abbrev unlinked_at : Option Disjunct → ℕ
+unlinked_at o = cond (is_none o) 1 0
+
+-- another disjunct in the place of one leaves as many words unlinked
+changed_unlinked : (g : Linkage) (i : ℕ) (d e : Disjunct) → chosen_at g i ≡ Some d → unlinked (record { chosen = set g.chosen i (Some e); links = g.links }) ≡ unlinked g
+changed_unlinked g i d e at =
+    let sums = sum_by-set unlinked_at g.chosen i (Some e) None (linked_within g i d d at refl refl) in
+    let linked = ap unlinked_at at in
+    omega (arith, sums, linked)
+
 -- ---- the linkages of what is left
 
-module _ (live near : List (List WordTree)) (fewer : HaveFewer live near) (used : (g : Linkage) → IsLinkageOf live g → HaveUsed g live near)
+module _ (live near : List (List WordTree)) (nulls : ℕ) (fewer : HaveFewer live near) (used : (g : Linkage) → IsLinkageOf live g → unlinked g ≤ nulls → HaveUsed g live near)
     (left : List (List Disjunct)) (exactly : (i : ℕ) (d : Disjunct) → Contains (slice_index_or left i []) d ↔ IsOfTrees (slice_index_or near i []) d)
     (rise : (i : ℕ) → IsStrictlySortedBy disjunct_cmp (slice_index_or left i [])) (long : length left ≡ length near) where
   -- a disjunct of a linkage of these words is left
-  stays : (g : Linkage) → IsLinkageOf live g → (i : ℕ) (d : Disjunct) → chosen_at g i ≡ Some d → IsOfTrees (slice_index_or live i []) d → Contains (slice_index_or left i []) d
-  stays g is i d at of =
-      (exactly i d).1 (used_disjunct (Uses g i) (slice_index_or live i []) (slice_index_or near i []) (used g is i) d of (d, at, refl))
+  stays : (g : Linkage) → IsLinkageOf live g → unlinked g ≤ nulls → (i : ℕ) (d : Disjunct) → chosen_at g i ≡ Some d → IsOfTrees (slice_index_or live i []) d → Contains (slice_index_or left i []) d
+  stays g is few i d at of =
+      (exactly i d).1 (used_disjunct (Uses g i) (slice_index_or live i []) (slice_index_or near i []) (used g is few i) d of (d, at, refl))
 
   -- a disjunct that is left is a choice of these words
   was_choice : (i : ℕ) (d : Disjunct) → Contains (slice_index_or left i []) d
@@ -253,8 +260,8 @@ module _ (live near : List (List WordTree)) (fewer : HaveFewer live near) (used 
       (r.0, r.1, of.2.named ∙ r.2, r.3 (choice_of d) of.2.chosen)
 
   -- and in a good linkage it is the cheapest of its lists, as the linkage is as good with the cheapest in its place
-  was_disjunct : (g : Linkage) → Good left g → (i : ℕ) (d : Disjunct) → chosen_at g i ≡ Some d → IsOfTrees (slice_index_or live i []) d
-  was_disjunct g good i d at =
+  was_disjunct : (g : Linkage) → Good left g → unlinked g ≤ nulls → (i : ℕ) (d : Disjunct) → chosen_at g i ≡ Some d → IsOfTrees (slice_index_or live i []) d
+  was_disjunct g good few i d at =
       let m = good.belongs.listed i d at in
       let (w, listed, named, chosen) = was_choice i d m in
       let (cost, is) = cheapest w d named chosen in
@@ -264,17 +271,13 @@ module _ (live near : List (List WordTree)) (fewer : HaveFewer live near) (used 
       (changed_rules g i d e at refl refl good.rules)
       (λ j k from to. good.connected j k (changed_linked g i d e at refl refl j from) (changed_linked g i d e at refl refl k to))
       (changed_choices g i d e at refl refl live all (w, listed, is.chosen)) in
-      let also = stays (changed g i d e at refl refl) other i e (at_changed g i d e at refl refl) (w, listed, is) in
+      let also = stays (changed g i d e at refl refl) other (subst (λ n. n ≤ nulls) (sym (changed_unlinked g i d e at)) few) i e (at_changed g i d e at refl refl) (w, listed, is) in
       let same : d ≡ e = one_in_rising (slice_index_or left i []) (rise i) d e m also (tied_itself disjuncts_total d) in
       subst (IsOfTrees (slice_index_or live i [])) (sym same) (w, listed, is)
 
 -- ---- the linkages of the words
 
-module _ (law : LinkagesAreLive) (words live : List (List WordTree)) (narrow : AreNarrowed words live) (whole left : List (List Disjunct)) (all : AllZip AreExpanded words whole)
-    (within : IsWithin live left) where
-  at_whole : (i : ℕ) (d : Disjunct) → Contains (slice_index_or whole i []) d ↔ IsOfTrees (slice_index_or words i []) d
-  at_whole i = (zip_each AreExpanded expanded_none words whole all i).exactly
-
+module _ (words : List (List WordTree)) (nulls : ℕ) (left : List (List Disjunct)) (within : IsWithin words nulls left) where
   at_left : (i : ℕ) (d : Disjunct) → Contains (slice_index_or left i []) d ↔ IsOfTrees (slice_index_or within.kept i []) d
   at_left i = (zip_each AreListedOf listed_none within.kept left within.listed i).exactly
 
@@ -287,39 +290,68 @@ module _ (law : LinkagesAreLive) (words live : List (List WordTree)) (narrow : A
   left_long : length left ≡ length within.kept
   left_long = AllZip-long AreListedOf within.kept left within.listed
 
-  same_long : length left ≡ length whole
-  same_long = left_long ∙ within.fewer.same_length ∙ narrow.same_length ∙ sym (AllZip-long AreExpanded words whole all)
+  same_long : length left ≡ length (all_disjuncts words)
+  same_long = left_long ∙ within.fewer.same_length ∙ sym (all_length words)
 
-  live_at : (g : Linkage) → Good whole g → (i : ℕ) (d : Disjunct) → chosen_at g i ≡ Some d → IsOfTrees (slice_index_or live i []) d
-  live_at g good i d at = live_of words live narrow i d ((at_whole i d).0 (good.belongs.listed i d at)) (law words whole (are_of words whole at_whole) g good i d at)
+  words_linkage : (g : Linkage) → Good (all_disjuncts words) g → IsLinkageOf words g
+  words_linkage g good = record { positions = all_disjuncts words; of = are_of words (all_disjuncts words) (all_members words); same_length = all_length words; good = good }
 
-  live_linkage : (g : Linkage) → Good whole g → IsLinkageOf live g
-  live_linkage g good =
-      linkage_of live g (good.belongs.same_length ∙ sym same_long ∙ left_long ∙ within.fewer.same_length) good.belongs.set good.rules good.connected
-      (λ i d at. let of = live_at g good i d at in (of.0, of.1, of.2.chosen))
+  -- the problem of what is left has those linkages of all choices that leave so few words unlinked
+  pub reach_keeps_linkages : KeepsFew (all_disjuncts words) nulls left
+  reach_keeps_linkages = record {
+    same_length = same_long;
+    same = λ g few. (
+      λ good. record {
+        belongs = record {
+          same_length = good.belongs.same_length ∙ sym same_long;
+          listed = λ i d at.
+              stays words within.kept nulls within.fewer within.used left at_left left_rise left_long g (words_linkage g good) few i d at ((all_members words i d).0 (good.belongs.listed i d at));
+          set = good.belongs.set;
+        };
+        rules = good.rules;
+        connected = good.connected;
+      },
+      λ good. record {
+        belongs = record {
+          same_length = good.belongs.same_length ∙ same_long;
+          listed = λ i d at. (all_members words i d).1 (was_disjunct words within.kept nulls within.fewer within.used left at_left left_rise left_long g good few i d at);
+          set = good.belongs.set;
+        };
+        rules = good.rules;
+        connected = good.connected;
+      },
+    );
+  }
 
-  -- the problem of what is left of the live choices has the linkages of the words' problem
-  pub reach_keeps_linkages : HasLinkagesOf whole left
-  reach_keeps_linkages g = (
-    λ good. record {
-      belongs = record {
-        same_length = good.belongs.same_length ∙ sym same_long;
-        listed = λ i d at. stays live within.kept within.fewer within.used left at_left left_rise left_long g (live_linkage g good) i d at (live_at g good i d at);
-        set = good.belongs.set;
-      };
-      rules = good.rules;
-      connected = good.connected;
-    },
-    λ good. record {
-      belongs = record {
-        same_length = good.belongs.same_length ∙ same_long;
-        listed = λ i d at. (at_whole i d).1 (narrowed_of words live narrow i d (was_disjunct live within.kept within.fewer within.used left at_left left_rise left_long g good i d at));
-        set = good.belongs.set;
-      };
-      rules = good.rules;
-      connected = good.connected;
-    },
-  )
+-- what is made of all choices has all their linkages
+pub made_keeps_linkages : (words : List (List WordTree)) (nulls : ℕ) (positions : List (List Disjunct)) → AllZip AreMade words positions → KeepsFew (all_disjuncts words) nulls positions
+made_keeps_linkages words nulls positions made =
+    let long : length positions ≡ length (all_disjuncts words) = AllZip-long AreMade words positions made ∙ sym (all_length words) in
+    let same : (i : ℕ) (d : Disjunct) → Contains (slice_index_or positions i []) d ↔ IsOfTrees (slice_index_or words i []) d =
+    (λ i. (zip_each AreExpanded expanded_none words positions (are_expanded words positions made) i).exactly) in
+    record {
+      same_length = long;
+      same = λ g few. (
+        λ good. record {
+          belongs = record {
+            same_length = good.belongs.same_length ∙ sym long;
+            listed = λ i d at. (same i d).1 ((all_members words i d).0 (good.belongs.listed i d at));
+            set = good.belongs.set;
+          };
+          rules = good.rules;
+          connected = good.connected;
+        },
+        λ good. record {
+          belongs = record {
+            same_length = good.belongs.same_length ∙ long;
+            listed = λ i d at. (all_members words i d).1 ((same i d).0 (good.belongs.listed i d at));
+            set = good.belongs.set;
+          };
+          rules = good.rules;
+          connected = good.connected;
+        },
+      );
+    }
 
 -- ---- the problem of what is within reach
 
@@ -336,6 +368,6 @@ near_problem near positions few made few_disjuncts =
     record { few = (let long = AllZip-long AreMade near positions made in omega (arith, long, few)); few_disjuncts = few_disjuncts; each = made_positions near positions made }
 
 -- and it is one within reach
-pub within_made : (live near : List (List WordTree)) → HaveFewer live near → ((g : Linkage) → IsLinkageOf live g → HaveUsed g live near) → (positions : List (List Disjunct))
-    → AllZip AreMade near positions → IsProblem positions → IsWithin live positions
-within_made live near fewer used positions made limits = record { kept = near; fewer = fewer; used = used; listed = made_listed near positions made; limits = limits }
+pub within_made : (live near : List (List WordTree)) (nulls : ℕ) → HaveFewer live near → ((g : Linkage) → IsLinkageOf live g → unlinked g ≤ nulls → HaveUsed g live near)
+    → (positions : List (List Disjunct)) → AllZip AreMade near positions → IsProblem positions → IsWithin live nulls positions
+within_made live near nulls fewer used positions made limits = record { kept = near; fewer = fewer; used = used; listed = made_listed near positions made; limits = limits }

@@ -4,4 +4,5 @@ pub mod Idioms
 pub mod Pages
 pub mod Searches
 pub mod Steps
+pub mod Wide
 pub mod Alive

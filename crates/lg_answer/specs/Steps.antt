@@ -1,5 +1,5 @@
 -- The work step by step: what the loops over words, tokens and candidates keep.
-use Rattle.std.specs.Prelude.{◌≡◌, ◌↔◌, ◌<◌, ℕ, ◌+◌, List, [], ◌∷◌, ◌++◌, length, map, take, drop, All, Contains, Bool, true, false, MatchBool, Option, Some, None, ◌⊎◌, slice_index_or}
+use Rattle.std.specs.Prelude.{◌≡◌, ◌↔◌, ◌<◌, ℕ, ◌≤◌, ◌+◌, List, [], ◌∷◌, ◌++◌, length, map, take, drop, All, Contains, Bool, true, false, MatchBool, Option, Some, None, ◌⊎◌, slice_index_or}
 use Rattle.std.specs.List.{AllZip, flat_map, enumerate_from}
 use Rattle.std.specs.FinMap.{get}
 use Rattle.std.specs.List.Sorted.{IsStrictlySortedBy}
@@ -10,7 +10,7 @@ use Rattle.std.specs.Cmp.Lexicographic.{slice_cmp}
 use Rattle.lg_gram.specs.Disjuncts.{disjunct_cmp, IsDisjunctOf}
 use Rattle.lg_gram.specs.Problems.{FitsProblem, IsProblem}
 use Rattle.lg_gram.specs.Trees.{Tree}
-use Rattle.lg_gram.specs.Linkages.{Linkage}
+use Rattle.lg_gram.specs.Linkages.{Linkage, unlinked}
 use Rattle.lg_gram.specs.declared.disjunct.Disjunct.{Disjunct}
 use Rattle.lg_gram.specs.declared.listing.Token.{Token}
 use Rattle.lg_gram.specs.declared.listing.PageItem.{PageItem}
@@ -114,11 +114,11 @@ pub record AreMade (ws : List WordTree) (ds : List Disjunct) : Type 0 where
   pub expanded : AreExpanded ws ds
   pub fit : All FitsProblem ds
 
--- A problem of some of the choices of these words, among them all that any good linkage uses.
-pub record IsWithin (words : List (List WordTree)) (problem : List (List Disjunct)) : Type 0 where
+-- A problem of some of the choices of these words, among them all that a good linkage with at most so many unlinked words uses.
+pub record IsWithin (words : List (List WordTree)) (nulls : ℕ) (problem : List (List Disjunct)) : Type 0 where
   pub kept : List (List WordTree)
   pub fewer : HaveFewer words kept
-  pub used : (g : Linkage) → IsLinkageOf words g → HaveUsed g words kept
+  pub used : (g : Linkage) → IsLinkageOf words g → unlinked g ≤ nulls → HaveUsed g words kept
   pub listed : AllZip AreListedOf kept problem
   pub limits : IsProblem problem
 

@@ -9,11 +9,13 @@ ghost use Rattle.lg_rank.specs.Rankings.{given, passed_over, IsThere};
 ghost use Rattle.lg_knowread.specs.declared.knowledge.Knowledge.{Knowledge as SeenKnowledge};
 ghost use Rattle.lg_answer.specs.Candidates.{HasCome, StandsFor, IsNextOf, HasPassed, IsSameCourse};
 ghost use Rattle.lg_answer.specs.Pages.{HasLinkagesOf};
+ghost use Rattle.lg_answer.specs.Wide.{IsReady, problem_of};
 
 use crate::options::{Nulls, Options};
 use crate::search::Search;
+use crate::wide::Wide;
 use lg_base::NoMemory;
-use lg_gram::{Linkage, Problem};
+use lg_gram::Linkage;
 use std::alloc::Global;
 use std::marker::Model;
 use std::thread::Threads;
@@ -45,17 +47,18 @@ impl Course {
     pub fn start<R: Threads + Sync>(
         rt: &R,
         alloc: Global,
-        problem: Problem,
+        wide: Wide,
         options: &Options,
     ) -> Result<Course, NoMemory>
         requires workers { AreWorkers options.now.workers }
-        ensures keeps { IfOk result (λ course. HasLinkagesOf problem course.problem) }
-        ensures long { IfOk result (λ course. length course.problem ≡ length problem) }
+        requires ready { IsReady wide }
+        ensures keeps { IfOk result (λ course. HasLinkagesOf (problem_of wide) course.problem) }
+        ensures long { IfOk result (λ course. length course.problem ≡ length (problem_of wide)) }
         ensures nulls { IfOk result (λ course. course.nulls ≡ options.now.nulls) }
         ensures first { IfOk result (λ course. course.position ≡ 0) }
         ensures stands { (know : SeenKnowledge) → IfOk result (StandsFor know) }
     {
-        let search = Search::start(rt, alloc, problem, options)?;
+        let search = Search::start(rt, alloc, wide, options)?;
         Ok(Course {
             search,
             nulls: options.nulls,

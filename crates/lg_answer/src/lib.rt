@@ -11,6 +11,7 @@ mod options;
 mod page;
 mod refusal;
 mod search;
+mod wide;
 
 pub use law::expression_pruning_keeps_what_is_alive;
 pub use listing::Listing;

@@ -9,6 +9,7 @@ ghost use Rattle.lg_answer.specs.Candidates.{StandsFor};
 ghost use Rattle.lg_answer.specs.Idioms.{UsesChainsWhole, JoinsNeighbours, KeepsPlainLinkages};
 ghost use Rattle.lg_answer.specs.Pages.{IsOpen, HasLinkagesOf, AreStats, IsListing, IsSameListing, HasSkipped, IsBeyond, IsRefused, IsPage, IsLinkageFor};
 ghost use Rattle.lg_answer.specs.Steps.{AreOfSentence, IsSearched};
+ghost use Rattle.lg_answer.specs.Wide.{IsReady, problem_of};
 
 use crate::course::Course;
 use crate::law::idioms_stay_whole;
@@ -16,6 +17,7 @@ use crate::narrow::{narrowed, whole};
 use crate::options::{Nulls, Options};
 use crate::page::{page_of, skip};
 use crate::refusal::AnswerRefusal;
+use crate::wide::Wide;
 use lg_base::NoMemory;
 use lg_dict::View;
 use lg_gram::{Page, Problem, Stats, Tokens};
@@ -79,8 +81,8 @@ impl Listing {
             Err(bound) => return Err(AnswerRefusal::Beyond(bound)),
         };
         idioms_stay_whole();
-        let (problem, stats) = searched(alloc, view, &tokens, options)?;
-        let course = Course::start(rt, alloc, problem, options)?;
+        let (wide, stats) = searched(alloc, view, &tokens, options)?;
+        let course = Course::start(rt, alloc, wide, options)?;
         Ok(Listing {
             tokens,
             course,
@@ -173,15 +175,16 @@ impl Listing {
     }
 }
 
-// The problem that is searched, with the numbers of its disjuncts.
+// What is searched, with the numbers of its disjuncts.
 fn searched(
     alloc: Global,
     view: &View,
     tokens: &Tokens,
     options: &Options,
-) -> Result<(Problem, Stats), NoMemory>
+) -> Result<(Wide, Stats), NoMemory>
     requires listed { AreOfSentence view.now tokens.now }
-    ensures { IfOk result (λ both. IsSearched view.now tokens.now options.now both.0 both.1) }
+    ensures searched { IfOk result (λ both. IsSearched view.now tokens.now options.now (problem_of both.0) both.1) }
+    ensures ready { IfOk result (λ both. IsReady both.0) }
 {
     if options.prune && !options.count {
         uncounted(alloc, view, tokens, options)
@@ -190,23 +193,24 @@ fn searched(
     }
 }
 
-// What is left where formulas are pruned and expanded. Their disjuncts are pruned where the problem is sharpened.
+// The words whose formulas are pruned. They are expanded where a problem is sharpened.
 fn uncounted(
     alloc: Global,
     view: &View,
     tokens: &Tokens,
     options: &Options,
-) -> Result<(Problem, Stats), NoMemory>
+) -> Result<(Wide, Stats), NoMemory>
     requires listed { AreOfSentence view.now tokens.now }
     requires uncounted { options.now.count ≡ false }
-    ensures { IfOk result (λ both. IsSearched view.now tokens.now options.now both.0 both.1) }
+    ensures searched { IfOk result (λ both. IsSearched view.now tokens.now options.now (problem_of both.0) both.1) }
+    ensures ready { IfOk result (λ both. IsReady both.0) }
 {
-    let problem = narrowed(alloc, view, tokens, options.idioms)?;
+    let wide = narrowed(alloc, view, tokens, options.idioms)?;
     let stats = Stats {
         disjuncts: 0,
         kept: 0,
     };
-    Ok((problem, stats))
+    Ok((wide, stats))
 }
 
 // All disjuncts, or what pruning leaves of them.
@@ -215,13 +219,14 @@ fn counted(
     view: &View,
     tokens: &Tokens,
     options: &Options,
-) -> Result<(Problem, Stats), NoMemory>
+) -> Result<(Wide, Stats), NoMemory>
     requires listed { AreOfSentence view.now tokens.now }
-    ensures { IfOk result (λ both. IsSearched view.now tokens.now options.now both.0 both.1) }
+    ensures searched { IfOk result (λ both. IsSearched view.now tokens.now options.now (problem_of both.0) both.1) }
+    ensures ready { IfOk result (λ both. IsReady both.0) }
 {
     let problem = whole(alloc, view, tokens, options.idioms)?;
     let (kept, stats) = pruned(alloc, problem, options.prune)?;
-    Ok((kept, stats))
+    Ok((Wide::Problem(kept), stats))
 }
 
 // What pruning leaves of a problem, where it is asked for, with the numbers of the disjuncts.

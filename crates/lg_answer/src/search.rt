@@ -2,15 +2,18 @@
 ghost use Rattle.std.specs.Prelude.{◌≡◌, ◌↔◌, ◌+◌, ◌<◌, ◌≤◌, ◌^◌, ℕ, List, length, IsTrue, IfOk, OnErr, OnOk, IfSome, MatchOption};
 ghost use Rattle.lg_gram.specs.Levels.{IsFewest};
 ghost use Rattle.lg_gram.specs.Linkages.{Linkage as Seen, linkage_cmp};
+ghost use Rattle.lg_gram.specs.declared.disjunct.Disjunct.{Disjunct};
 ghost use Rattle.lg_region.specs.Parts.{UnderWhole};
 ghost use Rattle.lg_forest.specs.Forests.{AreWorkers, IsForest};
 ghost use Rattle.lg_rank.specs.Fronts.{IsFront, IsNext};
 ghost use Rattle.lg_rank.specs.Rankings.{given, passed_over, IsThere};
-ghost use Rattle.lg_sharpen.specs.Sharp.{IsSharpened};
-ghost use Rattle.lg_answer.specs.Searches.{Begins, BeginsSharper, HasFew, HasNoFewer, blanks};
+ghost use Rattle.lg_answer.specs.Searches.{Begins, BeginsSharper, HasFew};
+ghost use Rattle.lg_answer.specs.Wide.{AreExpandable, HasNoFewer, IsReady, KeepsFew, all_disjuncts, problem_of};
 
 use crate::options::Options;
+use crate::wide::{Wide, blanks_of, sharpened_words};
 use lg_base::{NoMemory, Own, Steps};
+use lg_eprune::PositionExprs;
 use lg_fewest::fewest;
 use lg_forest::{Forest, solve, solve_at, solve_at_by};
 use lg_gram::{Linkage, Problem};
@@ -35,8 +38,8 @@ const CROWDED: usize = 20;
 #[derive(Drop)]
 pub(crate) struct Search {
     ranked: Ranked,
-    // the problem, where the one that is ranked is sharper
-    wide: Option<Problem>,
+    // the problem, or the words of which it is made, where the one that is ranked is sharper
+    wide: Option<Wide>,
 }
 
 impl Model for Search {
@@ -56,43 +59,61 @@ impl Search {
     pub fn start<R: Threads + Sync>(
         rt: &R,
         alloc: Global,
-        problem: Problem,
+        wide: Wide,
         options: &Options,
     ) -> Result<Search, NoMemory>
         requires workers { AreWorkers options.now.workers }
-        ensures { IfOk result (Begins problem) }
+        requires ready { IsReady wide }
+        ensures { IfOk result (Begins (problem_of wide)) }
     {
         if options.prune {
-            Search::sharp(rt, alloc, problem, options.workers)
+            Search::sharp(rt, alloc, wide, options.workers)
         } else {
-            Search::whole(rt, alloc, problem, options.workers)
+            Search::unpruned(rt, alloc, wide, options.workers)
         }
+    }
+
+    fn unpruned<R: Threads + Sync>(
+        rt: &R,
+        alloc: Global,
+        wide: Wide,
+        workers: u32,
+    ) -> Result<Search, NoMemory>
+        requires workers { AreWorkers workers }
+        requires ready { IsReady wide }
+        ensures { IfOk result (Begins (problem_of wide)) }
+    {
+        let problem = wide.into_problem(alloc)?;
+        let search = Search::whole(rt, alloc, problem, workers)?;
+        Ok(search)
     }
 
     fn sharp<R: Threads + Sync>(
         rt: &R,
         alloc: Global,
-        problem: Problem,
+        wide: Wide,
         workers: u32,
     ) -> Result<Search, NoMemory>
         requires workers { AreWorkers workers }
-        ensures { IfOk result (Begins problem) }
+        requires ready { IsReady wide }
+        ensures { IfOk result (Begins (problem_of wide)) }
     {
-        let found = sharper(rt, alloc, &problem, workers)?;
+        let found = sharper(rt, alloc, &wide, workers)?;
         match found {
-            Some(ranked) => Ok(Search::beside(problem, ranked)),
-            None => Search::for_any(rt, alloc, problem, workers),
+            Some(ranked) => Ok(Search::beside(wide, ranked)),
+            None => Search::for_any(rt, alloc, wide, workers),
         }
     }
 
     // The search of a sharper problem.
-    fn beside(problem: Problem, ranked: Ranked) -> Search
-        requires { BeginsSharper problem ranked }
-        ensures { Begins problem result }
+    fn beside(wide: Wide, ranked: Ranked) -> Search
+        requires sharper { BeginsSharper (problem_of wide) ranked }
+        requires ready { IsReady wide }
+        ensures { Begins (problem_of wide) result }
     {
         Search {
             ranked,
-            wide: Some(problem),
+            wide: Some(wide),
         }
     }
 
@@ -100,12 +121,14 @@ impl Search {
     fn for_any<R: Threads + Sync>(
         rt: &R,
         alloc: Global,
-        problem: Problem,
+        wide: Wide,
         workers: u32,
     ) -> Result<Search, NoMemory>
         requires workers { AreWorkers workers }
-        ensures { IfOk result (Begins problem) }
+        requires ready { IsReady wide }
+        ensures { IfOk result (Begins (problem_of wide)) }
     {
+        let problem = wide.into_problem(alloc)?;
         let words = words_of(&problem);
         let sharp = sharpen(alloc, problem, words)?;
         let search = Search::of_sharp(rt, alloc, sharp, workers)?;
@@ -143,9 +166,9 @@ impl Search {
         let Some(sharp) = found else {
             return Search::at_level(rt, alloc, problem, nulls, workers);
         };
-        let level = level_of(rt, alloc, &problem, sharp, nulls, workers)?;
+        let level = level_of(rt, alloc, sharp, nulls, workers)?;
         match level {
-            Some(ranked) => Ok(Search::beside(problem, ranked)),
+            Some(ranked) => Ok(Search::beside(Wide::Problem(problem), ranked)),
             None => unreachable!(),
         }
     }
@@ -220,16 +243,28 @@ impl Search {
         ensures { OnOk result (self.new ≡ record { positions = self.old.positions; nulls = self.old.nulls + 1; position = 0 }) }
     {
         match self.wide.take() {
-            Some(problem) => {
-                *self = Search::at(alloc, problem, self.ranked.nulls() + 1)?;
+            Some(wide) => {
+                *self = Search::at(alloc, wide, self.ranked.nulls() + 1)?;
                 Ok(())
             }
             None => raise(alloc, &mut self.ranked),
         }
     }
 
-    // Before the first linkage of this level, by the problem that is sharpened for it, if it is not small.
-    fn at(alloc: Global, problem: Problem, nulls: u32) -> Result<Search, NoMemory>
+    // Before the first linkage of this level, by a problem that is sharpened for it.
+    fn at(alloc: Global, wide: Wide, nulls: u32) -> Result<Search, NoMemory>
+        requires nulls { nulls ≤ length (problem_of wide) }
+        requires ready { IsReady wide }
+        ensures { IfOk result (λ search. search ≡ record { positions = problem_of wide; nulls = nulls; position = 0 }) }
+    {
+        match wide {
+            Wide::Problem(problem) => Search::of_problem(alloc, problem, nulls),
+            Wide::Words(words) => Search::of_words(alloc, words, nulls),
+        }
+    }
+
+    // The same of a problem, which is sharpened if it is not small.
+    fn of_problem(alloc: Global, problem: Problem, nulls: u32) -> Result<Search, NoMemory>
         requires { nulls ≤ length problem }
         ensures { IfOk result (λ search. search ≡ record { positions = problem; nulls = nulls; position = 0 }) }
     {
@@ -239,7 +274,19 @@ impl Search {
             return Ok(Search { ranked, wide: None });
         };
         let ranked = ranked_at(alloc, sharp, nulls)?;
-        let wide = Some(problem);
+        let wide = Some(Wide::Problem(problem));
+        Ok(Search { ranked, wide })
+    }
+
+    // The same of words.
+    fn of_words(alloc: Global, words: PositionExprs, nulls: u32) -> Result<Search, NoMemory>
+        requires nulls { nulls ≤ length (all_disjuncts words) }
+        requires ready { AreExpandable words }
+        ensures { IfOk result (λ search. search ≡ record { positions = all_disjuncts words; nulls = nulls; position = 0 }) }
+    {
+        let sharp = sharpened_words(alloc, &words, nulls)?;
+        let ranked = ranked_at(alloc, sharp, nulls)?;
+        let wide = Some(Wide::Words(words));
         Ok(Search { ranked, wide })
     }
 }
@@ -273,22 +320,21 @@ fn raise(alloc: Global, ranked: &mut Ranked) -> Result<(), NoMemory>
 fn sharper<R: Threads + Sync>(
     rt: &R,
     alloc: Global,
-    problem: &Problem,
+    wide: &Wide,
     workers: u32,
 ) -> Result<Option<Ranked>, NoMemory>
     requires workers { AreWorkers workers }
-    ensures { IfOk result (λ ranked. IfSome ranked (BeginsSharper problem.now)) }
+    requires ready { IsReady wide.now }
+    ensures { IfOk result (λ ranked. IfSome ranked (BeginsSharper (problem_of wide.now))) }
 {
-    // the call tells that there are few positions
-    let _positions = problem.positions();
-    let least = blanks_of(problem);
-    let most = words_of(problem).min(least + FEW);
+    let least = wide.blanks();
+    let most = wide.len().min(least + FEW);
     for nulls in least..most + 1 {
-        let found = sharpened(alloc, problem, nulls)?;
+        let found = sharp_at(alloc, wide, nulls)?;
         let Some(sharp) = found else {
             return Ok(None);
         };
-        let level = level_of(rt, alloc, problem, sharp, nulls, workers)?;
+        let level = level_of(rt, alloc, sharp, nulls, workers)?;
         if level.is_some() {
             return Ok(level);
         }
@@ -296,21 +342,29 @@ fn sharper<R: Threads + Sync>(
     Ok(None)
 }
 
+// A problem that is sharpened for so many unlinked words; none where the problem is small.
+fn sharp_at(alloc: Global, wide: &Wide, nulls: u32) -> Result<Option<Problem>, NoMemory>
+    requires { IsReady wide.now }
+    ensures { IfOk result (λ sharp. IfSome sharp (KeepsFew (problem_of wide.now) nulls)) }
+{
+    match wide {
+        Wide::Problem(problem) => sharpened(alloc, problem, nulls),
+        Wide::Words(words) => Ok(Some(sharpened_words(alloc, words, nulls)?)),
+    }
+}
+
 // The linkages with so many unlinked words, of the problem that is sharpened for that number; none where there are none. Nothing is
 // searched where more positions than so many have lost all their disjuncts.
 fn level_of<R: Threads + Sync>(
     rt: &R,
     alloc: Global,
-    problem: &Problem,
     sharp: Problem,
     nulls: u32,
     workers: u32,
 ) -> Result<Option<Ranked>, NoMemory>
     requires workers { AreWorkers workers }
-    requires few { nulls ≤ length problem.now }
-    requires least { HasNoFewer problem.now nulls }
-    requires sharp { IsSharpened problem.now nulls sharp }
-    ensures { IfOk result (λ ranked. MatchOption ranked (HasNoFewer problem.now (nulls + 1)) (BeginsSharper problem.now)) }
+    requires few { nulls ≤ length sharp }
+    ensures { (positions : List (List Disjunct)) → HasNoFewer positions nulls → KeepsFew positions nulls sharp → IfOk result (λ ranked. MatchOption ranked (HasNoFewer positions (nulls + 1)) (BeginsSharper positions)) }
 {
     if blanks_of(&sharp) > nulls {
         return Ok(None);
@@ -339,18 +393,6 @@ fn words_of(problem: &Problem) -> u32
     ensures { result ≡ length problem.now }
 {
     problem.positions().len() as u32
-}
-
-// How many positions have no disjunct.
-fn blanks_of(problem: &Problem) -> u32
-    ensures value { result ≡ blanks problem.now }
-    ensures few { result ≤ length problem.now }
-{
-    problem
-        .positions()
-        .iter()
-        .filter(|position| position.items().is_empty())
-        .count() as u32
 }
 
 // Whether the sentence has a linkage in its forest, with at most so many unlinked words.

@@ -14,7 +14,7 @@ kept_on old new l r true = r
 kept_on old new l r false = l
 
 kept : (old new : Sites) → KeepsAll old.lefts new.lefts → KeepsAll old.rights new.rights → Keeps old new
-kept old new l r i c n h = record { site = h.site; here = kept_on old new l r c.right i (class_of c.caps) h.site h.here; connector = h.connector; near = h.near }
+kept old new l r i c n lone h = record { site = h.site; here = kept_on old new l r c.right i (class_of c.caps) h.site h.here; connector = h.connector; near = h.near; only_if = h.only_if }
 
 pub kept_right : (old : Sites) (new : Table Site) → KeepsAll old.rights new → Keeps old (record { lefts = old.lefts; rights = new })
 kept_right old new r = kept old (record { lefts = old.lefts; rights = new }) (λ i class x h. h) r

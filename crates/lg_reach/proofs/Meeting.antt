@@ -1,8 +1,8 @@
 -- Where a link ends, and the known partner there.
-use Rattle.std.proofs.Common.{◌≡◌, ℕ, suc, ◌+◌, ◌-◌, ◌<◌, ◌≤◌, min, Bool, true, false, not, cond, refl, sym, ap, ◌∙◌, subst, ◌↔◌, inl, inr, Option, Some, List, length, Contains, arith}
+use Rattle.std.proofs.Common.{◌≡◌, ℕ, suc, ◌+◌, ◌-◌, ◌<◌, ◌≤◌, min, Bool, true, false, not, ltb, cond, refl, sym, ap, ◌∙◌, subst, ◌↔◌, inl, inr, Option, Some, List, length, Contains, arith}
 use Rattle.std.specs.Borrow.{Bor}
 use Rattle.std.specs.List.{slice_get, Any}
-use Rattle.std.proofs.lemmas.Bool.{cases_eq, iff_false}
+use Rattle.std.proofs.lemmas.Bool.{and_parts, cases_eq, iff_false, ltb-true}
 use Rattle.std.proofs.lemmas.Option.{same_Some}
 use Rattle.std.proofs.Math.Nat.{le-min}
 use Rattle.lg_gram.specs.Connectors.{Connector}
@@ -11,8 +11,14 @@ use Rattle.lg_gram.specs.Rules.{HasLink, Rules, left_list, lefts_of, rights_of}
 use Rattle.lg_gram.specs.declared.linkage.Link.{Link}
 use Rattle.lg_member.proofs.Linked.{linked_at}
 use Rattle.lg_member.specs.Cells.{Stands, class_of}
-use Rattle.lg_reach.specs.Ends.{AreKnown, Ends, IsNear, Knows, Suits, list_at, own, place_on}
-use Rattle.lg_reach.specs.Partners.{HasPartner, IsPartner, MatchOn, bound_on, far_end}
+use Rattle.lg_sharpen.specs.Bounds as few
+use Rattle.lg_sharpen.specs.Bounds.{IsNearest, list_at}
+use Rattle.lg_sharpen.specs.Filling.{MaySpan}
+use Rattle.lg_sharpen.specs.Sites.{own, place_on}
+use Rattle.lg_sharpen.proofs.Ends.{short_on}
+use Rattle.lg_reach.specs.Ends.{AreKnown, AreNoShorter, Ends, EndsSo, IsKnown, IsNear, Suits}
+use Rattle.lg_reach.specs.Partners.{HasPartner, IsPartner, MatchOn, MayEnd, bound_on, far_end, is_long}
+use Rattle.lg_reach.specs.declared.known.Known.{Known}
 use Rattle.lg_reach.specs.declared.nearest.Stand.{Stand}
 use Rattle.lg_reach.specs.declared.site.Site.{Site}
 use Rattle.lg_reach.specs.declared.site.Sites.{Sites}
@@ -50,19 +56,50 @@ other_table : (right : Bool) (sites : Sites) → cond (not right) sites.rights s
 other_table true sites = refl
 other_table false sites = refl
 
--- so a partner is known at the other end of each link
-pub partner_of : (g : Linkage) (sites : Sites) (i n : ℕ) (c : Connector) → Rules (rights_of g) (lefts_of g) (HasLink g) → Knows sites g → Ends g i c n → HasPartner sites i c n
-partner_of g sites i n c r known e =
-    let p = joined g r c.right i n c e.link e.has e.at e.connector e.long in
-    let d = p.0 in
-    let far = far_end c.right i n in
-    let s = known far d n (ends_at g (not c.right) far n d e.link p.1 e.has p.4 p.5 e.long) in
-    let t : cond d.right sites.rights sites.lefts ≡ cond c.right sites.lefts sites.rights = ap (λ z. cond z sites.rights sites.lefts) p.1 ∙ other_table c.right sites in
-    record {
-      site = s.site;
-      there = subst (λ z. Stands z far (class_of c.caps) s.site) t (subst (λ z. Stands (cond d.right sites.rights sites.lefts) far (class_of z) s.site) (sym p.2) s.here);
-      is = record { near = s.near; matches = subst (λ z. MatchOn c.right c z) (sym s.connector) p.3 };
-    }
+-- the nearest link of an end
+nearest_by : (g : Linkage) (right : Bool) (i n : ℕ) (l : Link) → own right l ≡ i → link_length l ≡ n → AreNoShorter g right i n → IsNearest g right l
+nearest_by g right i n l o long all e h same = subst (λ z. z ≤ link_length e) (sym long) (all e h (same ∙ o))
+
+module _ (g : Linkage) (s : Stand) (known : Known) (fits : few.Fits s.most g) (is : IsKnown known g) (first : Bool) (c : Connector) (n : ℕ) (so : EndsSo g s.position first c n) where
+  abbrev end : Ends g s.position c n
+  end = so.ends
+
+  near : first ≡ true → IsNearest g c.right end.link
+  near one = nearest_by g c.right s.position n end.link end.at end.long (so.nearest one)
+
+  -- no gap is shut that the nearest link spans
+  spanned : first ≡ true → MaySpan c.right known.gaps s.position n
+  spanned one = subst (λ z. MaySpan c.right known.gaps z n) end.at (subst (λ z. MaySpan c.right known.gaps (own c.right end.link) z) end.long (is.gaps c.right end.link end.has (near one)))
+
+  -- a partner is known at the other end of each link
+  partner_of : HasPartner known.sites s.position c (is_long s.most first n) n
+  partner_of =
+      let i = s.position in
+      let p = joined g fits.rules c.right i n c end.link end.has end.at end.connector end.long in
+      let d = p.0 in
+      let far = far_end c.right i n in
+      let other = is.sites far d n (ends_at g (not c.right) far n d end.link p.1 end.has p.4 p.5 end.long) in
+      let at = other.site in
+      let t : cond d.right known.sites.rights known.sites.lefts ≡ cond c.right known.sites.lefts known.sites.rights =
+      ap (λ z. cond z known.sites.rights known.sites.lefts) p.1 ∙ other_table c.right known.sites in
+      record {
+        site = at.site;
+        there = subst (λ z. Stands z far (class_of c.caps) at.site) t (subst (λ z. Stands (cond d.right known.sites.rights known.sites.lefts) far (class_of z) at.site) (sym p.2) at.here);
+        is = record {
+          near = at.near;
+          apart = λ long lone.
+              let (one, over) = and_parts first (ltb s.most n) long in
+              let all : AreNoShorter g (not c.right) far n = subst (λ z. AreNoShorter g z far n) p.1 (other.nearest (at.only_if lone)) in
+              let short = short_on s.most g fits c.right end.link end.has (near one) (nearest_by g (not c.right) far n end.link p.4 end.long all) in
+              let less = ltb-true s.most n over in
+              let long' = end.long in
+              absurd (omega (arith, short, less, long'));
+          matches = subst (λ z. MatchOn c.right c z) (sym at.connector) p.3;
+        };
+      }
+
+  pub may_end : MayEnd s known c first n
+  may_end = record { spans = spanned; partner = partner_of }
 
 -- both ends of a link are words
 bounded : (g : Linkage) → Rules (rights_of g) (lefts_of g) (HasLink g) → (words : ℕ) → length g.chosen ≡ words → (right : Bool) (i n : ℕ) (c : Connector) (l : Link) → HasLink g l → own right l ≡ i → slice_get (list_at right g i) (place_on right l) ≡ Some c
@@ -80,24 +117,24 @@ bounded g r words w false i n c l h o at long =
     le-min x y
 
 pub is_below : (g : Linkage) (s : Stand) → Suits g s → (c : Connector) (n : ℕ) → Ends g s.position c n → n < bound_on c.right s
-is_below g s suits c n e = bounded g suits.rules s.words suits.words c.right s.position n c e.link e.has e.at e.connector e.long
+is_below g s suits c n e = bounded g suits.fits.rules s.words suits.words c.right s.position n c e.link e.has e.at e.connector e.long
 
--- no partner is nearer than this
-abbrev pub NoneBefore : Sites → ℕ → Connector → ℕ → ℕ → Type 0
-NoneBefore sites i c least n = (m : ℕ) → HasPartner sites i c m → least ≤ m → n ≤ m
+-- none that may be is nearer than this
+abbrev pub NoneBefore : (ℕ → Type 0) → ℕ → ℕ → Type 0
+NoneBefore May least n = (m : ℕ) → May m → least ≤ m → n ≤ m
 
-pub none_more : (sites : Sites) (i : ℕ) (c : Connector) (least n : ℕ) (r : Bool) → ((r ≡ true) ↔ HasPartner sites i c n) → r ≡ false → NoneBefore sites i c least n → NoneBefore sites i c least (n + 1)
-none_more sites i c least n r found here before m p l =
+pub none_more : (May : ℕ → Type 0) (least n : ℕ) (r : Bool) → ((r ≡ true) ↔ May n) → r ≡ false → NoneBefore May least n → NoneBefore May least (n + 1)
+none_more May least n r found here before m p l =
     let b = before m p l in
     elim (cases_eq m n) [
-      | inl q ↦ absurd (iff_false found here (subst (λ z. HasPartner sites i c z) q p))
+      | inl q ↦ absurd (iff_false found here (subst May q p))
       | inr d ↦ (let y : n + 1 ≤ m = omega arith in y)
     ]
 
 -- where such a link would end, one of the sites of the class is a partner
-pub partner_there : (sites : Sites) (i n : ℕ) (c : Connector) (right : Bool) (j class : ℕ) (cell : List Site) (r : Bool) → right ≡ c.right → j ≡ far_end right i n → class ≡ class_of c.caps
-    → ((x : Site) → Contains cell x ↔ Stands (cond (not right) sites.rights sites.lefts) j class x) → ((r ≡ true) ↔ Any (IsPartner c n) cell) → (r ≡ true) ↔ HasPartner sites i c n
-partner_there sites i n c right j class cell r q ej ec at found =
+pub partner_there : (sites : Sites) (i n : ℕ) (c : Connector) (long right : Bool) (j class : ℕ) (cell : List Site) (r : Bool) → right ≡ c.right → j ≡ far_end right i n → class ≡ class_of c.caps
+    → ((x : Site) → Contains cell x ↔ Stands (cond (not right) sites.rights sites.lefts) j class x) → ((r ≡ true) ↔ Any (IsPartner c long n) cell) → (r ≡ true) ↔ HasPartner sites i c long n
+partner_there sites i n c long right j class cell r q ej ec at found =
     let t : cond (not right) sites.rights sites.lefts ≡ cond c.right sites.lefts sites.rights = other_table right sites ∙ ap (λ z. cond z sites.lefts sites.rights) q in
     let far = ej ∙ ap (λ z. far_end z i n) q in
     let here = subst (λ z. (x : Site) → Contains cell x ↔ Stands z (far_end c.right i n) (class_of c.caps) x) t
@@ -108,14 +145,14 @@ partner_there sites i n c right j class cell r q ej ec at found =
     )
 
 -- no link is as long as the bound
-pub none_fits : (g : Linkage) (s : Stand) (c : Connector) (least end : ℕ) → end ≡ bound_on c.right s → end ≤ least → Suits g s → (n : ℕ) → Ends g s.position c n → least ≤ n → ⊥
-none_fits g s c least end q h suits n e l =
-    let b : n < end = subst (λ z. n < z) (sym q) (is_below g s suits c n e) in
+pub none_fits : (g : Linkage) (s : Stand) (c : Connector) (first : Bool) (least end : ℕ) → end ≡ bound_on c.right s → end ≤ least → Suits g s → (n : ℕ) → EndsSo g s.position first c n → least ≤ n → ⊥
+none_fits g s c first least end q h suits n e l =
+    let b : n < end = subst (λ z. n < z) (sym q) (is_below g s suits c n e.ends) in
     absurd (omega arith)
 
 -- the nearest partner is no farther than any link
-pub partner_near : (g : Linkage) (s : Stand) (sites : Bor Sites) (c : Connector) (least end : ℕ) (r : Option ℕ) → s.known ≡ Some sites → end ≡ bound_on c.right s
-    → ((n : ℕ) → HasPartner sites.now s.position c n → least ≤ n → n < end → IsNear n r) → Suits g s → (n : ℕ) → Ends g s.position c n → least ≤ n → IsNear n r
-partner_near g s sites c least end r is q near suits n e l =
-    let known = subst (λ z. AreKnown z g) is suits.known in
-    near n (partner_of g sites.now s.position n c suits.rules known e) l (subst (λ z. n < z) (sym q) (is_below g s suits c n e))
+pub partner_near : (g : Linkage) (s : Stand) (known : Bor Known) (c : Connector) (first : Bool) (least end : ℕ) (r : Option ℕ) → s.known ≡ Some known → end ≡ bound_on c.right s
+    → ((n : ℕ) → MayEnd s known.now c first n → least ≤ n → n < end → IsNear n r) → Suits g s → (n : ℕ) → EndsSo g s.position first c n → least ≤ n → IsNear n r
+partner_near g s known c first least bound r is q near suits n e l =
+    let learned = subst (λ z. AreKnown z g) is suits.known in
+    near n (may_end g s known.now suits.fits learned first c n e) l (subst (λ z. n < z) (sym q) (is_below g s suits c n e.ends))

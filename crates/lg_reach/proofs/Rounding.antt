@@ -8,30 +8,37 @@ use Rattle.lg_base.proofs.Elements.{contains_none}
 use Rattle.lg_eprune.specs.Live.{WordTree}
 use Rattle.lg_gram.specs.Connectors.{Connector}
 use Rattle.lg_gram.specs.Disjuncts.{choice_of}
-use Rattle.lg_gram.specs.Linkages.{Linkage}
+use Rattle.lg_gram.specs.Linkages.{Linkage, unlinked}
 use Rattle.lg_gram.specs.Measures.{Choice}
 use Rattle.lg_gram.specs.Rules.{chosen_at, left_list, right_list}
 use Rattle.lg_gram.specs.declared.disjunct.Disjunct.{Disjunct}
-use Rattle.lg_reach.specs.Ends.{AreKnown, HaveChosen, IsLinkageOf, Knows, KnowsAt, Suits, Uses, place_on}
+use Rattle.lg_sharpen.specs.Bounds as few
+use Rattle.lg_sharpen.specs.Filling.{Gaps, Shuts}
+use Rattle.lg_sharpen.specs.Sites.{place_on}
+use Rattle.lg_sharpen.specs.Ways.{HasWay}
+use Rattle.lg_sharpen.proofs.Under.{ways_allow}
+use Rattle.lg_reach.specs.Ends.{AreKnown, HaveChosen, IsKnown, IsLinkageOf, Knows, KnowsAt, Suits, Uses}
 use Rattle.lg_reach.specs.Narrowed.{AreNarrowed}
 use Rattle.lg_reach.specs.Reach.{HaveUsed, Narrows, Never, nothing}
 use Rattle.lg_reach.specs.Rounds.{AreWalked, IsAmong}
 use Rattle.lg_reach.specs.declared.nearest.Stand.{Stand}
+use Rattle.lg_reach.specs.declared.known.Known.{Known}
 use Rattle.lg_reach.specs.declared.site.Sites.{Sites}
 use Rattle.lg_reach.proofs.Narrowing.{narrows_finds, narrows_then}
+use Rattle.lg_reach.proofs.Wording.{known_still}
 
 abbrev at : List (List WordTree) → ℕ → List WordTree
 at words i = slice_index_or words i []
 
 -- the positions below this one are walked through
-pub record AreWalkedTo (words kept : List (List WordTree)) (known : Option (Bor Sites)) (sites : Sites) (n : ℕ) : Type 0 where
+pub record AreWalkedTo (most : ℕ) (words kept : List (List WordTree)) (known : Option (Bor Known)) (sites : Sites) (ways : List (List ℕ)) (n : ℕ) : Type 0 where
   pub many : length kept ≡ n
   pub fewer : (i : ℕ) → i < n → Narrows Never (at words i) (at kept i)
-  pub used : (g : Linkage) → IsAmong words g → AreKnown known g → (i : ℕ) → i < n → Narrows (Uses g i) (at words i) (at kept i)
-  pub knows : (g : Linkage) → IsAmong words g → AreKnown known g → (i : ℕ) → i < n → KnowsAt sites g i
+  pub used : (g : Linkage) → IsAmong most words g → AreKnown known g → (i : ℕ) → i < n → Narrows (Uses g i) (at words i) (at kept i)
+  pub knows : (g : Linkage) → IsAmong most words g → AreKnown known g → (i : ℕ) → i < n → (d : Disjunct) → chosen_at g i ≡ Some d → KnowsAt sites g i × HasWay g ways i
 
-pub walked_none : (words : List (List WordTree)) (known : Option (Bor Sites)) (sites : Sites) → AreWalkedTo words [] known sites 0
-walked_none words known sites = record {
+pub walked_none : (most : ℕ) (words : List (List WordTree)) (known : Option (Bor Known)) (sites : Sites) (ways : List (List ℕ)) → AreWalkedTo most words [] known sites ways 0
+walked_none most words known sites ways = record {
   many = refl;
   fewer = λ i low. absurd (omega (arith, low));
   used = λ g among before i low. absurd (omega (arith, low));
@@ -56,28 +63,31 @@ linked_choice true None p c is = absurd (nothing_at p c is)
 linked_choice false None p c is = absurd (nothing_at p c is)
 linked_choice right (Some d) p c is = (d, refl)
 
--- at the words that it has there
-knows_by : (old new : Sites) (stand : Stand) (words kept : List WordTree) → AreNarrowed old new stand words kept → (g : Linkage) → Suits g stand → HaveChosen g stand.position words → KnowsAt new g stand.position
-knows_by old new stand words kept w g suits has c n ends =
-    let (d, chosen) = linked_choice c.right (chosen_at g stand.position) (place_on c.right ends.link) c ends.connector in
-    let (v, listed, uses) = has d chosen in
-    w.known g suits d chosen v listed uses c n ends
-
-module _ (words kept : List (List WordTree)) (known : Option (Bor Sites)) (now new : Sites) (n : ℕ) (to : AreWalkedTo words kept known now n) (stand : Stand) (here : stand.position ≡ n)
-    (long : stand.words ≡ length words) (before : stand.known ≡ known) (left : List WordTree) (w : AreNarrowed now new stand (at words n) left) where
+module _ (most : ℕ) (words kept : List (List WordTree)) (known : Option (Bor Known)) (now new : Sites) (before after : List (List ℕ)) (n : ℕ) (to : AreWalkedTo most words kept known now before n) (stand : Stand)
+    (here : stand.position ≡ n) (long : stand.words ≡ length words) (few_so : stand.most ≡ most) (was : stand.known ≡ known) (left : List WordTree)
+    (w : AreNarrowed now new before after stand (at words n) left) where
   earlier : (i : ℕ) → i < n → at (kept ++ left ∷ []) i ≡ at kept i
   earlier i low = get_or_append_left kept (left ∷ []) [] i (let many = to.many in omega (arith, many, low))
 
   last : at (kept ++ left ∷ []) n ≡ left
   last = ap (at (kept ++ left ∷ [])) (sym to.many) ∙ get_or-append_seam kept left [] []
 
-  suited : (g : Linkage) → IsAmong words g → AreKnown known g → Suits g stand
-  suited g among is = record { rules = among.rules; words = among.same_length ∙ sym long; known = subst (λ o. AreKnown o g) (sym before) is }
+  suited : (g : Linkage) → IsAmong most words g → AreKnown known g → Suits g stand
+  suited g among is = record { fits = subst (λ m. few.Fits m g) (sym few_so) among.fits; words = among.same_length ∙ sym long; known = subst (λ o. AreKnown o g) (sym was) is }
 
   each : (P : ℕ → Type 0) → ((i : ℕ) → i < n → P i) → P n → (i : ℕ) → i < n + 1 → P i
   each P less same i low = elim (below_or_last i n low) [ inl l ↦ less i l | inr is ↦ subst P (sym is) same ]
 
-  pub walked_more : AreWalkedTo words (kept ++ left ∷ []) known new (n + 1)
+  abbrev Learned : Linkage → ℕ → Type 0
+  Learned g i = (d : Disjunct) → chosen_at g i ≡ Some d → KnowsAt new g i × HasWay g after i
+
+  -- what is learned at this position, from the words that the linkage has there
+  learned : (g : Linkage) → IsAmong most words g → AreKnown known g → Learned g stand.position
+  learned g among is d chosen =
+      let (v, listed, uses) = subst (λ p. HaveChosen g p (at words n)) (sym here) (among.chosen n) d chosen in
+      w.known g (suited g among is) d chosen v listed uses
+
+  pub walked_more : AreWalkedTo most words (kept ++ left ∷ []) known new after (n + 1)
   walked_more = record {
     many = length-append kept (left ∷ []) ∙ ap (λ m. m + 1) to.many;
     fewer = each (λ i. Narrows Never (at words i) (at (kept ++ left ∷ []) i)) (λ i low. subst (Narrows Never (at words i)) (sym (earlier i low)) (to.fewer i low))
@@ -86,8 +96,7 @@ module _ (words kept : List (List WordTree)) (known : Option (Bor Sites)) (now n
         each (λ i. Narrows (Uses g i) (at words i) (at (kept ++ left ∷ []) i)) (λ i low. subst (Narrows (Uses g i) (at words i)) (sym (earlier i low)) (to.used g among is i low))
         (subst (Narrows (Uses g n) (at words n)) (sym last) (subst (λ p. Narrows (Uses g p) (at words n) left) here (w.used g (suited g among is))));
     knows = λ g among is.
-        each (λ i. KnowsAt new g i) (λ i low c m ends. w.keeps i c m (to.knows g among is i low c m ends))
-        (subst (λ p. KnowsAt new g p) here (knows_by now new stand (at words n) left w g (suited g among is) (subst (λ p. HaveChosen g p (at words n)) (sym here) (among.chosen n))));
+        each (λ i. Learned g i) (λ i low d chosen. known_still g now new before after i w.keeps w.keeps_ways (to.knows g among is i low d chosen)) (subst (λ p. Learned g p) here (learned g among is));
   }
 
 within_or_past : (i n : ℕ) → (i < n) ⊎ (n ≤ i)
@@ -95,19 +104,7 @@ within_or_past i zero = inr (omega arith)
 within_or_past zero (suc n) = inl (omega arith)
 within_or_past (suc i) (suc n) = elim (within_or_past i n) [ inl l ↦ inl (omega (arith, l)) | inr l ↦ inr (omega (arith, l)) ]
 
-pub walked_all : (words kept : List (List WordTree)) (known : Option (Bor Sites)) (sites : Sites) → AreWalkedTo words kept known sites (length words) → AreWalked words kept known sites
-walked_all words kept known sites to = record {
-  fewer = record { same_length = to.many; each = λ i. all Never (to.fewer) i };
-  used = λ g among is i. all_of (λ i. Uses g i) (to.used g among is) i;
-  knows = λ g among is i c n ends.
-      elim (within_or_past i (length words)) [
-        | inl low ↦ to.knows g among is i low c n ends
-        | inr past ↦ (
-            let (d, chosen) = linked_choice c.right (chosen_at g i) (place_on c.right ends.link) c ends.connector in
-            let (v, listed, uses) = among.chosen i d chosen in
-            absurd (contains_none v (subst (λ ws. Contains ws v) (get_or_past words i [] past) listed)))
-      ];
-} where
+module _ (most : ℕ) (words kept : List (List WordTree)) (known : Option (Bor Known)) (sites : Sites) (ways : List (List ℕ)) (to : AreWalkedTo most words kept known sites ways (length words)) where
   all_of : (Used : ℕ → Choice → Type 0) → ((i : ℕ) → i < length words → Narrows (Used i) (at words i) (at kept i)) → (i : ℕ) → Narrows (Used i) (at words i) (at kept i)
   all_of Used low i =
       elim (within_or_past i (length words)) [
@@ -116,13 +113,27 @@ walked_all words kept known sites to = record {
             (subst (Narrows (Used i) []) (sym (get_or_past kept i [] (let many = to.many in omega (arith, many, past)))) nothing)
       ]
 
-  all : (Used : Choice → Type 0) → ((i : ℕ) → i < length words → Narrows Used (at words i) (at kept i)) → (i : ℕ) → Narrows Used (at words i) (at kept i)
-  all Used = all_of (λ i. Used)
+  learned_at : (g : Linkage) → IsAmong most words g → AreKnown known g → (i : ℕ) (d : Disjunct) → chosen_at g i ≡ Some d → KnowsAt sites g i × HasWay g ways i
+  learned_at g among is i d chosen =
+      elim (within_or_past i (length words)) [
+        | inl low ↦ to.knows g among is i low d chosen
+        | inr past ↦ (let (v, listed, uses) = among.chosen i d chosen in absurd (contains_none v (subst (λ ws. Contains ws v) (get_or_past words i [] past) listed)))
+      ]
+
+  links_known : (g : Linkage) → IsAmong most words g → AreKnown known g → Knows sites g
+  links_known g among is i c n ends = let (d, chosen) = linked_choice c.right (chosen_at g i) (place_on c.right ends.link) c ends.connector in (learned_at g among is i d chosen).0 c n ends
+
+  pub walked_all : AreWalked most words kept known sites ways
+  walked_all = record {
+    fewer = record { same_length = to.many; each = λ i. all_of (λ i. Never) to.fewer i };
+    used = λ g among is i. all_of (λ i. Uses g i) (to.used g among is) i;
+    knows = λ g among is. record { sites_know = links_known g among is; ways_know = λ i d chosen. (learned_at g among is i d chosen).1 };
+  }
 
 -- a good linkage is such a linkage
-pub good_among : (words : List (List WordTree)) (g : Linkage) → IsLinkageOf words g → IsAmong words g
-good_among words g is = record {
-  rules = is.good.rules;
+pub good_among : (words : List (List WordTree)) (nulls : ℕ) (g : Linkage) → IsLinkageOf words g → unlinked g ≤ nulls → IsAmong (nulls + 1) words g
+good_among words nulls g is less = record {
+  fits = record { rules = is.good.rules; connected = is.good.connected; few = omega (arith, less) };
   same_length = is.good.belongs.same_length ∙ is.same_length;
   chosen = λ i d chosen.
       let at_i = is.of i d (is.good.belongs.listed i d chosen) in
@@ -130,9 +141,9 @@ good_among words g is = record {
 }
 
 -- and so it is where all that it uses is kept
-still_among : (words kept : List (List WordTree)) (g : Linkage) → IsAmong words g → length kept ≡ length words → HaveUsed g words kept → IsAmong kept g
-still_among words kept g among same used = record {
-  rules = among.rules;
+still_among : (most : ℕ) (words kept : List (List WordTree)) (g : Linkage) → IsAmong most words g → length kept ≡ length words → HaveUsed g words kept → IsAmong most kept g
+still_among most words kept g among same used = record {
+  fits = among.fits;
   same_length = among.same_length ∙ sym same;
   chosen = λ i d chosen.
       let (w, listed, uses) = among.chosen i d chosen in
@@ -140,25 +151,31 @@ still_among words kept g among same used = record {
 }
 
 -- one round after others
-walked_again : (words kept again : List (List WordTree)) (sites more : Sites) (known : Bor Sites) → known.now ≡ sites → AreWalked words kept None sites → AreWalked kept again (Some known) more → AreWalked words again None more
-walked_again words kept again sites more known same v w = record {
-  fewer = record {
-    same_length = w.fewer.same_length ∙ v.fewer.same_length;
-    each = λ i. narrows_then Never (at words i) (at kept i) (at again i) (v.fewer.each i) (w.fewer.each i);
-  };
-  used = λ g among is i. narrows_then (Uses g i) (at words i) (at kept i) (at again i) (v.used g among is i) (w.used g (now g among) (learned g among) i);
-  knows = λ g among is. w.knows g (now g among) (learned g among);
-} where
-  now : (g : Linkage) → IsAmong words g → IsAmong kept g
-  now g among = still_among words kept g among v.fewer.same_length (v.used g among tt)
+module _ (most : ℕ) (words kept again : List (List WordTree)) (sites more : Sites) (ways longer : List (List ℕ)) (gaps : Gaps) (shuts : Shuts most ways gaps) (known : Bor Known)
+    (same : known.now ≡ record { sites = sites; gaps = gaps }) (v : AreWalked most words kept None sites ways) (w : AreWalked most kept again (Some known) more longer) where
+  now : (g : Linkage) → IsAmong most words g → IsAmong most kept g
+  now g among = still_among most words kept g among v.fewer.same_length (v.used g among tt)
 
-  learned : (g : Linkage) → IsAmong words g → Knows known.now g
-  learned g among = subst (λ s. Knows s g) (sym same) (v.knows g among tt)
+  known_so : (g : Linkage) → IsAmong most words g → IsKnown known.now g
+  known_so g among =
+      let learned = v.knows g among tt in
+      subst (λ k. IsKnown k g) (sym same) (record { sites = learned.sites_know; gaps = ways_allow most g among.fits ways learned.ways_know gaps shuts })
+
+  walked_again : AreWalked most words again None more longer
+  walked_again = record {
+    fewer = record {
+      same_length = w.fewer.same_length ∙ v.fewer.same_length;
+      each = λ i. narrows_then Never (at words i) (at kept i) (at again i) (v.fewer.each i) (w.fewer.each i);
+    };
+    used = λ g among is i. narrows_then (Uses g i) (at words i) (at kept i) (at again i) (v.used g among is i) (w.used g (now g among) (known_so g among) i);
+    knows = λ g among is. w.knows g (now g among) (known_so g among);
+  }
 
 -- what is read at a position
 pub read_at : (words : List (List WordTree)) (n : ℕ) (ws : List WordTree) → n < length words → ws ≡ get_or words n ws → ws ≡ slice_index_or words n []
 read_at words n ws within is = sym (get_or_from_slice_get words n ws [] (slice_get_read words (length words) n ws refl within is))
 
-pub walked_next : (words kept given again : List (List WordTree)) (sites more : Sites) (known : Bor Sites) → given ≡ kept → known.now ≡ sites → AreWalked words kept None sites
-    → AreWalked given again (Some known) more → AreWalked words again None more
-walked_next words kept given again sites more known is same v w = walked_again words kept again sites more known same v (subst (λ ws. AreWalked ws again (Some known) more) is w)
+pub walked_next : (most : ℕ) (words kept given again : List (List WordTree)) (sites more : Sites) (ways longer : List (List ℕ)) (gaps : Gaps) → Shuts most ways gaps → (known : Bor Known) → given ≡ kept
+    → known.now ≡ record { sites = sites; gaps = gaps } → AreWalked most words kept None sites ways → AreWalked most given again (Some known) more longer → AreWalked most words again None more longer
+walked_next most words kept given again sites more ways longer gaps shuts known is same v w =
+    walked_again most words kept again sites more ways longer gaps shuts known same v (subst (λ ws. AreWalked most ws again (Some known) more longer) is w)

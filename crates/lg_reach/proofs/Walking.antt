@@ -1,6 +1,7 @@
 -- Walks through the parts of an expression make one through the whole.
-use Rattle.std.proofs.Common.{◌≡◌, ◌∙◌, refl, sym, ap, subst, ℕ, ◌+◌, ◌≤◌, ◌<◌, ℤ, Bool, true, false, true≢false, Option, Some, None, List, [], ◌∷◌, ◌++◌, length, get_or, drop, take, map, arith}
+use Rattle.std.proofs.Common.{◌≡◌, ◌∙◌, refl, sym, ap, subst, ℕ, ◌+◌, ◌≤◌, ◌<◌, ℤ, Bool, true, false, not, true≢false, Option, Some, None, List, [], ◌∷◌, ◌++◌, length, get_or, drop, take, map, arith}
 use Rattle.std.specs.Option.{option_map}
+use Rattle.std.proofs.lemmas.Bool.{and_parts}
 use Rattle.std.proofs.lemmas.List.{append_assoc, append-nil, drop_more, drop_all, map-append, take_all, take_more}
 use Rattle.lg_gram.specs.Connectors.{Connector}
 use Rattle.lg_gram.specs.Linkages.{Linkage}
@@ -8,18 +9,18 @@ use Rattle.lg_gram.specs.Measures.{Choice, choices_of, choices_of_any, dearer, n
 use Rattle.lg_gram.specs.Trees.{Tree, Trees, no_trees, tree, tree_of, trees_of, trees_in}
 use Rattle.lg_gram.specs.declared.expr.Expr.{Expr}
 use Rattle.lg_reach.specs.Climbs.{IsFewer, IsWithin, Leaves}
-use Rattle.lg_reach.specs.Ends.{Ends, HasSite, Keeps, Suits}
+use Rattle.lg_reach.specs.Ends.{EndsSo, alone, HasSite, Keeps, Serves, Suits}
 use Rattle.lg_reach.specs.Walks.{Walks, behind_link, nearer_by}
 use Rattle.lg_reach.specs.declared.nearest.Stand.{Stand}
 use Rattle.lg_reach.specs.declared.site.Sites.{Sites}
 use Rattle.lg_reach.specs.declared.walk.Least.{Least}
-use Rattle.lg_reach.proofs.Joining.{all_joined, dearer_fewer, dearer_leaves, either, either_fewer, either_leaves, first_none, leaf_after, leaf_leaves, leaf_none, least_on, none_leaves, nothing_leaves, pick_fewer, pick_leaves, second_none, seen_more}
+use Rattle.lg_reach.proofs.Joining.{all_joined, dearer_fewer, dearer_leaves, either, either_fewer, either_leaves, first_none, leaf_after, leaf_leaves, leaf_none, least_on, none_leaves, nothing_leaves, pick_fewer, pick_leaves, second_none, seen_more, IsLoose, no_farther_then}
 
 pub walks_nothing : (s : Sites) (stand : Stand) (start : Least) → Walks s s stand start (no_connectors ∷ []) (Some (no_connectors ∷ [], start))
 walks_nothing s stand start = record {
-  keeps = λ i c n h. h;
+  keeps = λ i c n lone h. h;
   fewer = λ c m. m;
-  leaves = λ g suits. nothing_leaves (Ends g stand.position) (HasSite s stand.position) start;
+  leaves = λ g suits. nothing_leaves (EndsSo g stand.position) (Serves s g stand.position) start;
 }
 
 pub walks_dearer : (old new : Sites) (stand : Stand) (start : Least) (cs : List Choice) (o : Option (List Choice × Least)) (price : ℤ) → Walks old new stand start cs o
@@ -27,30 +28,51 @@ pub walks_dearer : (old new : Sites) (stand : Stand) (start : Least) (cs : List 
 walks_dearer old new stand start cs o price w = record {
   keeps = w.keeps;
   fewer = dearer_fewer price cs o w.fewer;
-  leaves = λ g suits. dearer_leaves (Ends g stand.position) (HasSite new stand.position) start price cs o (w.leaves g suits);
+  leaves = λ g suits. dearer_leaves (EndsSo g stand.position) (Serves new g stand.position) start price cs o (w.leaves g suits);
 }
 
 -- no link can be so long
-pub walks_none : (s : Sites) (stand : Stand) (start : Least) (c : Connector) → ((g : Linkage) → Suits g stand → (n : ℕ) → Ends g stand.position c n → least_on c.right start ≤ n → ⊥)
+pub walks_none : (s : Sites) (stand : Stand) (start : Least) (c : Connector)
+    → ((g : Linkage) → Suits g stand → (n : ℕ) → EndsSo g stand.position (least_on c.right start).first c n → (least_on c.right start).least ≤ n → ⊥)
     → Walks s s stand start (single c ∷ []) None
 walks_none s stand start c far = record {
-  keeps = λ i d n h. h;
+  keeps = λ i d n lone h. h;
   fewer = tt;
-  leaves = λ g suits. leaf_none (Ends g stand.position) (HasSite s stand.position) start c (far g suits);
+  leaves = λ g suits. leaf_none (EndsSo g stand.position) (Serves s g stand.position) start c (far g suits);
 }
 
--- a site that serves links of a length serves longer ones
-site_longer : (s : Sites) (i : ℕ) (c : Connector) (m n : ℕ) → HasSite s i c m → m ≤ n → HasSite s i c n
-site_longer s i c m n h more = record { site = h.site; here = h.here; connector = h.connector; near = let near = h.near in omega (arith, near, more) }
+-- a site of links of a length serves longer ones
+pub site_longer : (s : Sites) (i : ℕ) (c : Connector) (m n : ℕ) (lone : Bool) → HasSite s i c m lone → m ≤ n → HasSite s i c n lone
+site_longer s i c m n lone h more = record { site = h.site; here = h.here; connector = h.connector; near = let near = h.near in omega (arith, near, more); only_if = h.only_if }
+
+not_multi : (b : Bool) → not b ≡ true → b ≡ false
+not_multi true is = absurd cc
+not_multi false is = refl
+
+site_serves : (s : Sites) (g : Linkage) (i : ℕ) (first : Bool) (c : Connector) (m n : ℕ) → HasSite s i c m (alone first c) → EndsSo g i first c n → m ≤ n → Serves s g i c n
+site_serves s g i first c m n h ends more = record {
+  lone = alone first c;
+  site = site_longer s i c m n (alone first c) h more;
+  one = λ is. not_multi c.multi (and_parts first (not c.multi) is).1;
+  nearest = λ is. ends.nearest (and_parts first (not c.multi) is).0;
+}
+
+-- what is not forgotten serves still
+pub serves_still : (old new : Sites) (g : Linkage) (i : ℕ) → Keeps old new → (c : Connector) (n : ℕ) → Serves old g i c n → Serves new g i c n
+serves_still old new g i keeps c n h = record { lone = h.lone; site = keeps i c n h.lone h.site; one = h.one; nearest = h.nearest }
+
+loose : (g : Linkage) (i : ℕ) → IsLoose (EndsSo g i)
+loose g i b c n e = record { ends = e.ends; nearest = λ is. absurd cc }
 
 -- all links are so long at least, and the sites know it
-pub walks_leaf : (old new : Sites) (stand : Stand) (start : Least) (c : Connector) (m : ℕ) → Keeps old new → HasSite new stand.position c m
-    → ((g : Linkage) → Suits g stand → (n : ℕ) → Ends g stand.position c n → least_on c.right start ≤ n → m ≤ n)
+pub walks_leaf : (old new : Sites) (stand : Stand) (start : Least) (c : Connector) (m : ℕ) → Keeps old new → HasSite new stand.position c m (alone (least_on c.right start).first c)
+    → ((g : Linkage) → Suits g stand → (n : ℕ) → EndsSo g stand.position (least_on c.right start).first c n → (least_on c.right start).least ≤ n → m ≤ n)
     → Walks old new stand start (single c ∷ []) (Some (single c ∷ [], leaf_after c m start))
 walks_leaf old new stand start c m keeps has near = record {
   keeps = keeps;
   fewer = λ d h. h;
-  leaves = λ g suits. leaf_leaves (Ends g stand.position) (HasSite new stand.position) start c m (near g suits) (λ n more. site_longer new stand.position c m n has more);
+  leaves = λ g suits.
+      leaf_leaves (EndsSo g stand.position) (Serves new g stand.position) start c m (near g suits) (λ n ends more. site_serves new g stand.position (least_on c.right start).first c m n has ends more);
 }
 
 -- the choices with one of each of these members in front
@@ -74,7 +96,7 @@ pub record WalksOn (old now : Sites) (stand : Stand) (start : Least) (all : Tree
   pub keeps : Keeps old now
   pub fewer : (o : Option (List Choice × Least)) → IsFewer (picks_of rest) o → IsFewer (picks_of all) (after_all kept o)
   pub leaves : (g : Linkage) → Suits g stand → (more : Sites) → Keeps now more → (o : Option (List Choice × Least))
-      → Leaves (Ends g stand.position) (HasSite more stand.position) least (picks_of rest) o → Leaves (Ends g stand.position) (HasSite more stand.position) start (picks_of all) (after_all kept o)
+      → Leaves (EndsSo g stand.position) (Serves more g stand.position) least (picks_of rest) o → Leaves (EndsSo g stand.position) (Serves more g stand.position) start (picks_of all) (after_all kept o)
 
 same_after : (o : Option (List Choice × Least)) → o ≡ after_all [] o
 same_after None = refl
@@ -82,13 +104,13 @@ same_after (Some l) = refl
 
 pub on_start : (s : Sites) (stand : Stand) (start : Least) (all : Trees) → WalksOn s s stand start all [] start all
 on_start s stand start all = record {
-  keeps = λ i c n h. h;
+  keeps = λ i c n lone h. h;
   fewer = λ o h. subst (IsFewer (picks_of all)) (same_after o) h;
-  leaves = λ g suits more keeps o h. subst (Leaves (Ends g stand.position) (HasSite more stand.position) start (picks_of all)) (same_after o) h;
+  leaves = λ g suits more keeps o h. subst (Leaves (EndsSo g stand.position) (Serves more g stand.position) start (picks_of all)) (same_after o) h;
 }
 
 keeps_then : (a b c : Sites) → Keeps a b → Keeps b c → Keeps a c
-keeps_then a b c first next i d n h = next i d n (first i d n h)
+keeps_then a b c first next i d n lone h = next i d n lone (first i d n lone h)
 
 module _ (old now new : Sites) (stand : Stand) (start least : Least) (all : Trees) (kept : List Tree) (t : Tree) (rest : Trees) (on : WalksOn old now stand start all kept least (tree t rest)) where
   more_fewer : (u : Tree) (next : Least) (w : Walks now new stand least (choices_of t) (Some (choices_of u, next))) (o : Option (List Choice × Least))
@@ -99,21 +121,21 @@ module _ (old now new : Sites) (stand : Stand) (start least : Least) (all : Tree
       (on.fewer (Some (all_joined (choices_of u) l.0, l.1)) (pick_fewer (choices_of t) (choices_of u) (picks_of rest) l.0 next l.1 l.1 w.fewer h))
 
   more_leaves : (u : Tree) (next : Least) (w : Walks now new stand least (choices_of t) (Some (choices_of u, next))) (g : Linkage) → Suits g stand → (more : Sites) → Keeps new more
-      → (o : Option (List Choice × Least)) → Leaves (Ends g stand.position) (HasSite more stand.position) next (picks_of rest) o
-      → Leaves (Ends g stand.position) (HasSite more stand.position) start (picks_of all) (after_all (kept ++ u ∷ []) o)
+      → (o : Option (List Choice × Least)) → Leaves (EndsSo g stand.position) (Serves more g stand.position) next (picks_of rest) o
+      → Leaves (EndsSo g stand.position) (Serves more g stand.position) start (picks_of all) (after_all (kept ++ u ∷ []) o)
   more_leaves u next w g suits more keeps None h =
-      let Ok = Ends g stand.position in
-      let Seen = HasSite more stand.position in
+      let Ok = EndsSo g stand.position in
+      let Seen = Serves more g stand.position in
       on.leaves g suits more (keeps_then now new more w.keeps keeps) None
-      (second_none Ok Seen least next (choices_of t) (choices_of u) (picks_of rest)
-      (seen_more Ok (HasSite new stand.position) Seen least (choices_of t) (Some (choices_of u, next)) (keeps stand.position) (w.leaves g suits)) h)
+      (second_none Ok Seen (loose g stand.position) least next (choices_of t) (choices_of u) (picks_of rest)
+      (seen_more Ok (Serves new g stand.position) Seen least (choices_of t) (Some (choices_of u, next)) (serves_still new more g stand.position keeps) (w.leaves g suits)) h)
   more_leaves u next w g suits more keeps (Some l) h =
-      let Ok = Ends g stand.position in
-      let Seen = HasSite more stand.position in
+      let Ok = EndsSo g stand.position in
+      let Seen = Serves more g stand.position in
       subst (λ cs. Leaves Ok Seen start (picks_of all) (Some (cs, l.1))) (sym (behind_push kept u l.0))
       (on.leaves g suits more (keeps_then now new more w.keeps keeps) (Some (all_joined (choices_of u) l.0, l.1))
-      (pick_leaves Ok Seen least next l.1 (choices_of t) (choices_of u) (picks_of rest) l.0
-      (seen_more Ok (HasSite new stand.position) Seen least (choices_of t) (Some (choices_of u, next)) (keeps stand.position) (w.leaves g suits)) h))
+      (pick_leaves Ok Seen (loose g stand.position) least next l.1 (choices_of t) (choices_of u) (picks_of rest) l.0
+      (seen_more Ok (Serves new g stand.position) Seen least (choices_of t) (Some (choices_of u, next)) (serves_still new more g stand.position keeps) (w.leaves g suits)) h))
 
   pub on_more : (u : Tree) (next : Least) → Walks now new stand least (choices_of t) (Some (choices_of u, next)) → WalksOn old new stand start all (kept ++ u ∷ []) next rest
   on_more u next w = record {
@@ -127,7 +149,7 @@ module _ (old now new : Sites) (stand : Stand) (start least : Least) (all : Tree
     keeps = keeps_then old now new on.keeps w.keeps;
     fewer = tt;
     leaves = λ g suits.
-        on.leaves g suits new w.keeps None (first_none (Ends g stand.position) (HasSite new stand.position) least (choices_of t) (picks_of rest) (w.leaves g suits));
+        on.leaves g suits new w.keeps None (first_none (EndsSo g stand.position) (Serves new g stand.position) least (choices_of t) (picks_of rest) (w.leaves g suits));
   }
 
 pub on_end : (old now : Sites) (stand : Stand) (start : Least) (all : Trees) (kept : List Tree) (least : Least) → WalksOn old now stand start all kept least no_trees
@@ -135,8 +157,8 @@ pub on_end : (old now : Sites) (stand : Stand) (start : Least) (all : Trees) (ke
 on_end old now stand start all kept least on = record {
   keeps = on.keeps;
   fewer = subst (λ cs. IsFewer (picks_of all) (Some (cs, least))) (behind_nothing kept) (on.fewer (Some (no_connectors ∷ [], least)) (λ c h. h));
-  leaves = λ g suits. subst (λ cs. Leaves (Ends g stand.position) (HasSite now stand.position) start (picks_of all) (Some (cs, least))) (behind_nothing kept)
-      (on.leaves g suits now (λ i c n h. h) (Some (no_connectors ∷ [], least)) (nothing_leaves (Ends g stand.position) (HasSite now stand.position) least));
+  leaves = λ g suits. subst (λ cs. Leaves (EndsSo g stand.position) (Serves now g stand.position) start (picks_of all) (Some (cs, least))) (behind_nothing kept)
+      (on.leaves g suits now (λ i c n lone h. h) (Some (no_connectors ∷ [], least)) (nothing_leaves (EndsSo g stand.position) (Serves now g stand.position) least));
 }
 
 -- what was said of the end is said of what lies no farther
@@ -151,18 +173,14 @@ nearer_end old now stand start cs kept after near within w = record {
         stays = h.stays;
         within = λ end c ls rs listed fits.
             let by = h.within end c ls rs listed fits in
-            let a = within.left in
-            let b = by.left in
-            let d = within.right in
-            let e = by.right in
-            record { left = omega (arith, a, b); right = omega (arith, d, e) };
+            record { left = no_farther_then near.left after.left end.left within.left by.left; right = no_farther_then near.right after.right end.right within.right by.right };
         lefts = h.lefts;
         rights = h.rights;
       };
 }
 
-pub walks_link : (old new : Sites) (stand : Stand) (start near : Least) (c : Connector) (m : ℕ) → Keeps old new → HasSite new stand.position c m
-    → ((g : Linkage) → Suits g stand → (n : ℕ) → Ends g stand.position c n → least_on c.right start ≤ n → m ≤ n) → IsWithin near (behind_link c m start)
+pub walks_link : (old new : Sites) (stand : Stand) (start near : Least) (c : Connector) (m : ℕ) → Keeps old new → HasSite new stand.position c m (alone (least_on c.right start).first c)
+    → ((g : Linkage) → Suits g stand → (n : ℕ) → EndsSo g stand.position (least_on c.right start).first c n → (least_on c.right start).least ≤ n → m ≤ n) → IsWithin near (behind_link c m start)
     → Walks old new stand start (single c ∷ []) (Some (single c ∷ [], near))
 walks_link old new stand start near c m keeps has far within =
     nearer_end old new stand start (single c ∷ []) (single c ∷ []) (leaf_after c m start) near within (walks_leaf old new stand start c m keeps has far)
@@ -174,9 +192,9 @@ walks_either old now new stand start firsts bs o p v w = record {
   keeps = keeps_then old now new v.keeps w.keeps;
   fewer = either_fewer firsts bs o p v.fewer w.fewer;
   leaves = λ g suits.
-      let Ok = Ends g stand.position in
-      let Seen = HasSite new stand.position in
-      either_leaves Ok Seen start firsts bs o p (seen_more Ok (HasSite now stand.position) Seen start firsts o (w.keeps stand.position) (v.leaves g suits)) (w.leaves g suits);
+      let Ok = EndsSo g stand.position in
+      let Seen = Serves new g stand.position in
+      either_leaves Ok Seen start firsts bs o p (seen_more Ok (Serves now g stand.position) Seen start firsts o (serves_still now new g stand.position w.keeps) (v.leaves g suits)) (w.leaves g suits);
 }
 
 -- of the members that were kept so far
@@ -209,9 +227,9 @@ pub record WalksTo (old now : Sites) (stand : Stand) (start : Least) (first : Li
 pub to_start : (s : Sites) (stand : Stand) (start : Least) → WalksTo s s stand start [] [] None
 to_start s stand start = record {
   walks = record {
-    keeps = λ i c n h. h;
+    keeps = λ i c n lone h. h;
     fewer = tt;
-    leaves = λ g suits. none_leaves (Ends g stand.position) (HasSite s stand.position) start;
+    leaves = λ g suits. none_leaves (EndsSo g stand.position) (Serves s g stand.position) start;
   };
   empty = λ is. refl;
 }

@@ -1,5 +1,5 @@
 -- Words that are walked through one after another.
-use Rattle.std.proofs.Common.{◌≡◌, ◌∙◌, refl, sym, ap, subst, ℕ, ◌+◌, ◌<◌, Bool, true, false, cond, Option, Some, None, List, [], ◌∷◌, ◌++◌, length, get_or, take, slice_get, Contains, ◌⊎◌, inl, inr}
+use Rattle.std.proofs.Common.{◌≡◌, ◌∙◌, refl, sym, ap, subst, ℕ, ◌+◌, ◌-◌, ◌<◌, ◌≤◌, arith, Bool, true, false, cond, Option, Some, None, List, [], ◌∷◌, ◌++◌, length, get_or, take, slice_get, Contains, ◌⊎◌, inl, inr}
 use Rattle.std.specs.List.{AllZip}
 use Rattle.std.proofs.lemmas.List.{take_more}
 use Rattle.std.proofs.lemmas.List.Elements.{Contains-append_cases}
@@ -8,13 +8,17 @@ use Rattle.lg_base.proofs.Elements.{contains_cases, contains_none}
 use Rattle.lg_eprune.specs.Live.{WordTree}
 use Rattle.lg_gram.specs.Connectors.{Connector}
 use Rattle.lg_gram.specs.Disjuncts.{choice_of}
-use Rattle.lg_gram.specs.Linkages.{Linkage, link_length}
+use Rattle.lg_gram.specs.Linkages.{Linkage}
 use Rattle.lg_gram.specs.Measures.{Choice, choices_of}
 use Rattle.lg_gram.specs.Rules.{chosen_at, left_list, right_list}
 use Rattle.lg_gram.specs.Trees.{Tree}
 use Rattle.lg_gram.specs.declared.disjunct.Disjunct.{Disjunct}
-use Rattle.lg_reach.specs.Climbs.{Fits, Holds}
-use Rattle.lg_reach.specs.Ends.{Ends, HasSite, Suits, Uses, place_on}
+use Rattle.lg_sharpen.specs.Bounds.{list_at}
+use Rattle.lg_sharpen.specs.Filling.{Notes}
+use Rattle.lg_sharpen.specs.Sites.{own, place_on}
+use Rattle.lg_sharpen.specs.Ways.{HasWay, IsMet}
+use Rattle.lg_reach.specs.Climbs.{Fits, Holds, at_first}
+use Rattle.lg_reach.specs.Ends.{AreNoShorter, EndsSo, Keeps, KeepsWays, KnowsAt, Serves, Suits, Uses}
 use Rattle.lg_reach.specs.Narrowed.{AreNarrowed}
 use Rattle.lg_reach.specs.Reach.{Never, dropped, kept, nothing}
 use Rattle.lg_reach.specs.Walks.{Walks}
@@ -22,34 +26,53 @@ use Rattle.lg_reach.specs.declared.nearest.Stand.{Stand}
 use Rattle.lg_reach.specs.declared.site.Sites.{Sites}
 use Rattle.lg_reach.specs.declared.walk.Least.{Least}
 use Rattle.lg_reach.proofs.Narrowing.{narrows_append}
-use Rattle.lg_reach.proofs.Placing.{first, placed, placed_with}
+use Rattle.lg_reach.proofs.Placing.{placed, placed_with}
+use Rattle.lg_reach.proofs.Walking.{serves_still, site_longer}
 
-pub narrowed_none : (s : Sites) (stand : Stand) → AreNarrowed s s stand [] []
-narrowed_none s stand = record {
-  keeps = λ i c n h. h;
+pub narrowed_none : (s : Sites) (ways : List (List ℕ)) (stand : Stand) → AreNarrowed s s ways ways stand [] []
+narrowed_none s ways stand = record {
+  keeps = λ i c n lone h. h;
+  keeps_ways = λ w a. omega arith;
   fewer = nothing;
   used = λ g suits. nothing;
   known = λ g suits d chosen w listed uses. absurd (contains_none w listed);
 }
 
-pub narrowed_then : (old now new : Sites) (stand : Stand) (firsts bs cs ds : List WordTree) → AreNarrowed old now stand firsts bs → AreNarrowed now new stand cs ds → AreNarrowed old new stand (firsts ++ cs) (bs ++ ds)
-narrowed_then old now new stand firsts bs cs ds v w = record {
-  keeps = λ i c n h. w.keeps i c n (v.keeps i c n h);
+-- a way that was noted still is
+pub way_kept : (g : Linkage) (old new : List (List ℕ)) (w : ℕ) → KeepsWays old new → HasWay g old w → HasWay g new w
+way_kept g old new w keeps h = record {
+  left = h.left;
+  right = h.right;
+  noted = λ a low. let less = keeps w a in let was = h.noted a low in omega (arith, less, was);
+  left_met = h.left_met;
+  right_met = h.right_met;
+}
+
+-- so a linkage that is known still is
+pub known_still : (g : Linkage) (old new : Sites) (before after : List (List ℕ)) (i : ℕ) → Keeps old new → KeepsWays before after → KnowsAt old g i × HasWay g before i → KnowsAt new g i × HasWay g after i
+known_still g old new before after i keeps ways (known, way) = (λ c n e. serves_still old new g i keeps c n (known c n e), way_kept g before after i ways way)
+
+pub narrowed_then : (old now new : Sites) (before between after : List (List ℕ)) (stand : Stand) (firsts bs cs ds : List WordTree) → AreNarrowed old now before between stand firsts bs
+    → AreNarrowed now new between after stand cs ds → AreNarrowed old new before after stand (firsts ++ cs) (bs ++ ds)
+narrowed_then old now new before between after stand firsts bs cs ds v w = record {
+  keeps = λ i c n lone h. w.keeps i c n lone (v.keeps i c n lone h);
+  keeps_ways = λ x a. let p = v.keeps_ways x a in let q = w.keeps_ways x a in omega (arith, p, q);
   fewer = narrows_append Never firsts bs cs ds v.fewer w.fewer;
   used = λ g suits. narrows_append (Uses g stand.position) firsts bs cs ds (v.used g suits) (w.used g suits);
   known = λ g suits d chosen u listed uses.
       elim (Contains-append_cases firsts cs u listed) [
-        | inl m ↦ λ c n e. w.keeps stand.position c n (v.known g suits d chosen u m uses c n e)
+        | inl m ↦ known_still g now new between after stand.position w.keeps w.keeps_ways (v.known g suits d chosen u m uses)
         | inr m ↦ w.known g suits d chosen u m uses
       ];
 }
 
 -- one word more
-pub narrowed_more : (old now new : Sites) (stand : Stand) (words : List WordTree) (i : ℕ) (word : WordTree) → i < length words → word ≡ get_or words i word → (done left : List WordTree)
-    → AreNarrowed old now stand (take i words) done → AreNarrowed now new stand (word ∷ []) left → AreNarrowed old new stand (take (i + 1) words) (done ++ left)
-narrowed_more old now new stand words i word within read done left v w =
-    subst (λ ws. AreNarrowed old new stand ws (done ++ left)) (ap (λ x. take i words ++ x ∷ []) read ∙ sym (take_more words i word within))
-    (narrowed_then old now new stand (take i words) done (word ∷ []) left v w)
+pub narrowed_more : (old now new : Sites) (before between after : List (List ℕ)) (stand : Stand) (words : List WordTree) (i : ℕ) (word : WordTree) → i < length words → word ≡ get_or words i word
+    → (done left : List WordTree) → AreNarrowed old now before between stand (take i words) done → AreNarrowed now new between after stand (word ∷ []) left
+    → AreNarrowed old new before after stand (take (i + 1) words) (done ++ left)
+narrowed_more old now new before between after stand words i word within read done left v w =
+    subst (λ ws. AreNarrowed old new before after stand ws (done ++ left)) (ap (λ x. take i words ++ x ∷ []) read ∙ sym (take_more words i word within))
+    (narrowed_then old now new before between after stand (take i words) done (word ∷ []) left v w)
 
 -- what holds place by place holds at a place of both
 at_place : (R : Connector → ℕ → Type 0) (cs : List Connector) (ns : List ℕ) → AllZip R cs ns → (i : ℕ) (c : Connector) (n : ℕ) → slice_get cs i ≡ Some c → slice_get ns i ≡ Some n → R c n
@@ -61,7 +84,7 @@ list_of : Bool → Option Disjunct → List Connector
 list_of right o = cond right (right_list o) (left_list o)
 
 -- the links of what holds are seen
-seen_at : (Ok Seen : Connector → ℕ → Type 0) (s end after : Least) (cs left : List Choice) (d : Disjunct) (ls rs : List ℕ) → Holds Ok Seen s cs left after → Contains cs (choice_of d)
+seen_at : (Ok : Bool → Connector → ℕ → Type 0) (Seen : Connector → ℕ → Type 0) (s end after : Least) (cs left : List Choice) (d : Disjunct) (ls rs : List ℕ) → Holds Ok Seen s cs left after → Contains cs (choice_of d)
     → Fits Ok s end (choice_of d) ls rs → (right : Bool) (p : ℕ) (c : Connector) (n : ℕ) → slice_get (cond right d.right d.left) p ≡ Some c → slice_get (cond right rs ls) p ≡ Some n → Seen c n
 seen_at Ok Seen s end after cs left d ls rs holds listed fits true p c n here there = at_place Seen d.right rs (holds.rights end (choice_of d) ls rs listed fits) p c n here there
 seen_at Ok Seen s end after cs left d ls rs holds listed fits false p c n here there = at_place Seen d.left ls (holds.lefts end (choice_of d) ls rs listed fits) p c n here there
@@ -69,49 +92,81 @@ seen_at Ok Seen s end after cs left d ls rs holds listed fits false p c n here t
 only : (v w : WordTree) → Contains (v ∷ []) w → v ≡ w
 only v w h = elim (contains_cases v [] w h) [ inl is ↦ is | inr m ↦ absurd (contains_none w m) ]
 
+-- what is met so far is met no less far
+met_less : (g : Linkage) (right : Bool) (w m n : ℕ) → m ≤ n → IsMet g right w n → IsMet g right w m
+met_less g right w m n less (inl is) = inl (omega (arith, is, less))
+met_less g right w m n less (inr (e, has, at, far)) = inr (e, has, at, omega (arith, far, less))
+
 module _ (old new : Sites) (stand : Stand) (word : WordTree) where
   -- a word of which no choice is left
-  pub narrowed_away : Walks old new stand first (choices_of word.tree) None → AreNarrowed old new stand (word ∷ []) []
-  narrowed_away w = record {
+  pub narrowed_away : (ways : List (List ℕ)) → Walks old new stand at_first (choices_of word.tree) None → AreNarrowed old new ways ways stand (word ∷ []) []
+  narrowed_away ways w = record {
     keeps = w.keeps;
+    keeps_ways = λ x a. omega arith;
     fewer = dropped word [] [] (λ c m never. never) nothing;
     used = λ g suits. dropped word [] [] (λ c m uses. unfit g suits c m uses.0 uses.1 uses.2) nothing;
     known = λ g suits d chosen v listed uses. absurd (unfit g suits (choice_of d) (subst (λ (x : WordTree). Contains (choices_of x.tree) (choice_of d)) (sym (only word v listed)) uses) d chosen refl);
   } where
     unfit : (g : Linkage) → Suits g stand → (c : Choice) → Contains (choices_of word.tree) c → (d : Disjunct) → chosen_at g stand.position ≡ Some d → choice_of d ≡ c → ⊥
     unfit g suits c m d chosen is =
-        let (end, ls, rs, fits) = placed g suits.rules stand.position d chosen in
+        let (end, ls, rs, fits, l, r) = placed stand.most g suits.fits stand.position d chosen in
         w.leaves g suits end (choice_of d) ls rs (subst (Contains (choices_of word.tree)) (sym is) m) fits
 
-  -- a word with these choices, or with more of its own
-  pub narrowed_to : (cs : List Choice) (after : Least) (left : WordTree) → Walks old new stand first (choices_of word.tree) (Some (cs, after)) → left.word ≡ word.word
-      → ((c : Choice) → Contains (choices_of left.tree) c → Contains (choices_of word.tree) c) → ((c : Choice) → Contains cs c → Contains (choices_of left.tree) c)
-      → AreNarrowed old new stand (word ∷ []) (left ∷ [])
-  narrowed_to cs after left w same from to = record {
-    keeps = w.keeps;
-    fewer = kept word left [] [] same from (λ c m never. absurd never) nothing;
-    used = λ g suits. kept word left [] [] same from (λ c m uses. to c (stays g suits c m uses.0 uses.1 uses.2)) nothing;
-    known = λ g suits d chosen v listed uses c n ends. known g suits d chosen (subst (λ (x : WordTree). Contains (choices_of x.tree) (choice_of d)) (sym (only word v listed)) uses) c n ends;
-  } where
+  module _ (before after : List (List ℕ)) (cs : List Choice) (least : Least) (w : Walks old new stand at_first (choices_of word.tree) (Some (cs, least)))
+      (notes : Notes stand.position (least.left.least - 1) (least.right.least - 1) before after) where
     stays : (g : Linkage) → Suits g stand → (c : Choice) → Contains (choices_of word.tree) c → (d : Disjunct) → chosen_at g stand.position ≡ Some d → choice_of d ≡ c → Contains cs c
     stays g suits c m d chosen is =
-        let (end, ls, rs, fits) = placed g suits.rules stand.position d chosen in
+        let (end, ls, rs, fits, l, r) = placed stand.most g suits.fits stand.position d chosen in
         subst (Contains cs) is ((w.leaves g suits).stays end (choice_of d) ls rs (subst (Contains (choices_of word.tree)) (sym is) m) fits)
 
-    known : (g : Linkage) → Suits g stand → (d : Disjunct) → chosen_at g stand.position ≡ Some d → Contains (choices_of word.tree) (choice_of d) → (c : Connector) (n : ℕ)
-        → Ends g stand.position c n → HasSite new stand.position c n
+    known : (g : Linkage) → Suits g stand → (d : Disjunct) → chosen_at g stand.position ≡ Some d → Contains (choices_of word.tree) (choice_of d) → KnowsAt new g stand.position
     known g suits d chosen m c n ends =
         let i = stand.position in
         let link = ends.link in
-        let (end, ls, rs, fits, there) = placed_with g suits.rules i d chosen c.right link ends.has ends.at in
+        let (end, ls, rs, fits, k, there, less) = placed_with stand.most g suits.fits i d chosen c.right link ends.has ends.at in
         let here : slice_get (cond c.right d.right d.left) (place_on c.right link) ≡ Some c = ap (λ o. slice_get (cond c.right (right_list o) (left_list o)) (place_on c.right link)) (sym chosen) ∙ ends.connector in
-        subst (HasSite new i c) ends.long
-        (seen_at (Ends g i) (HasSite new i) first end after (choices_of word.tree) cs d ls rs (w.leaves g suits) m fits c.right (place_on c.right link) c (link_length link) here there)
+        let seen = seen_at (EndsSo g i) (Serves new g i) at_first end least (choices_of word.tree) cs d ls rs (w.leaves g suits) m fits c.right (place_on c.right link) c k here there in
+        let at : slice_get (list_at c.right g (own c.right link)) (place_on c.right link) ≡ Some c = subst (λ z. slice_get (list_at c.right g z) (place_on c.right link) ≡ Some c) (sym ends.at) ends.connector in
+        let near = less.near refl in
+        let long = ends.long in
+        record {
+          lone = seen.lone;
+          site = site_longer new i c k n seen.lone seen.site (omega (arith, near, long));
+          one = seen.one;
+          nearest = λ is. subst (AreNoShorter g c.right i) (less.same refl c at (seen.one is) ∙ ends.long) (seen.nearest is);
+        }
+
+    way : (g : Linkage) → Suits g stand → (d : Disjunct) → chosen_at g stand.position ≡ Some d → Contains (choices_of word.tree) (choice_of d) → HasWay g after stand.position
+    way g suits d chosen m =
+        let (end, ls, rs, fits, l, r) = placed stand.most g suits.fits stand.position d chosen in
+        let within = (w.leaves g suits).within end (choice_of d) ls rs m fits in
+        let a = within.left.least in
+        let b = within.right.least in
+        record {
+          left = least.left.least - 1;
+          right = least.right.least - 1;
+          noted = notes.noted;
+          left_met = met_less g false stand.position (least.left.least - 1) (end.left.least - 1) (omega (arith, a)) l;
+          right_met = met_less g true stand.position (least.right.least - 1) (end.right.least - 1) (omega (arith, b)) r;
+        }
+
+    -- a word with these choices, or with more of its own
+    narrowed_to : (left : WordTree) → left.word ≡ word.word → ((c : Choice) → Contains (choices_of left.tree) c → Contains (choices_of word.tree) c)
+        → ((c : Choice) → Contains cs c → Contains (choices_of left.tree) c) → AreNarrowed old new before after stand (word ∷ []) (left ∷ [])
+    narrowed_to left same from to = record {
+      keeps = w.keeps;
+      keeps_ways = notes.lower;
+      fewer = kept word left [] [] same from (λ c m never. absurd never) nothing;
+      used = λ g suits. kept word left [] [] same from (λ c m uses. to c (stays g suits c m uses.0 uses.1 uses.2)) nothing;
+      known = λ g suits d chosen v listed uses.
+          let here = subst (λ (x : WordTree). Contains (choices_of x.tree) (choice_of d)) (sym (only word v listed)) uses in
+          (known g suits d chosen here, way g suits d chosen here);
+    }
 
   -- with the tree of what is left, or with its own
-  pub narrowed_by : (what : Tree) (after : Least) (left : WordTree) → Walks old new stand first (choices_of word.tree) (Some (choices_of what, after)) → left.word ≡ word.word
-      → (left.tree ≡ what) ⊎ (left.tree ≡ word.tree) → AreNarrowed old new stand (word ∷ []) (left ∷ [])
-  narrowed_by what after left w named (inl same) =
-      narrowed_to (choices_of what) after left w named (λ c m. w.fewer c (subst (λ t. Contains (choices_of t) c) same m)) (λ c m. subst (λ t. Contains (choices_of t) c) (sym same) m)
-  narrowed_by what after left w named (inr same) =
-      narrowed_to (choices_of what) after left w named (λ c m. subst (λ t. Contains (choices_of t) c) same m) (λ c m. subst (λ t. Contains (choices_of t) c) (sym same) (w.fewer c m))
+  pub narrowed_by : (before after : List (List ℕ)) (what : Tree) (least : Least) (left : WordTree) → Walks old new stand at_first (choices_of word.tree) (Some (choices_of what, least))
+      → Notes stand.position (least.left.least - 1) (least.right.least - 1) before after → left.word ≡ word.word → (left.tree ≡ what) ⊎ (left.tree ≡ word.tree) → AreNarrowed old new before after stand (word ∷ []) (left ∷ [])
+  narrowed_by before after what least left w notes named (inl same) =
+      narrowed_to before after (choices_of what) least w notes left named (λ c m. w.fewer c (subst (λ t. Contains (choices_of t) c) same m)) (λ c m. subst (λ t. Contains (choices_of t) c) (sym same) m)
+  narrowed_by before after what least left w notes named (inr same) =
+      narrowed_to before after (choices_of what) least w notes left named (λ c m. subst (λ t. Contains (choices_of t) c) same m) (λ c m. subst (λ t. Contains (choices_of t) c) (sym same) (w.fewer c m))

@@ -5,6 +5,7 @@
 //! to reach back as far. What one walk learns the next one uses.
 #![tactic(auto)]
 
+mod known;
 mod nearest;
 mod rounds;
 mod site;

@@ -1,62 +1,87 @@
 //! Rounds of walks through all formulas of a sentence.
-ghost use Rattle.std.specs.Prelude.{IfOk};
-ghost use Rattle.lg_gram.specs.Linkages.{Linkage};
+ghost use Rattle.std.specs.Prelude.{◌≤◌, ◌+◌, ◌^◌, ◌<◌, IfOk};
+ghost use Rattle.lg_gram.specs.Linkages.{Linkage, unlinked};
 ghost use Rattle.lg_reach.specs.Ends.{IsLinkageOf};
 ghost use Rattle.lg_reach.specs.Reach.{HaveFewer, HaveUsed};
 ghost use Rattle.lg_reach.specs.Rounds.{AreWalked};
 
+use crate::known::Known;
 use crate::nearest::Stand;
 use crate::site::Sites;
 use crate::words::reach_words;
 use lg_base::NoMemory;
 use lg_eprune::{PositionExprs, WordExprs};
+use lg_sharpen::{Gaps, Ways};
 use std::alloc::Global;
 
 // How often the formulas are walked through after the first time.
 const ROUNDS: u32 = 3;
 
-/// The words of each position with fewer choices of their formulas, among them all that any good linkage uses. A word of which nothing is left
-/// is dropped.
+/// The words of each position with fewer choices of their formulas, among them all that any good linkage with at most so many unlinked words
+/// uses. A word of which nothing is left is dropped.
 ///
 /// A choice goes where one of its links would have to be longer than the sentence allows, or would end at no word that has a partner which
-/// reaches back as far: a link is longer than those of the connectors before it, at both its ends. The time is that of four walks through all
-/// formulas. The only error is running out of memory.
-pub fn within_reach(alloc: Global, positions: &[WordExprs]) -> Result<PositionExprs, NoMemory>
+/// reaches back as far: a link is longer than those of the connectors before it, at both its ends. The words under the nearest link of a
+/// word, to one side of it, link among themselves and with that link's other end alone; those whose formulas have no choice for that are
+/// unlinked, so they are no more than `nulls`. Where a link is the nearest of both its ends, all words under it are unlinked. The time is
+/// that of four walks through all formulas. The only error is running out of memory.
+pub fn within_reach(
+    alloc: Global,
+    positions: &[WordExprs],
+    nulls: u32,
+) -> Result<PositionExprs, NoMemory>
     ensures fewer { IfOk result (HaveFewer positions.now) }
-    ensures used { (g : Linkage) → IsLinkageOf positions.now g → IfOk result (HaveUsed g positions.now) }
+    ensures used { (g : Linkage) → IsLinkageOf positions.now g → unlinked g ≤ nulls → IfOk result (HaveUsed g positions.now) }
 {
-    let mut round = walk_through(alloc, positions, None)?;
+    let most = nulls as usize + 1;
+    let mut round = walk_through(alloc, positions, most, None)?;
     for _round in 0..ROUNDS {
-        let Round { kept, sites } = round;
-        round = walk_through(alloc, &kept, Some(&sites))?;
+        let Round { kept, sites, ways } = round;
+        let gaps = Gaps::of(alloc, count_of(&kept), most as u64, &ways)?;
+        let known = Known { sites, gaps };
+        round = walk_through(alloc, &kept, most, Some(&known))?;
     }
     Ok(PositionExprs::of(round.kept))
 }
 
-/// What a round has left, and the sites of its connectors.
+/// What a round has left, and what it has learned.
 #[derive(Drop)]
 struct Round {
     kept: Vec<WordExprs>,
     sites: Sites,
+    ways: Ways,
 }
 
 fn walk_through(
     alloc: Global,
     positions: &[WordExprs],
-    known: Option<&Sites>,
+    most: usize,
+    known: Option<&Known>,
 ) -> Result<Round, NoMemory>
-    ensures { IfOk result (λ round. AreWalked positions.now round.kept.items known.entry round.sites) }
+    ensures { IfOk result (λ round. AreWalked most positions.now round.kept.items known.entry round.sites round.ways) }
 {
     let words = positions.len();
-    let mut sites = Sites::new(alloc, u32::try_from(words).unwrap_or(u32::MAX))?;
+    let mut sites = Sites::new(alloc, count_of(positions))?;
+    let mut ways = Ways::none(alloc, count_of(positions))?;
     let mut kept = Vec::with_capacity(alloc, words)?;
     for position in 0..words {
         let stand = Stand {
             position,
             words,
+            most,
             known,
         };
-        kept.push(reach_words(alloc, positions[position].items(), &stand, &mut sites)?)?;
+        kept.push(reach_words(
+            alloc,
+            positions[position].items(),
+            &stand,
+            &mut sites,
+            &mut ways,
+        )?)?;
     }
-    Ok(Round { kept, sites })
+    Ok(Round { kept, sites, ways })
+}
+
+fn count_of(positions: &[WordExprs]) -> u32 {
+    u32::try_from(positions.len()).unwrap_or(u32::MAX)
 }

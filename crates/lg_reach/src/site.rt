@@ -10,11 +10,12 @@ use lg_gram::Connector;
 use lg_member::{Cells, Wide};
 use std::alloc::Global;
 
-/// A connector of a position, and how long a link of it is at least.
+/// A connector of a position, how long a link of it is at least, and whether it is alone: it has one link, which is the nearest of its side.
 #[derive(Clone, Copy, Debug)]
 pub(crate) struct Site {
     pub(crate) connector: Connector,
     pub(crate) least: usize,
+    pub(crate) lone: bool,
 }
 
 impl Wide for Site {
@@ -24,10 +25,12 @@ impl Wide for Site {
 
     /// Whether what meets the other site meets this one too.
     fn is_wider(&self, site: &Site) -> bool {
-        self.least <= site.least && is_same(&self.connector, &site.connector)
+        self.least <= site.least
+            && (!self.lone || site.lone)
+            && is_same(&self.connector, &site.connector)
     }
 
-    ghost itself = { λ s. record { connector = refl; least = omega arith } };
+    ghost itself = { λ s. record { connector = refl; least = omega arith; lone = λ is. is } };
 }
 
 fn is_same(a: &Connector, b: &Connector) -> bool
@@ -51,19 +54,21 @@ impl Sites {
         Ok(Sites { lefts, rights })
     }
 
-    /// The connector stands at the position, and its links are at least so long.
+    /// The connector stands at the position, its links are at least so long, and it is alone or may not be.
     pub(crate) fn add(
         &mut self,
         position: usize,
         connector: &Connector,
         least: usize,
+        lone: bool,
     ) -> Result<(), NoMemory>
         ensures keeps { OnOk result (Keeps self.old self.new) }
-        ensures added { OnOk result (HasSite self.new position connector.now least) }
+        ensures added { OnOk result (HasSite self.new position connector.now least lone) }
     {
         let site = Site {
             connector: *connector,
             least,
+            lone,
         };
         if connector.is_right() {
             self.rights.push(position, connector.caps(), &site)

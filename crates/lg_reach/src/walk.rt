@@ -1,9 +1,10 @@
 //! A walk through an expression, from near to far.
-ghost use Rattle.std.specs.Prelude.{◌≡◌, ◌∷◌, [], IfOk, Some, cond};
+ghost use Rattle.std.specs.Prelude.{◌≡◌, ◌-◌, ◌∷◌, [], IfOk, Some, cond};
 ghost use Rattle.lg_gram.specs.Measures.{no_connectors, single, choices_of, picks_of, choices_of_any};
 ghost use Rattle.lg_gram.specs.Trees.{empty, leaf, all_of, one_of, priced, tree_of, trees_in, expr_items};
-ghost use Rattle.lg_reach.specs.Climbs.{IsWithin, seen};
-ghost use Rattle.lg_reach.specs.Walks.{Walks, behind_link, nearer_by};
+ghost use Rattle.lg_reach.specs.Ends.{alone};
+ghost use Rattle.lg_reach.specs.Climbs.{IsNoFarther, IsWithin, at_first, beyond, seen};
+ghost use Rattle.lg_reach.specs.Walks.{Walks, behind_link, nearer_by, nearer_of};
 
 use crate::nearest::Stand;
 use crate::site::Sites;
@@ -11,21 +12,71 @@ use lg_base::{Cost, NoMemory};
 use lg_gram::{Connector, Expr, Exprs};
 use std::alloc::Global;
 
-/// How long the next link is at least, to the left and to the right.
+/// How long the next link of a side is at least, and whether none of that side comes before it.
+#[derive(Clone, Copy, Debug)]
+pub(crate) struct Next {
+    pub(crate) least: usize,
+    pub(crate) first: bool,
+}
+
+impl Next {
+    /// How long the last link before it is at least; 0 where there may be none.
+    pub(crate) fn length(self) -> usize
+        ensures { result ≡ self.least - 1 }
+    {
+        self.least.saturating_sub(1)
+    }
+
+    /// So long as the shorter of the two, and the first where both are.
+    fn or(self, other: Next) -> Next
+        ensures { result ≡ nearer_of self other }
+    {
+        Next {
+            least: self.least.min(other.least),
+            first: self.first && other.first,
+        }
+    }
+
+    /// After a link that is at least so long.
+    fn after(length: usize) -> Next
+        ensures { IsNoFarther result (beyond length) }
+    {
+        Next {
+            least: length.saturating_add(1),
+            first: false,
+        }
+    }
+}
+
+/// The next links to the left and to the right.
 #[derive(Clone, Copy, Debug)]
 pub(crate) struct Least {
-    pub(crate) left: usize,
-    pub(crate) right: usize,
+    pub(crate) left: Next,
+    pub(crate) right: Next,
 }
 
 impl Least {
+    /// Before the nearest links.
+    pub(crate) fn first() -> Least
+        ensures { result ≡ at_first }
+    {
+        let next = Next {
+            least: 1,
+            first: true,
+        };
+        Least {
+            left: next,
+            right: next,
+        }
+    }
+
     /// At each side so long as the shorter of the two.
     fn or(self, other: Least) -> Least
         ensures { result ≡ nearer_by (Some self) other }
     {
         Least {
-            left: self.left.min(other.left),
-            right: self.right.min(other.right),
+            left: self.left.or(other.left),
+            right: self.right.or(other.right),
         }
     }
 
@@ -35,18 +86,18 @@ impl Least {
     {
         if connector.is_right() {
             Least {
-                right: length.saturating_add(1),
+                right: Next::after(length),
                 ..self
             }
         } else {
             Least {
-                left: length.saturating_add(1),
+                left: Next::after(length),
                 ..self
             }
         }
     }
 
-    fn on(self, right: bool) -> usize
+    fn on(self, right: bool) -> Next
         ensures { result ≡ cond right self.right self.left }
     {
         if right { self.right } else { self.left }
@@ -113,14 +164,23 @@ fn reach_leaf(
 ) -> Result<Option<Left<Expr>>, NoMemory>
     ensures { IfOk result (λ left. Walks sites.old sites.new stand.now start (single connector.now ∷ []) (seen left)) }
 {
-    let Some(length) = stand.nearest(connector, start.on(connector.is_right())) else {
+    let next = start.on(connector.is_right());
+    let Some(length) = stand.nearest(connector, next) else {
         return Ok(None);
     };
-    sites.add(stand.position, connector, length)?;
+    let lone = is_alone(next.first, connector);
+    sites.add(stand.position, connector, length, lone)?;
     Ok(Some(Left {
         what: leaf(connector),
         least: start.after(connector, length),
     }))
+}
+
+// Whether a connector, which is the first of its side or may not be, has one link, the nearest.
+fn is_alone(first: bool, connector: &Connector) -> bool
+    ensures { result ≡ alone first connector.now }
+{
+    first && !connector.is_multi()
 }
 
 #[cycle(reach)]

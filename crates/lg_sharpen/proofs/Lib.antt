@@ -5,5 +5,6 @@ pub mod Tables
 pub mod Standing
 pub mod Under
 pub mod Rows
+pub mod Counting
 pub mod Away
 pub mod Pruned

@@ -13,8 +13,7 @@ use Rattle.lg_sharpen.specs.Sites.{own, place_on, across, MatchOn, Holds, HasPar
 use Rattle.lg_sharpen.specs.Bounds.{Fits, IsNearest, Needs, AllowsGaps, Allows, Covers, AllowsAll, IsNarrowed, Narrows, NarrowsAll}
 use Rattle.lg_member.specs.Cells.{Table}
 use Rattle.lg_member.specs.declared.side.Side.{Side}
-use Rattle.lg_sharpen.specs.Filling.{MaySpan}
-use Rattle.lg_sharpen.specs.declared.gaps.Gaps.{Gaps}
+use Rattle.lg_sharpen.specs.Filling.{Gaps, MaySpan}
 use Rattle.lg_sharpen.specs.declared.site.Site.{Site}
 use Rattle.lg_sharpen.specs.declared.site.Span.{Span}
 use Rattle.lg_sharpen.proofs.Ends.{longer, joined, is_across, short_on, covered, near_link, farther_cross, before_fit, before_is, behind_is, needs_fit, needs_fit_other}

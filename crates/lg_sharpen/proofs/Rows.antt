@@ -79,7 +79,7 @@ stuck_more rows first last word n s new b eb le t =
     (sum_by-map-range_with_len_more (λ end. cond (ltb last end) 1 0) (λ w. least_at rows w first) word n (word + n) refl)
 
 -- what holds of each place still does when an element comes behind
-added : {A : Type 0} (xs : List A) (x : A) (d : A) (P : ℕ → A → Type 0) → ((a : ℕ) → P a (get_or xs a d)) → P (length xs) x → (a : ℕ) → P a (get_or (xs ++ x ∷ []) a d)
+pub added : {A : Type 0} (xs : List A) (x : A) (d : A) (P : ℕ → A → Type 0) → ((a : ℕ) → P a (get_or xs a d)) → P (length xs) x → (a : ℕ) → P a (get_or (xs ++ x ∷ []) a d)
 added {A} xs x d P old new a =
     elim (cases_lt a (length xs)) [
       | inl h ↦ subst (λ z. P a z) (sym (get_or_append_left xs (x ∷ []) d a h)) (old a)

@@ -10,6 +10,7 @@ use Rattle.lg_gram.specs.Linkages.{Linkage, link_length}
 use Rattle.lg_gram.specs.Rules.{HasLink, chosen_at}
 use Rattle.lg_gram.specs.declared.disjunct.Disjunct.{Disjunct}
 use Rattle.lg_gram.specs.declared.linkage.Link.{Link}
+use Rattle.lg_sharpen.specs.Filling.{Gaps}
 use Rattle.lg_sharpen.specs.Needs.{IsFar, AreNeeds}
 use Rattle.lg_sharpen.specs.Sites.{own, place_on, Holds, IsOpen, IsWider, IsTableOf, IsReach, AreStarted, AreStartedAll}
 use Rattle.lg_member.specs.Cells.{Table}
@@ -17,7 +18,6 @@ use Rattle.lg_member.specs.Laws.{MembersGoByRounds}
 use Rattle.lg_member.specs.Members.{list_on, side_on, IsSideAt, IsKnown, AreUsed, Keeps, are_on}
 use Rattle.lg_sharpen.specs.Bounds.{list_at, Fits, Needs, SetsNeeds, AllowsGaps, Allows, Covers, CoversAt, AllowsAll, NarrowsAll, AreOpen, AreChosen, CoversAll, Stands, KeepsStanding, KeepsNeeds, KeepsChosen}
 use Rattle.lg_member.specs.declared.side.Side.{Side}
-use Rattle.lg_sharpen.specs.declared.gaps.Gaps.{Gaps}
 use Rattle.lg_sharpen.specs.declared.site.Site.{Site}
 use Rattle.lg_member.specs.declared.member.Member.{Member}
 use Rattle.lg_sharpen.proofs.Ends.{joined, chosen_of, list_of, covered, only_is_nearest, fewer_before, fewer_needs, has_farther}

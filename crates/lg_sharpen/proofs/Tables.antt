@@ -11,8 +11,7 @@ use Rattle.lg_gram.specs.Connectors.{Connector}
 use Rattle.lg_member.specs.Cells.{Table, Stands, Adds, class_of}
 use Rattle.lg_member.specs.declared.side.Side.{Side}
 use Rattle.lg_sharpen.specs.Sites.{MatchOn, MeetsOver, MayBeLone, IsWider, across, IsHeld, AddsSites, AddsOpen, IsOpen, IsTableOf, HasPartner, IsStarted, AreStarted, IsReach, items_in}
-use Rattle.lg_sharpen.specs.Filling.{MaySpan}
-use Rattle.lg_sharpen.specs.declared.gaps.Gaps.{Gaps}
+use Rattle.lg_sharpen.specs.Filling.{Gaps, MaySpan}
 use Rattle.lg_sharpen.specs.declared.site.Site.{Site}
 
 abbrev pub items_of : Vec Site → List Site

@@ -1,5 +1,5 @@
 -- The words under the nearest link of a word link among themselves and with that link's other end alone, so that too few ways to link them shut a gap.
-use Rattle.std.proofs.Common.{◌≡◌, ℕ, zero, suc, ◌+◌, ◌-◌, ◌<◌, ◌≤◌, ◌⊎◌, inl, inr, List, [], ◌∷◌, ◌++◌, length, map, take, get_or, refl, sym, ap, ◌∙◌, subst, Option, Some, None, IsSome, is_none, Bool, true, false, cond, ltb, count_by, Contains, arith}
+use Rattle.std.proofs.Common.{◌≡◌, ℕ, zero, suc, ◌+◌, ◌-◌, ◌<◌, ◌≤◌, inl, inr, List, [], ◌∷◌, ◌++◌, length, map, take, get_or, refl, sym, ap, ◌∙◌, subst, Option, Some, None, IsSome, is_none, Bool, true, false, cond, ltb, count_by, Contains, arith}
 use Rattle.std.specs.List.{range_with_len}
 use Rattle.std.proofs.lemmas.Bool.{cases_lt, ltb-true}
 use Rattle.std.proofs.lemmas.Option.{get_or_from_slice_get}
@@ -13,9 +13,9 @@ use Rattle.lg_gram.specs.declared.linkage.Link.{Link}
 use Rattle.lg_member.specs.Members.{side_on}
 use Rattle.lg_member.specs.declared.member.Member.{Member}
 use Rattle.lg_sharpen.specs.Sites.{own}
-use Rattle.lg_sharpen.specs.Filling.{rows_in, flag_at, need_of, need_at, least_at, AreLeast, under, first_of, last_of, stuck_under, AreSpans, AreGaps}
+use Rattle.lg_sharpen.specs.Filling.{Gaps, flag_at, need_of, need_at, least_at, AreLeast, under, first_of, last_of, stuck_under, AreSpans, AreGaps, Shuts}
+use Rattle.lg_sharpen.specs.Ways.{HasWay, IsMet, KnowsWays}
 use Rattle.lg_sharpen.specs.Bounds.{Fits, IsNearest, AllowsGaps, Covers, CoversAll, Stands}
-use Rattle.lg_sharpen.specs.declared.gaps.Gaps.{Gaps}
 use Rattle.lg_sharpen.specs.declared.site.Site.{Site}
 use Rattle.lg_sharpen.proofs.Apart.{none_since}
 use Rattle.lg_sharpen.proofs.Ends.{covered}
@@ -57,36 +57,44 @@ stays_behind most g f false l h n e he a b =
     r
 
 -- what a list needs at least, some link of it has
-need_met : (most : ℕ) (g : Linkage) → Fits most g → (right : Bool) (i : ℕ) (sites : List Site) → Covers g right i sites
-    → (need_of sites ≡ 0) ⊎ ((e : Link) × HasLink g e × (own right e ≡ i) × (need_of sites ≤ link_length e))
+need_met : (most : ℕ) (g : Linkage) → Fits most g → (right : Bool) (i : ℕ) (sites : List Site) → Covers g right i sites → IsMet g right i (need_of sites)
 need_met most g f right i [] c = inl refl
 need_met most g f right i (s ∷ ss) c = let k = covered most g f right i (s ∷ ss) c 0 s refl (omega arith) in inr (k.0, k.1, k.2, k.4.from)
 
 -- what a member that a linkage uses needs at least
 member_needs : (most : ℕ) (g : Linkage) → Fits most g → (right : Bool) (lists : List (List Site)) (ms : List Member) (m : Member) → Contains ms m → chosen_at g m.position ≡ Some m.disjunct.now → CoversAll g right lists ms
-    → (need_at lists (side_on right m) ≡ 0) ⊎ ((e : Link) × HasLink g e × (own right e ≡ m.position) × (need_at lists (side_on right m) ≤ link_length e))
+    → IsMet g right m.position (need_at lists (side_on right m))
 member_needs most g f right lists ms m has e covers =
     let c = covers m has e in
     let same : get_or lists (side_on right m) [] ≡ c.0 = get_or_from_slice_get lists (side_on right m) c.0 [] c.1 in
-    subst (λ z. (need_of z ≡ 0) ⊎ ((e : Link) × HasLink g e × (own right e ≡ m.position) × (need_of z ≤ link_length e))) (sym same) (need_met most g f right m.position c.0 c.2)
+    subst (λ z. IsMet g right m.position (need_of z)) (sym same) (need_met most g f right m.position c.0 c.2)
+
+-- so a linkage's words have ways that the members' are
+members_know : (most : ℕ) (g : Linkage) → Fits most g → (ll rl : List (List Site)) (ms : List Member) → Stands g ll rl ms → (rows : List (List ℕ)) → AreLeast ll rl ms rows → KnowsWays g rows
+members_know most g f ll rl ms s rows least w d ew =
+    let m = s.chosen w d ew in
+    let u = used_by g w d m.0 ew m.2 m.3 in
+    subst (λ z. HasWay g rows z) m.2 (record {
+      left = need_at ll m.0.left;
+      right = need_at rl m.0.right;
+      noted = least m.0 m.1;
+      left_met = member_needs most g f false ll ms m.0 m.1 u s.left;
+      right_met = member_needs most g f true rl ms m.0 m.1 u s.right;
+    })
 
 -- a linked word whose links lie between two positions has a way to link noted
-has_way : (most : ℕ) (g : Linkage) → Fits most g → (ll rl : List (List Site)) (ms : List Member) → Stands g ll rl ms
-    → (rows : List (List ℕ)) → AreLeast ll rl ms rows → (w : ℕ) (d : Disjunct) → chosen_at g w ≡ Some d → (a c : ℕ) → a ≤ w → w ≤ c
+has_way : (most : ℕ) (g : Linkage) → Fits most g → (rows : List (List ℕ)) (w : ℕ) → HasWay g rows w → (a c : ℕ) → a ≤ w → w ≤ c
     → ((e : Link) → HasLink g e → e.right ≡ w → a ≤ e.left) → ((e : Link) → HasLink g e → e.left ≡ w → e.right ≤ c) → least_at rows w a ≤ c
-has_way most g f ll rl ms s rows least w d ew a c la lc from end =
-    let m = s.chosen w d ew in
-    let p = m.2 in
-    let u = used_by g w d m.0 ew m.2 m.3 in
-    let x : a ≤ m.0.position - need_at ll m.0.left = elim (member_needs most g f false ll ms m.0 m.1 u s.left) [
-      | inl none ↦ (let z : need_at ll m.0.left ≡ 0 = none in omega arith)
-      | inr e ↦ (let o : e.0.right ≡ m.0.position = e.2 in let q = from e.0 e.1 (o ∙ p) in let v = f.rules.matched.forward e.0 e.1 in let t : need_at ll m.0.left ≤ e.0.right - e.0.left = e.3 in omega arith)
+has_way most g f rows w m a c la lc from end =
+    let x : a ≤ w - m.left = elim m.left_met [
+      | inl none ↦ (let z : m.left ≡ 0 = none in omega arith)
+      | inr e ↦ (let o : e.0.right ≡ w = e.2 in let q = from e.0 e.1 o in let v = f.rules.matched.forward e.0 e.1 in let t : m.left ≤ e.0.right - e.0.left = e.3 in omega arith)
     ] in
-    let y : m.0.position + need_at rl m.0.right ≤ c = elim (member_needs most g f true rl ms m.0 m.1 u s.right) [
-      | inl none ↦ (let z : need_at rl m.0.right ≡ 0 = none in omega arith)
-      | inr e ↦ (let o : e.0.left ≡ m.0.position = e.2 in let q = end e.0 e.1 (o ∙ p) in let v = f.rules.matched.forward e.0 e.1 in let t : need_at rl m.0.right ≤ e.0.right - e.0.left = e.3 in omega arith)
+    let y : w + m.right ≤ c = elim m.right_met [
+      | inl none ↦ (let z : m.right ≡ 0 = none in omega arith)
+      | inr e ↦ (let o : e.0.left ≡ w = e.2 in let q = end e.0 e.1 o in let v = f.rules.matched.forward e.0 e.1 in let t : m.right ≤ e.0.right - e.0.left = e.3 in omega arith)
     ] in
-    let r : least_at rows w a ≤ m.0.position + need_at rl m.0.right = subst (λ z. least_at rows z a ≤ m.0.position + need_at rl m.0.right) p (least m.0 m.1 a x) in
+    let r = m.noted a x in
     omega arith
 
 some_of : (o : Option Disjunct) → IsSome o → (d : Disjunct) × (o ≡ Some d)
@@ -94,14 +102,13 @@ some_of None n = absurd cc
 some_of (Some d) n = (d, refl)
 
 -- a word under a link that has no way to link is unlinked
-none_under : (most : ℕ) (g : Linkage) → Fits most g → (ll rl : List (List Site)) (ms : List Member) → Stands g ll rl ms
-    → (rows : List (List ℕ)) → AreLeast ll rl ms rows → (right : Bool) (l : Link) → HasLink g l → IsNearest g right l → (w : ℕ) → l.left < w → w < l.right
+none_under : (most : ℕ) (g : Linkage) → Fits most g → (rows : List (List ℕ)) → KnowsWays g rows → (right : Bool) (l : Link) → HasLink g l → IsNearest g right l → (w : ℕ) → l.left < w → w < l.right
     → first_of right (own right l) (link_length l) ≤ w → w ≤ last_of right (own right l) (link_length l) → last_of right (own right l) (link_length l) < least_at rows w (first_of right (own right l) (link_length l))
     → chosen_at g w ≡ None
-none_under most g f ll rl ms s rows least right l h n w a b lf lt far =
+none_under most g f rows know right l h n w a b lf lt far =
     none_since (chosen_at g w) (λ linked.
     let d = some_of (chosen_at g w) linked in
-    let r = has_way most g f ll rl ms s rows least w d.0 d.1 (first_of right (own right l) (link_length l)) (last_of right (own right l) (link_length l)) lf lt
+    let r = has_way most g f rows w (know w d.0 d.1) (first_of right (own right l) (link_length l)) (last_of right (own right l) (link_length l)) lf lt
     (λ e he q. stays_behind most g f right l h n e he (omega arith) (omega arith))
     (λ e he q. stays_before most g f right l h n e he (omega arith) (omega arith)) in
     omega arith)
@@ -130,19 +137,17 @@ is_true : (b : Bool) → (b ≡ false → ⊥) → b ≡ true
 is_true true n = refl
 is_true false n = absurd (n refl)
 
-spans_on : (most : ℕ) (ll rl : List (List Site)) (ms : List Member) (gaps : Gaps) (a : AreGaps most ll rl ms gaps) (right : Bool)
-    → AreSpans right most a.rows (rows_in (cond right gaps.right.items gaps.left.items))
-spans_on most ll rl ms gaps a true = a.right
-spans_on most ll rl ms gaps a false = a.left
+spans_on : (most : ℕ) (rows : List (List ℕ)) (gaps : Gaps) → Shuts most rows gaps → (right : Bool) → AreSpans right most rows (cond right gaps.right gaps.left)
+spans_on most rows gaps a true = a.right
+spans_on most rows gaps a false = a.left
 
 -- where the words under a link lie
 place_under : (right : Bool) (l : Link) → l.left < l.right → (under right (own right l) (link_length l) ≡ l.left + 1) × (first_of right (own right l) (link_length l) ≤ l.left + 1) × (l.right ≤ last_of right (own right l) (link_length l) + 1)
 place_under true l h = let a : l.left + 1 ≡ l.left + 1 = refl in let b : l.left + 1 ≤ l.left + 1 = omega arith in let c : l.right ≤ (l.left + (l.right - l.left)) + 1 = omega arith in (a, b, c)
 place_under false l h = let a : (l.right - (l.right - l.left)) + 1 ≡ l.left + 1 = omega arith in let b : l.right - (l.right - l.left) ≤ l.left + 1 = omega arith in let c : l.right ≤ (l.right - 1) + 1 = omega arith in (a, b, c)
 
-stuck_few : (most : ℕ) (g : Linkage) → Fits most g → (ll rl : List (List Site)) (ms : List Member) → Stands g ll rl ms
-    → (rows : List (List ℕ)) → AreLeast ll rl ms rows → (right : Bool) (l : Link) → HasLink g l → IsNearest g right l → stuck_under right rows (own right l) (link_length l) ≤ unlinked g
-stuck_few most g f ll rl ms s rows least right l h n =
+stuck_few : (most : ℕ) (g : Linkage) → Fits most g → (rows : List (List ℕ)) → KnowsWays g rows → (right : Bool) (l : Link) → HasLink g l → IsNearest g right l → stuck_under right rows (own right l) (link_length l) ≤ unlinked g
+stuck_few most g f rows know right l h n =
     let i = own right l in
     let d : ℕ = link_length l in
     let fwd = f.rules.matched.forward l h in
@@ -153,15 +158,18 @@ stuck_few most g f ll rl ms s rows least right l h n =
     let at2 = at.2 in
     let long : l.right ≡ l.left + d = (let q : d ≡ l.right - l.left = refl in omega arith) in
     let c : stuck_under right rows (own right l) (link_length l) ≤ count_by is_none (take (under right i d + (d - 1)) g.chosen) = count_first g.chosen (λ end. ltb (last_of right i d) end) (λ w. least_at rows w (first_of right i d)) (under right i d) (d - 1) (omega arith)
-    (λ w x y t. none_under most g f ll rl ms s rows least right l h n w (omega arith) (omega arith) (omega arith) (omega arith) (ltb-true (last_of right i d) (least_at rows w (first_of right i d)) t)) in
+    (λ w x y t. none_under most g f rows know right l h n w (omega arith) (omega arith) (omega arith) (omega arith) (ltb-true (last_of right i d) (least_at rows w (first_of right i d)) t)) in
     let all : count_by is_none (take (under right i d + (d - 1)) g.chosen) ≤ unlinked g = sum_by-take-le (λ x. cond (is_none x) 1 0) g.chosen (under right i d + (d - 1)) in
     omega arith
 
 -- no nearest link spans a gap that is shut
-pub allows_gaps : (most : ℕ) (ll rl : List (List Site)) (ms : List Member) (gaps : Gaps) → AreGaps most ll rl ms gaps → (g : Linkage) → Fits most g → Stands g ll rl ms → AllowsGaps g gaps
-allows_gaps most ll rl ms gaps a g f s right l h n =
-    is_true (flag_at (rows_in (cond right gaps.right.items gaps.left.items)) (own right l) (link_length l)) (λ off.
-    let many = spans_on most ll rl ms gaps a right (own right l) (link_length l) off in
-    let few' = stuck_few most g f ll rl ms s a.rows a.least right l h n in
+pub ways_allow : (most : ℕ) (g : Linkage) → Fits most g → (rows : List (List ℕ)) → KnowsWays g rows → (gaps : Gaps) → Shuts most rows gaps → AllowsGaps g gaps
+ways_allow most g f rows know gaps shuts right l h n =
+    is_true (flag_at (cond right gaps.right gaps.left) (own right l) (link_length l)) (λ off.
+    let many = spans_on most rows gaps shuts right (own right l) (link_length l) off in
+    let few' = stuck_few most g f rows know right l h n in
     let few = f.few in
     omega arith)
+
+pub allows_gaps : (most : ℕ) (ll rl : List (List Site)) (ms : List Member) (gaps : Gaps) → AreGaps most ll rl ms gaps → (g : Linkage) → Fits most g → Stands g ll rl ms → AllowsGaps g gaps
+allows_gaps most ll rl ms gaps a g f s = ways_allow most g f a.rows (members_know most g f ll rl ms s a.rows a.least) gaps a.shuts

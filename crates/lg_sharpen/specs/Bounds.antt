@@ -9,10 +9,9 @@ use Rattle.lg_gram.specs.declared.disjunct.Disjunct.{Disjunct}
 use Rattle.lg_gram.specs.declared.linkage.Link.{Link}
 use Rattle.lg_member.specs.Cells.{Table}
 use Rattle.lg_member.specs.Members.{AreLeft, Have, side_on}
-use Rattle.lg_sharpen.specs.Filling.{MaySpan}
+use Rattle.lg_sharpen.specs.Filling.{Gaps, MaySpan}
 use Rattle.lg_sharpen.specs.Sites.{own, place_on, Holds, IsOpen}
 use Rattle.lg_member.specs.declared.side.Side.{Side}
-use Rattle.lg_sharpen.specs.declared.gaps.Gaps.{Gaps}
 use Rattle.lg_sharpen.specs.declared.site.Site.{Site}
 use Rattle.lg_member.specs.declared.member.Member.{Member}
 

@@ -1,9 +1,8 @@
 -- Gaps: the words under the nearest link of a word, to one side of it. They link among themselves and with that link's other end alone, or are unlinked.
-use Rattle.std.specs.Prelude.{◌≡◌, ℕ, ◌+◌, ◌-◌, ◌<◌, ◌≤◌, Bool, true, false, cond, ltb, List, [], ◌∷◌, map, slice_index_or}
+use Rattle.std.specs.Prelude.{◌≡◌, ℕ, ◌+◌, ◌-◌, ◌<◌, ◌≤◌, Bool, true, false, cond, ltb, List, [], ◌∷◌, length, map, slice_index_or}
 use Rattle.std.specs.Global.{Vec}
 use Rattle.std.specs.List.{Contains, count_by, range_with_len}
 use Rattle.lg_member.specs.declared.member.Member.{Member}
-use Rattle.lg_sharpen.specs.declared.gaps.Gaps.{Gaps}
 use Rattle.lg_sharpen.specs.declared.gaps.Way.{Way}
 use Rattle.lg_sharpen.specs.declared.site.Site.{Site}
 
@@ -13,9 +12,14 @@ rows_in {A} rows = map (λ v. v.items) rows
 abbrev pub flag_at : List (List Bool) → ℕ → ℕ → Bool
 flag_at rows i d = slice_index_or (slice_index_or rows i []) d true
 
+-- What contracts see of gaps: to the right and to the left for each position a flag for each length.
+pub record Gaps : Type 0 where
+  pub right : List (List Bool)
+  pub left : List (List Bool)
+
 -- the nearest link of position i, to the right, or to the left, may be this long
 abbrev pub MaySpan : Bool → Gaps → ℕ → ℕ → Type 0
-MaySpan right gaps i d = flag_at (rows_in (cond right gaps.right.items gaps.left.items)) i d ≡ true
+MaySpan right gaps i d = flag_at (cond right gaps.right gaps.left) i d ≡ true
 
 -- how long each link of a list is at least
 abbrev pub need_of : List Site → ℕ
@@ -65,6 +69,27 @@ stuck_in rows first last word count = count_by (λ end. ltb last end) (map (λ w
 abbrev pub stuck_under : Bool → List (List ℕ) → ℕ → ℕ → ℕ
 stuck_under right rows i d = stuck_in rows (first_of right i d) (last_of right i d) (under right i d) (d - 1)
 
+-- the word of a side with so many words before it, and how many of the first m words of that side are stuck under a link of this length
+abbrev pub word_beside : Bool → ℕ → ℕ → ℕ
+word_beside right i m = cond right (i + m + 1) (i - m - 1)
+
+abbrev pub stuck_near : Bool → List (List ℕ) → ℕ → ℕ → ℕ → ℕ
+stuck_near right rows i d m = stuck_in rows (first_of right i d) (last_of right i d) (cond right (i + 1) (i - m)) m
+
+-- for each length no more words are counted than are stuck under such a link
+abbrev pub AreStuck : Bool → List (List ℕ) → ℕ → List ℕ → Type 0
+AreStuck right rows i counts = (d : ℕ) → slice_index_or counts d 0 ≤ stuck_under right rows i d
+
+-- the same of the first m words of the side
+pub record AreStuckTo (right : Bool) (rows : List (List ℕ)) (i m : ℕ) (counts : List ℕ) : Type 0 where
+  pub below : (d : ℕ) → d < length counts → d ≤ m → slice_index_or counts d 0 ≤ stuck_near right rows i d (d - 1)
+  pub above : (d : ℕ) → d < length counts → m < d → slice_index_or counts d 0 ≤ stuck_near right rows i d m
+
+-- a word more is counted
+pub record CountsWord (right : Bool) (rows : List (List ℕ)) (i m : ℕ) (old new : List ℕ) : Type 0 where
+  pub same_length : length new ≡ length old
+  pub counted : AreStuckTo right rows i m old → AreStuckTo right rows i (m + 1) new
+
 -- what flags refuse leaves too many words unlinked
 abbrev pub IsSpanRow : Bool → ℕ → List (List ℕ) → ℕ → List Bool → Type 0
 IsSpanRow right most rows i flags = (d : ℕ) → slice_index_or flags d true ≡ false → most ≤ stuck_under right rows i d
@@ -72,9 +97,13 @@ IsSpanRow right most rows i flags = (d : ℕ) → slice_index_or flags d true �
 abbrev pub AreSpans : Bool → ℕ → List (List ℕ) → List (List Bool) → Type 0
 AreSpans right most rows flags = (i d : ℕ) → flag_at flags i d ≡ false → most ≤ stuck_under right rows i d
 
--- gaps are shut in which that many words have no way to link
+-- gaps are shut only where that many words have no way to link
+pub record Shuts (most : ℕ) (rows : List (List ℕ)) (gaps : Gaps) : Type 0 where
+  pub right : AreSpans true most rows gaps.right
+  pub left : AreSpans false most rows gaps.left
+
+-- the same by the ways to link that members have
 pub record AreGaps (most : ℕ) (lefts rights : List (List Site)) (members : List Member) (gaps : Gaps) : Type 0 where
   pub rows : List (List ℕ)
   pub least : AreLeast lefts rights members rows
-  pub right : AreSpans true most rows (rows_in gaps.right.items)
-  pub left : AreSpans false most rows (rows_in gaps.left.items)
+  pub shuts : Shuts most rows gaps

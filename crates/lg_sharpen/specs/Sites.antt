@@ -7,8 +7,7 @@ use Rattle.lg_gram.specs.Linkages.{link_length}
 use Rattle.lg_gram.specs.declared.linkage.Link.{Link}
 use Rattle.lg_member.specs.Cells.{Table, Stands, class_of}
 use Rattle.lg_member.specs.declared.side.Side.{Side}
-use Rattle.lg_sharpen.specs.Filling.{MaySpan}
-use Rattle.lg_sharpen.specs.declared.gaps.Gaps.{Gaps}
+use Rattle.lg_sharpen.specs.Filling.{Gaps, MaySpan}
 use Rattle.lg_sharpen.specs.declared.site.Site.{Site}
 use Rattle.lg_sharpen.specs.declared.table.Column.{Column}
 

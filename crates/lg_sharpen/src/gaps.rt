@@ -2,20 +2,47 @@
 //!
 //! The words under the nearest link of a word, to one side of it, link among themselves and with the other end of that link alone, since links do not
 //! cross. So a word that has no disjunct for that is unlinked, and of those there are few.
-ghost use Rattle.std.specs.Prelude.{◌≡◌, ◌≤◌, ◌↔◌, ◌+◌, true, false, cond, ltb, slice_index_or, IfOk, IfSome, IsTrue, Some};
-ghost use Rattle.lg_sharpen.specs.Filling.{AreGaps, AreLeast, AreSpans, IsLowered, IsNoted, IsSpanRow, MaySpan, Notes, first_of as first_linked, flag_at as flag_in_rows, last_of as last_linked, least_at as least_in_rows, need_at as need_in, need_of, rows_in, stuck_in, stuck_under, under};
+ghost use Rattle.std.specs.Prelude.{◌≡◌, ◌≤◌, ◌<◌, ◌↔◌, ◌+◌, length, true, false, cond, ltb, slice_index_or, IfOk, IfSome, IsTrue, Some};
+ghost use Rattle.lg_sharpen.specs.Filling.{AreGaps, AreLeast, AreSpans, AreStuck, CountsWord, IsLowered, IsNoted, IsSpanRow, MaySpan, Notes, Shuts, first_of as first_linked, flag_at as flag_in_rows, last_of as last_linked, least_at as least_in_rows, need_at as need_in, need_of, rows_in, word_beside};
 ghost use Rattle.lg_sharpen.specs.Sites.{items_in};
 
 use crate::site::Site;
 use lg_base::NoMemory;
 use lg_member::Member;
 use std::alloc::Global;
+use std::marker::Model;
 
-/// Which gaps the nearest links of words may span, to the right and to the left: for each position a row, with a flag for each length.
+/// Which gaps the nearest links of words may span, to the right and to the left: for each position a flag for each length.
+///
+/// Contracts see `{ right, left }`, each a row of flags for each position.
 #[derive(Drop)]
-pub(crate) struct Gaps {
+pub struct Gaps {
     right: Vec<Vec<bool>>,
     left: Vec<Vec<bool>>,
+}
+
+impl Model for Gaps {
+    ghost use Rattle.lg_sharpen.specs.Filling.{Gaps as Seen, rows_in};
+
+    ghost Value = { Seen };
+
+    ghost view = { λ g. record { right = rows_in g.right.items; left = rows_in g.left.items } };
+}
+
+/// The ways to link words: for each word and each position up to it, how far to the right its links go at least, where none goes to the left
+/// of the position. Contracts see these numbers, a row for each word.
+#[derive(Drop)]
+pub struct Ways {
+    rows: Vec<Vec<u32>>,
+}
+
+impl Model for Ways {
+    ghost use Rattle.std.specs.Prelude.{ℕ, List};
+    ghost use Rattle.lg_sharpen.specs.Filling.{rows_in};
+
+    ghost Value = { List (List ℕ) };
+
+    ghost view = { λ w. rows_in w.rows.items };
 }
 
 // A way to link a position: how long its links to the left and to the right are at least. Many members of a position have the same.
@@ -26,16 +53,43 @@ struct Way {
     right: u32,
 }
 
+impl Ways {
+    /// No way to link any of so many words. The only error is running out of memory.
+    pub fn none(alloc: Global, words: u32) -> Result<Ways, NoMemory> {
+        let mut rows = Vec::new(alloc);
+        for word in 0..words as usize {
+            rows.push(vec![in alloc; u32::MAX; word + 1]?)?;
+        }
+        Ok(Ways { rows })
+    }
+
+    /// Notes a way to link the position: it has a link to the left that is at least so long, if that is not 0, and one to the right. No memory.
+    pub fn note(&mut self, position: usize, left: usize, right: usize)
+        ensures { Notes position left right self.old self.new }
+    {
+        note(position, left, right, &mut self.rows);
+    }
+}
+
 impl Gaps {
-    /// Whether the nearest link of the position, to the right, or to the left, may be so long.
-    pub(crate) fn may_span(&self, right: bool, position: usize, length: u32) -> bool
+    /// The gaps among so many words in which fewer than `most` have no way to link. The only error is running out of memory.
+    pub fn of(alloc: Global, words: u32, most: u64, ways: &Ways) -> Result<Gaps, NoMemory>
+        ensures { IfOk result (Shuts most ways.now) }
+    {
+        let right = spans_of(alloc, true, words, most, &ways.rows)?;
+        let left = spans_of(alloc, false, words, most, &ways.rows)?;
+        Ok(Gaps { right, left })
+    }
+
+    /// Whether the nearest link of the position, to the right, or to the left, may be so long. No memory.
+    pub fn may_span(&self, right: bool, position: usize, length: usize) -> bool
         ensures { IsTrue result ↔ MaySpan right self.now position length }
     {
-        flag_at(self.rows(right), position, length as usize)
+        flag_at(self.rows(right), position, length)
     }
 
     fn rows(&self, right: bool) -> &[Vec<bool>]
-        ensures { result.now ≡ cond right self.now.right.items self.now.left.items }
+        ensures { rows_in result.now ≡ cond right self.now.right self.now.left }
     {
         if right { &self.right } else { &self.left }
     }
@@ -68,37 +122,19 @@ pub(crate) fn gaps_of(
 ) -> Result<Gaps, NoMemory>
     ensures { IfOk result (AreGaps most (items_in left_lists.now) (items_in right_lists.now) members.now) }
 {
-    let least = least_of(alloc, words, left_lists, right_lists, members)?;
-    let right = spans_of(alloc, true, words, most, &least)?;
-    let left = spans_of(alloc, false, words, most, &least)?;
-    Ok(Gaps { right, left })
-}
-
-// For each word and each position up to it, how far to the right its links go at least, where none goes to the left of the position.
-fn least_of(
-    alloc: Global,
-    words: u32,
-    left_lists: &[Vec<Site>],
-    right_lists: &[Vec<Site>],
-    members: &[Member<'_>],
-) -> Result<Vec<Vec<u32>>, NoMemory>
-    ensures { IfOk result (λ rows. AreLeast (items_in left_lists.now) (items_in right_lists.now) members.now (rows_in rows.items)) }
-{
-    let mut rows = Vec::new(alloc);
-    for word in 0..words as usize {
-        rows.push(vec![in alloc; u32::MAX; word + 1]?)?;
-    }
-    note_all(left_lists, right_lists, members, &mut rows);
-    Ok(rows)
+    let mut ways = Ways::none(alloc, words)?;
+    note_all(left_lists, right_lists, members, &mut ways);
+    let gaps = Gaps::of(alloc, words, most, &ways)?;
+    Ok(gaps)
 }
 
 fn note_all(
     left_lists: &[Vec<Site>],
     right_lists: &[Vec<Site>],
     members: &[Member<'_>],
-    rows: &mut [Vec<u32>],
+    ways: &mut Ways,
 )
-    ensures { AreLeast (items_in left_lists.now) (items_in right_lists.now) members.now (rows_in rows.new) }
+    ensures { AreLeast (items_in left_lists.now) (items_in right_lists.now) members.now ways.new }
 {
     let mut last = None;
     for member in members {
@@ -107,19 +143,19 @@ fn note_all(
             left: need_at(left_lists, member.left),
             right: need_at(right_lists, member.right),
         };
-        note_after(last, way, rows);
+        note_after(last, way, ways);
         last = Some(way);
     }
 }
 
 // Notes a way, where it is not the same as the last one.
-fn note_after(last: Option<Way>, way: Way, rows: &mut [Vec<u32>])
-    ensures { IfSome last (λ w. IsNoted w (rows_in rows.old)) → Notes way.position way.left way.right (rows_in rows.old) (rows_in rows.new) }
+fn note_after(last: Option<Way>, way: Way, ways: &mut Ways)
+    ensures { IfSome last (λ w. IsNoted w ways.old) → Notes way.position way.left way.right ways.old ways.new }
 {
     if is_last(last, way) {
         return;
     }
-    note(way.position, way.left, way.right, rows);
+    ways.note(way.position as usize, way.left as usize, way.right as usize);
 }
 
 fn is_last(last: Option<Way>, way: Way) -> bool
@@ -158,14 +194,20 @@ fn need(sites: &[Site]) -> u32
 }
 
 // Notes a way to link the position, by the least lengths of its links.
-fn note(position: u32, left: u32, right: u32, rows: &mut [Vec<u32>])
+fn note(position: usize, left: usize, right: usize, rows: &mut [Vec<u32>])
     ensures { Notes position left right (rows_in rows.old) (rows_in rows.new) }
 {
-    let word = position as usize;
-    if word < rows.len() {
-        let count = position.saturating_sub(left) as usize + 1;
-        lower(&mut rows[word], count, position.saturating_add(right));
+    if position < rows.len() {
+        let count = position.saturating_sub(left) + 1;
+        lower(&mut rows[position], count, end_of(position, right));
     }
+}
+
+// How far to the right links go; no more where that is a great number.
+fn end_of(position: usize, right: usize) -> u32
+    ensures { result ≤ position + right }
+{
+    u32::try_from(position.saturating_add(right)).unwrap_or(u32::MAX)
 }
 
 // Makes the first numbers no greater than the end.
@@ -206,74 +248,98 @@ fn span_row(
 ) -> Result<Vec<bool>, NoMemory>
     ensures { IfOk result (λ row. IsSpanRow right most (rows_in least.now) position row.items) }
 {
-    let mut row = Vec::new(alloc);
-    let count = if right {
-        words.saturating_sub(position)
-    } else {
-        position.saturating_add(1)
-    };
-    for length in 0..count {
-        row.push(is_open(right, most, least, position, length))?;
+    let counts = stuck_row(alloc, right, words, least, position)?;
+    let mut row = Vec::with_capacity(alloc, counts.len())?;
+    for length in 0..counts.len() {
+        row.push(is_open(&counts, length, most))?;
     }
     Ok(row)
 }
 
-// Whether few words under a link of the position have no way to link, where no link of the position is nearer.
-fn is_open(right: bool, most: u64, least: &[Vec<u32>], position: u32, length: u32) -> bool
-    ensures { result ≡ false → most ≤ stuck_under right (rows_in least.now) position length }
+fn is_open(counts: &[u32], index: usize, most: u64) -> bool
+    requires { index < length counts.now }
+    ensures { result ≡ false → most ≤ slice_index_or counts.now index 0 }
 {
-    let first = first_of(right, position, length);
-    let last = last_of(right, position, length);
-    let word = under_of(right, position, length);
-    stuck(least, first, last, word, length.saturating_sub(1)) < most
+    u64::from(counts[index]) < most
 }
 
-fn first_of(right: bool, position: u32, length: u32) -> usize
+// For each length how many words under such a link of the position have no way to link, where no link of the position is nearer; no more than
+// are counted.
+fn stuck_row(
+    alloc: Global,
+    right: bool,
+    words: u32,
+    least: &[Vec<u32>],
+    position: u32,
+) -> Result<Vec<u32>, NoMemory>
+    ensures { IfOk result (λ counts. AreStuck right (rows_in least.now) position counts.items) }
+{
+    let lengths = lengths_of(right, words, position);
+    let mut counts = vec![in alloc; 0; lengths as usize]?;
+    for before in 0..lengths {
+        count_word(right, least, position, before, &mut counts);
+    }
+    Ok(counts)
+}
+
+// How many lengths links of the position have, with 0.
+fn lengths_of(right: bool, words: u32, position: u32) -> u32
+    ensures { right ≡ false → result ≤ position + 1 }
+{
+    if right {
+        words.saturating_sub(position)
+    } else {
+        position.saturating_add(1)
+    }
+}
+
+// Counts a word at the lengths at which it has no way to link: there are so many words before it. Once it has a way, it has one under each longer
+// link.
+fn count_word(right: bool, least: &[Vec<u32>], position: u32, before: u32, counts: &mut [u32])
+    requires { right ≡ false → length counts.old ≤ position + 1 }
+    ensures { CountsWord right (rows_in least.now) position before counts.old counts.new }
+{
+    let word = word_at(right, position, before);
+    for length in before as usize + 2..counts.len() {
+        let first = first_of(right, position, length);
+        let last = last_of(right, position, length);
+        if !is_stuck(least, first, last, word) {
+            return;
+        }
+        counts[length] = counts[length].saturating_add(1);
+    }
+}
+
+// The word of a side with so many words before it.
+fn word_at(right: bool, position: u32, before: u32) -> usize
+    ensures { result ≡ word_beside right position before }
+{
+    if right {
+        position as usize + before as usize + 1
+    } else {
+        position.saturating_sub(before).saturating_sub(1) as usize
+    }
+}
+
+fn first_of(right: bool, position: u32, length: usize) -> usize
     ensures { result ≡ first_linked right position length }
 {
     if right {
         position as usize + 1
     } else {
-        position.saturating_sub(length) as usize
+        (position as usize).saturating_sub(length)
     }
 }
 
-fn last_of(right: bool, position: u32, length: u32) -> usize
+fn last_of(right: bool, position: u32, length: usize) -> usize
+    requires { length < 9223372036854775808 }
     ensures { result ≡ last_linked right position length }
 {
     if right {
-        position as usize + length as usize
+        position as usize + length
     } else {
         position.saturating_sub(1) as usize
     }
-}
-
-fn under_of(right: bool, position: u32, length: u32) -> usize
-    ensures { result ≡ under right position length }
-{
-    if right {
-        position as usize + 1
-    } else {
-        position.saturating_sub(length) as usize + 1
-    }
-}
-
-// How many of so many words, from this one on, have no way to link from the first position to the last.
-fn stuck(least: &[Vec<u32>], first: usize, last: usize, word: usize, count: u32) -> u64
-    requires { word ≤ 4294967296 }
-    ensures { result ≤ stuck_in (rows_in least.now) first last word count }
-{
-    let mut sum: u64 = 0;
-    for offset in 0..count as usize {
-        sum = more_if(sum, is_stuck(least, first, last, word + offset));
-    }
-    sum
-}
-
-fn more_if(sum: u64, test: bool) -> u64
-    ensures { result ≤ sum + cond test 1 0 }
-{
-    if test { sum.saturating_add(1) } else { sum }
 }
 
 fn is_stuck(least: &[Vec<u32>], first: usize, last: usize, word: usize) -> bool

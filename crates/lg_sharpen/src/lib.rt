@@ -10,4 +10,5 @@ mod site;
 mod start;
 mod table;
 
+pub use gaps::{Gaps, Ways};
 pub use problem::{sharpen, sharpened};

@@ -115,7 +115,7 @@ pub(crate) fn has_partner(
 fn may_be_nearest(right: bool, gaps: &Gaps, position: u32, distance: u32, nearest: bool) -> bool
     ensures { IsTrue result ↔ (nearest ≡ true → MaySpan right gaps.now position distance) }
 {
-    !nearest || gaps.may_span(right, position as usize, distance)
+    !nearest || gaps.may_span(right, position as usize, distance as usize)
 }
 
 // Whether a link of this length can be the nearest of its other end.
@@ -141,7 +141,7 @@ fn is_short(most: u64, distance: u32, nearest: bool) -> bool
 fn may_reach(right: bool, gaps: &Gaps, position: u32, distance: u32) -> bool
     ensures { IsTrue result ↔ MaySpan (not right) gaps.now (position_across right position distance) distance }
 {
-    gaps.may_span(!right, across(right, position, distance), distance)
+    gaps.may_span(!right, across(right, position, distance), distance as usize)
 }
 
 fn across(right: bool, position: u32, distance: u32) -> usize

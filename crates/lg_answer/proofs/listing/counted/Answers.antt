@@ -1,8 +1,8 @@
 use Rattle.std.proofs.Common.{◌∙◌}
 use Rattle.lg_answer.proofs.listing.counted.Goals as goal
 
-pub returns : goal.returns
-returns c =
+pub returns-clause-searched : goal.returns-clause-searched
+returns-clause-searched c =
     let of = c.in_ok-problem.ensures in
     record {
       problem = c.in_ok-problem.problem;

@@ -1,9 +1,9 @@
 use Rattle.std.proofs.Common.{sym, ◌∙◌, true≢false}
 use Rattle.lg_answer.proofs.listing.uncounted.Goals as goal
 
-pub returns : goal.returns
-returns c =
-    let of = c.in_ok-problem.ensures in
+pub returns-clause-searched : goal.returns-clause-searched
+returns-clause-searched c =
+    let of = c.in_ok-wide.ensures.narrowed in
     record {
       problem = of.problem;
       of_tokens = of.of_tokens;

@@ -1,5 +1,5 @@
-use Rattle.lg_answer.specs.Searches.{HasNoFewer}
+use Rattle.lg_answer.specs.Wide.{HasNoFewer, problem_of}
 use Rattle.lg_answer.proofs.search.sharper.Given as goal
 
 abbrev pub invariant-loop-nulls : goal.invariant-loop-nulls
-invariant-loop-nulls g l = HasNoFewer l.problem l.nulls
+invariant-loop-nulls g l = HasNoFewer (problem_of l.wide) l.nulls

@@ -7,10 +7,10 @@ pub loop-round-preserved : goal.loop-round-preserved
 loop-round-preserved c =
     let at = c.loop-round in
     let next = c.in_ok-round-2.round in
-    walked_next c.args.positions.now at.round.kept.items c.deref.result.now next.kept.items at.round.sites next.sites _ c.deref.ensures.value refl at.invariant c.in_ok-round-2.ensures
+    walked_next _ c.args.positions.now at.round.kept.items c.deref-in-loop-round.result.now next.kept.items at.round.sites next.sites at.round.ways next.ways c.in_ok-gaps.gaps c.in_ok-gaps.ensures _ c.deref-in-loop-round.ensures.value refl at.invariant c.in_ok-round-2.ensures
 
 pub returns-clause-fewer : goal.returns-clause-fewer
-returns-clause-fewer c = subst (HaveFewer c.args.positions.now) (sym c.of.ensures) c.loop-round.invariant.fewer
+returns-clause-fewer c = subst (HaveFewer c.args.positions.now) (sym c.of-2.ensures) c.loop-round.invariant.fewer
 
 pub returns-clause-used : goal.returns-clause-used
-returns-clause-used c = λ g is. subst (λ ks. HaveUsed g c.args.positions.now ks) (sym c.of.ensures) (c.loop-round.invariant.used g (good_among c.args.positions.now g is) tt)
+returns-clause-used c = λ g is less. subst (λ ks. HaveUsed g c.args.positions.now ks) (sym c.of-2.ensures) (c.loop-round.invariant.used g (good_among c.args.positions.now c.args.nulls g is less) tt)

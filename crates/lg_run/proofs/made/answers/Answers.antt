@@ -11,7 +11,7 @@ use Rattle.lg_run.specs.Listers.{Lister}
 use denote.Param.Send.{sendable}
 use Rattle.std.proofs.Crossing.{crosses}
 use Rattle.lg_run.proofs.MadeAnswers.{whole_legal, whole_all}
-use Rattle.lg_run.proofs.Sends.{problem_sends, ranked_sends}
+use Rattle.lg_run.proofs.Sends.{ranked_sends, wide_sends}
 use Rattle.lg_run.proofs.made.answers.Goals as goal
 
 -- there are no rules, and the usual numbers are in their range
@@ -41,4 +41,4 @@ returns-clause-whole g c =
 
 -- a listing may go to another thread with its session
 pub run_sessions-requires-send-E-Held : goal.run_sessions-requires-send-E-Held
-run_sessions-requires-send-E-Held g c κs within = search (sendable, crosses, problem_sends, ranked_sends) depth 80 fits 20000
+run_sessions-requires-send-E-Held g c κs within = search (sendable, crosses, ranked_sends, wide_sends) depth 80 fits 20000

@@ -14,7 +14,7 @@ use Rattle.lg_run.proofs.PrintedSessions.{as_many_kept, first_lists, firsts_toge
 use Rattle.lg_run.proofs.Writing.{document_written}
 use denote.Param.Send.{sendable}
 use Rattle.std.proofs.Crossing.{crosses}
-use Rattle.lg_run.proofs.Sends.{problem_sends, ranked_sends}
+use Rattle.lg_run.proofs.Sends.{ranked_sends, wide_sends}
 use Rattle.lg_run.proofs.top.write_sessions.Goals as goal
 
 -- each answer that is right may be printed
@@ -25,7 +25,7 @@ run_sessions-requires-clause-takes g c κs within = λ journal p held then comma
 
 -- a listing may go to another thread with its session
 pub run_sessions-requires-send-E-Held : goal.run_sessions-requires-send-E-Held
-run_sessions-requires-send-E-Held g c κs within = search (sendable, crosses, problem_sends, ranked_sends) depth 80 fits 20000
+run_sessions-requires-send-E-Held g c κs within = search (sendable, crosses, ranked_sends, wide_sends) depth 80 fits 20000
 
 -- there is one share a session, and each has counted few linkages
 pub usage_lines-requires-clause-few : goal.usage_lines-requires-clause-few

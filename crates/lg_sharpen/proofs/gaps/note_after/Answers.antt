@@ -1,6 +1,5 @@
-use Rattle.lg_sharpen.specs.Filling.{rows_in}
 use Rattle.lg_sharpen.proofs.Rows.{noted_again}
 use Rattle.lg_sharpen.proofs.gaps.note_after.Goals as goal
 
 pub returns-then-is_last : goal.returns-then-is_last
-returns-then-is_last c = λ is. noted_again c.args.last c.args.way (rows_in c.args.rows.now) (c.is_last.ensures c.if-is_last.true) is
+returns-then-is_last c = λ is. noted_again c.args.last c.args.way c.args.ways.now (c.is_last.ensures c.if-is_last.true) is
