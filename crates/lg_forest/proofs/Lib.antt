@@ -16,6 +16,7 @@ pub mod SameLinkage
 mod Among
 pub mod Levels
 pub mod Opening
+pub mod Shutting
 pub mod Ending
 pub mod Starting
 pub mod Origins

@@ -5,8 +5,9 @@ use Rattle.std.proofs.lemmas.Option.{same_Some}
 use Rattle.std.specs.Bool.{Decides}
 use Rattle.std.specs.Cmp.{IsEquivalence}
 use Rattle.std.specs.Cmp.Rules.{comparing}
+use Rattle.std.specs.Borrow.{Bor}
 use Rattle.std.specs.Map.{lookup}
-use Rattle.std.specs.Option.{option_eq}
+use Rattle.std.specs.Option.{option_copied, option_eq}
 use Rattle.std.proofs.lemmas.Map.Views.{Contains-from_lookup}
 use Rattle.lg_gram.specs.Connectors.{Connector, connector_eq}
 use Rattle.lg_forest.specs.declared.openings.Opening.{Opening}
@@ -39,3 +40,8 @@ origins_laws = laws_from origin_eq origins_same
 pub taken_some : (es : List (Origin × Opening)) (o : Origin) (r : Option Opening) → r ≡ lookup (origin_eq o) es → IfSome r (λ x. Contains es (o, x))
 taken_some es o (Some x) is = Contains-from_lookup (λ x y. (origins_same x y).0) o x es (sym is)
 taken_some es o None is = tt
+
+-- what a look-up finds
+pub opening_found : (es : List (Origin × Opening)) (o : Origin) (r : Option (Bor Opening)) → option_copied r ≡ lookup (origin_eq o) es → IfSome r (λ x. Contains es (o, x.now))
+opening_found es o (Some x) is = Contains-from_lookup (λ x y. (origins_same x y).0) o x.now es (sym is)
+opening_found es o None is = tt

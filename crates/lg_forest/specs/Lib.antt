@@ -6,5 +6,6 @@ pub mod Drafts
 pub mod Halves
 pub mod Hashed
 pub mod Ends
+pub mod Shut
 pub mod Opened
 pub mod Goes

@@ -1,6 +1,7 @@
 //! What is known of the regions that begin alike: the ways to begin whose left key has a linkage.
-ghost use Rattle.std.specs.Prelude.{◌≡◌, ◌⊎◌, [], List, IfSome, OnErr, OnOk};
+ghost use Rattle.std.specs.Prelude.{◌≡◌, ◌⊎◌, ◌+◌, ◌<◌, [], List, IfOk, IfSome, IsTrue, OnErr, OnOk};
 ghost use Rattle.std.specs.List.{Contains};
+ghost use Rattle.lg_forest.specs.Shut.{IsShut, IsShutIn};
 
 use indexmap::IndexMap;
 use lg_base::NoMemory;
@@ -20,6 +21,27 @@ pub(crate) struct Start {
 pub(crate) struct Opening {
     pub(crate) done: u32,
     pub(crate) starts: Vec<Start>,
+}
+
+impl Opening {
+    /// That of a region that begins here, where no word was looked at. No memory.
+    pub(crate) fn none(alloc: Global, left: u32) -> Opening
+        requires { left < 4294967295 }
+        ensures done { result.done ≡ left + 1 }
+        ensures starts { result.starts.items ≡ [] }
+    {
+        Opening {
+            done: left + 1,
+            starts: Vec::new(alloc),
+        }
+    }
+
+    // Whether all words before this end were looked at, and none of them has a start.
+    fn is_shut(&self, end: u32) -> bool
+        ensures { IsTrue result → IsShut end self.now }
+    {
+        self.done >= end && self.starts.iter().all(|start| start.group.word >= end)
+    }
 }
 
 /// Openings by where they begin. Contracts see the pairs.
@@ -48,12 +70,29 @@ impl Openings {
         }
     }
 
-    /// Takes an opening out. None where it is not there. No memory.
-    pub(crate) fn take(&mut self, origin: &Origin) -> Option<Opening>
-        ensures taken { IfSome result (λ opening. Contains self.old (origin.now, opening)) }
-        ensures left { (o : Origin) (x : Opening) → Contains self.new (o, x) → Contains self.old (o, x) }
+    /// Whether all words before this end were looked at, and none of them has a start. No memory.
+    pub(crate) fn is_shut(&self, origin: &Origin, end: u32) -> bool
+        ensures { IsTrue result → IsShutIn self.now origin.now end }
     {
-        self.found.swap_remove(origin)
+        match self.found.get(origin) {
+            Some(opening) => opening.is_shut(end),
+            None => false,
+        }
+    }
+
+    /// Takes an opening out, and leaves another one in its place. None where it is not there, and then the other is put in. The only error
+    /// is running out of memory, and then nothing has changed.
+    pub(crate) fn take(
+        &mut self,
+        origin: &Origin,
+        other: Opening,
+    ) -> Result<Option<Opening>, NoMemory>
+        ensures taken { IfOk result (λ found. IfSome found (λ opening. Contains self.old (origin.now, opening))) }
+        ensures left { OnOk result ((o : Origin) (x : Opening) → Contains self.new (o, x) → Contains self.old (o, x) ⊎ ((o ≡ origin.now) × (x ≡ other))) }
+        ensures unchanged { OnErr result (self.new ≡ self.old) }
+    {
+        let found = self.found.insert(*origin, other)?;
+        Ok(found)
     }
 
     /// Puts an opening in, in place of the one that is there. The only error is running out of memory, and then nothing has

@@ -64,6 +64,9 @@ impl Search {
         regions_begin_alike();
         lists.are_numbered();
         let origin = origin_of(lists, gap, nulls);
+        if self.memory.openings.is_shut(&origin, end_with(gap, nulls)) {
+            return Ok(());
+        }
         let opening = self.open(lists, gap, &origin, steps)?;
         for index in 0..opening.starts.len() {
             let start = opening.starts[index];
@@ -102,7 +105,7 @@ impl Search {
         self.explore_beginning(lists, gap, start, live, steps)
     }
 
-    // The opening of the region, where all its words were looked at. It is taken out of the memory.
+    // The opening of the region, where all its words were looked at. In the memory one without words stays in its place.
     #[cycle(search)]
     fn open<L>(
         &mut self,
@@ -122,12 +125,11 @@ impl Search {
         regions_begin_alike();
         lists.are_numbered();
         lists.keep_limits();
-        let mut opening = match self.memory.openings.take(origin) {
+        let none = Opening::none(self.alloc, gap.left);
+        let taken = self.memory.openings.take(origin, none)?;
+        let mut opening = match taken {
             Some(opening) => opening,
-            None => Opening {
-                done: gap.left + 1,
-                starts: Vec::new(self.alloc),
-            },
+            None => Opening::none(self.alloc, gap.left),
         };
         let end = end_with(gap, origin.nulls);
         for word in opening.done..end {

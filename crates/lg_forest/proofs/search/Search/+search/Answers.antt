@@ -8,12 +8,16 @@ use Rattle.lg_forest.specs.Demands.{HasLinkageUnder, left_key}
 use Rattle.lg_forest.specs.Forests.{IsLive, AreLive}
 use Rattle.lg_forest.specs.Search.{Asked, AsksOf, IsLast, key_width}
 use Rattle.lg_region.specs.declared.key.Key.{Key}
+use Rattle.lg_region.specs.declared.opening.Origin.{Origin}
+use Rattle.lg_forest.specs.declared.openings.Opening.{Opening}
 use Rattle.lg_region.specs.declared.alternative.Alt.TheVariants.{Split as At}
 use Rattle.lg_forest.proofs.Going.{goes_added, goes_as, goes_none, goes_then, gap_valid, ok_goes, ok_then, ok_ticked, ready_after, ready_less, ready_ticked}
 use Rattle.lg_forest.specs.Goes.{Goes, gap_width, key_of}
 use Rattle.lg_forest.proofs.Asked.{live_decides, not_there, asked_as, asked_more, asked_all, asked_left, asked_both, ok_as, on_ok_as, last_kept, alt_at, exact}
 use Rattle.lg_forest.proofs.Flags.{Flags, kept_live, flags_long, flags_more, all_flags}
-use Rattle.lg_forest.specs.Halves.{AddsLive}
+use Rattle.lg_forest.specs.Halves.{AddsLive, AsksAmong}
+use Rattle.lg_forest.specs.Shut.{IsShut}
+use Rattle.lg_forest.proofs.Shutting.{shut_asked, shut_live}
 use Rattle.lg_forest.proofs.Among as part
 use Rattle.lg_forest.proofs.Among.{Among, In}
 use Rattle.lg_region.specs.Alike.{end_of}
@@ -299,10 +303,13 @@ pub open-loop-word-init : goal.open-loop-word-init
 open-loop-word-init g t c =
     let n = c.args.lists.now in
     let begin = c.requires.alike.left_is in
-    let opened : IsOpening n c.args.self.now.table c.args.origin.now c.match-take.opening = elim c.match-take.branch [
-      | open-in-Some w ↦ subst (λ z. IsOpening n c.args.self.now.table c.args.origin.now z) (sym w.opening-is) (c.requires.ready.known.opened c.args.origin.now w.in-Some.opening w.in-Some.ensures.taken)
-      | open-in-None w ↦ subst (λ z. IsOpening n c.args.self.now.table c.args.origin.now z) (sym w.opening-is)
-          (opening_new n c.are_numbered.ensures c.regions_begin_alike.ensures c.args.origin.now c.args.self.now.table _ (ap (λ z. z + 1) begin) w.new.ensures.items)
+    let empty : (o : Opening) → o.done ≡ c.args.gap.now.left + 1 → o.starts.items ≡ [] → IsOpening n c.args.self.now.table c.args.origin.now o =
+    λ o done none. opening_new n c.are_numbered.ensures c.regions_begin_alike.ensures c.args.origin.now c.args.self.now.table o (done ∙ ap (λ z. z + 1) begin) none in
+    let opened : IsOpening n c.args.self.now.table c.args.origin.now c.match-taken.opening = elim c.match-taken.branch [
+      | open-in-Some w ↦ subst (λ z. IsOpening n c.args.self.now.table c.args.origin.now z) (sym w.opening-is)
+          (c.requires.ready.known.opened c.args.origin.now w.in-Some.opening
+          (subst (λ o. IfSome o (λ opening. Contains c.args.self.now.memory.openings (c.args.origin.now, opening))) w.in-Some.is c.in_ok-taken.ensures.taken))
+      | open-in-None w ↦ subst (λ z. IsOpening n c.args.self.now.table c.args.origin.now z) (sym w.opening-is) (empty w.none-opening.result w.none-opening.ensures.done w.none-opening.ensures.starts)
     ] in
     let behind = opened.behind in
     record {
@@ -310,8 +317,18 @@ open-loop-word-init g t c =
       after = omega arith;
       opened = opened;
       goes = record {
-        asked = words_first n c.are_numbered.ensures c.regions_begin_alike.ensures c.args.origin.now (key_of c.args.gap.now) c.args.gap.now refl c.requires.alike c.match-take.opening c.args.self.now.table c.requires.ready.table opened;
-        left = record { known = record { known = c.requires.ready.known.known; opened = λ o x has. c.requires.ready.known.opened o x (c.take.ensures.left o x has); ended = c.requires.ready.known.ended }; fewer = omega arith };
+        asked = words_first n c.are_numbered.ensures c.regions_begin_alike.ensures c.args.origin.now (key_of c.args.gap.now) c.args.gap.now refl c.requires.alike c.match-taken.opening c.args.self.now.table c.requires.ready.table opened;
+        left = record {
+          known = record {
+            known = c.requires.ready.known.known;
+            opened = λ o x has. elim (c.in_ok-taken.ensures.left o x has) [
+              | inl was ↦ c.requires.ready.known.opened o x was
+              | inr here ↦ subst (λ (p : Origin × Opening). IsOpening n c.args.self.now.table p.0 p.1) (λ i. (sym here.0 i, sym here.1 i)) (empty c.none-none.result c.none-none.ensures.done c.none-none.ensures.starts)
+            ];
+            ended = c.requires.ready.known.ended;
+          };
+          fewer = omega arith;
+        };
         steps = omega arith;
         later = omega arith;
       };
@@ -452,6 +469,24 @@ explore_opening-returns-clause-goes g t c =
       steps = goes.steps;
       later = goes.later;
     }
+
+-- nothing starts in the region, so no alternative's left key has a linkage, and all of these keys are in the table
+pub explore_opening-returns-then-is_shut-clause-live : goal.explore_opening-returns-then-is_shut-clause-live
+explore_opening-returns-then-is_shut-clause-live g t c =
+    let (o, has, shut) = c.is_shut.ensures c.if-is_shut.true in
+    let level = c.origin_of-origin.ensures.nulls in
+    part.adds_none c.args.live.now.items _ (λ a (alt, leaves, l).
+    shut_live c.args.lists.now c.are_numbered.ensures c.regions_begin_alike.ensures c.origin_of-origin.result (key_of c.args.gap.now) c.args.gap.now refl c.origin_of-origin.ensures.begins o c.args.self.now.table
+    (subst (λ z. IsShut z o) (c.end_with.ensures ∙ ap (λ z. end_of c.args.gap.now z) (sym level)) shut) (c.requires.ready.known.opened c.origin_of-origin.result o has) a (alt, subst (λ z. LeavesLeft z a) (sym level) leaves) l.left)
+
+pub explore_opening-returns-then-is_shut-clause-goes : goal.explore_opening-returns-then-is_shut-clause-goes
+explore_opening-returns-then-is_shut-clause-goes g t c =
+    let (o, has, shut) = c.is_shut.ensures c.if-is_shut.true in
+    let level = c.origin_of-origin.ensures.nulls in
+    goes_none c.requires.ready
+    (subst (λ z. Asked c.args.lists.now (AsksAmong c.args.lists.now (key_of c.args.gap.now) (LeavesLeft z)) c.args.self.now.table c.args.self.now.table) level
+    (shut_asked c.args.lists.now c.are_numbered.ensures c.regions_begin_alike.ensures c.origin_of-origin.result (key_of c.args.gap.now) c.args.gap.now refl c.origin_of-origin.ensures.begins o c.args.self.now.table
+    (subst (λ z. IsShut z o) (c.end_with.ensures ∙ ap (λ z. end_of c.args.gap.now z) (sym level)) shut) (c.requires.ready.known.opened c.origin_of-origin.result o has) c.requires.ready.table))
 
 pub explore_opening-origin_of-origin-requires-clause-gap : goal.explore_opening-origin_of-origin-requires-clause-gap
 explore_opening-origin_of-origin-requires-clause-gap g t c = (key_of c.args.gap.now, c.requires.gap.is_gap)
@@ -626,10 +661,10 @@ explore_ending-returns-clause-goes g t c =
     })
     c.put.ensures.put
 
-pub open-overflow_add-opening : goal.open-overflow_add-opening
-open-overflow_add-opening g t c =
+pub open-none-none-requires : goal.open-none-none-requires
+open-none-none-requires g t c =
     let ends = c.requires.gap.is_gap.ends in
-    let within = c.requires.gap.is_gap.within in
+    let within' = c.requires.gap.is_gap.within in
     let few : length c.args.lists.now.positions ≤ 252 = c.keep_limits.ensures.few in
     omega arith
 
