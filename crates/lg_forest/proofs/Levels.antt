@@ -1,8 +1,8 @@
 -- Alternatives by how many words they leave unlinked on the left.
 use Rattle.std.proofs.Common.{◌≡◌, ◌↔◌, ◌⊎◌, ℕ, ◌+◌, ◌<◌, ◌≤◌, inl, inr, refl, sym, ◌∙◌, List, [], Some, None, arith}
 use Rattle.std.proofs.lemmas.Bool.{cases_lt}
-use Rattle.lg_region.specs.Alike.{BeginsWith, CutsInside, RegionsBeginAlike, last_of}
-use Rattle.lg_region.specs.Fronts.{AreListsOf, Numbering, list_of}
+use Rattle.lg_region.specs.Alike.{BeginsWith, CutsInside, RegionsBeginAlike}
+use Rattle.lg_region.specs.Fronts.{AreListsOf, Numbering}
 use Rattle.lg_region.specs.Keys.{IsAltOf}
 use Rattle.lg_region.specs.Openings.{BeginsSo, IsGapOf, LeavesLeft}
 use Rattle.lg_region.specs.declared.key.Key.{Key}
@@ -67,7 +67,7 @@ fewer_next i next e (At w m tl tr (Some (Between l r ll rl k)) rk) = (
 -- all levels were looked at
 module _ (n : Numbering) (key : Key) (gap : Gap) (is : IsGapOf n key gap) (are : AreListsOf n.positions n.lists) (law : RegionsBeginAlike) (i : ℕ) (end : gap.nulls + 1 ≤ i) where
   abbrev first : Origin
-  first = record { left = gap.left; llist = gap.llist; nulls = 0; last = last_of (list_of n.lists gap.rlist) }
+  first = record { left = gap.left; llist = gap.llist; nulls = 0; last = gap.rlist }
 
   begins : BeginsWith n first gap
   begins = record { left_is = refl; llist_is = refl; last_is = λ z. refl; some = is.some; few = omega arith; lead = is.lead; rlead = is.rlead; known = is.known }

@@ -18,7 +18,7 @@ pub mod Levels
 pub mod Opening
 pub mod Shutting
 pub mod Ending
+pub mod Slotting
+pub mod Living
 pub mod Starting
-pub mod Origins
-pub mod HalfKeys
 pub mod Going

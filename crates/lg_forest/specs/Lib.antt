@@ -4,8 +4,9 @@ pub mod Known
 pub mod Search
 pub mod Drafts
 pub mod Halves
-pub mod Hashed
 pub mod Ends
+pub mod Slots
+pub mod Spread
 pub mod Shut
 pub mod Opened
 pub mod Goes

@@ -44,17 +44,17 @@ impl Model for Forest {
 
 impl Forest {
     // The forest of the keys that were asked for. Those without a linkage are let go.
-    fn of(unused: u32, table: Table) -> Forest
-        ensures unused { result.unused ≡ unused }
-        ensures live { (k : Key) (alts : List Alt) → Contains result.entries (k, alts) ↔ (Contains table (k, alts) × (alts ≢ [])) }
-        ensures once { AreOnce (keys_of result.entries) }
+    fn of(alloc: Global, unused: u32, table: Table) -> Result<Forest, NoMemory>
+        ensures unused { IfOk result (λ forest. forest.unused ≡ unused) }
+        ensures live { IfOk result (λ forest. (k : Key) (alts : List Alt) → Contains forest.entries (k, alts) ↔ (Contains table (k, alts) × (alts ≢ []))) }
+        ensures once { IfOk result (λ forest. AreOnce (keys_of forest.entries)) }
         ensures were_once { AreOnce (keys_of table) }
     {
-        let mut live = table;
-        // the call tells that the keys differ
-        let _count = live.len();
-        live.forget_dead();
-        Forest { unused, live }
+        // the calls tell that the keys differ
+        let _count = table.len();
+        let live = table.into_live(alloc)?;
+        let _live_count = live.len();
+        Ok(Forest { unused, live })
     }
 
     /// How many words the linkages of the whole sentence leave unlinked.
@@ -107,7 +107,8 @@ pub fn solve<R: Threads + Sync, L>(
     let known = known_of(rt, alloc, problem, &lists, levels, workers)?;
     let mut search = Search::of(alloc, known);
     let unused = search.fewest(&lists, last, steps)?;
-    Ok(Forest::of(unused, search.into_table()))
+    let forest = Forest::of(alloc, unused, search.into_table())?;
+    Ok(forest)
 }
 
 /// The forest of a problem with exactly so many unlinked words. Each demanded key is one step. The only error is running out of
@@ -187,5 +188,6 @@ fn forest_at<L>(
     let _positions = problem.positions();
     let mut search = Search::of(alloc, known);
     search.visit(lists, Key::Whole { nulls }, steps)?;
-    Ok(Forest::of(nulls, search.into_table()))
+    let forest = Forest::of(alloc, nulls, search.into_table())?;
+    Ok(forest)
 }

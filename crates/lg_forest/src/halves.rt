@@ -3,11 +3,10 @@ ghost use Rattle.std.specs.Prelude.{◌≡◌, ◌⊎◌, [], IfSome, OnErr, OnO
 ghost use Rattle.std.specs.List.{Contains};
 ghost use Rattle.lg_forest.specs.Ends.{half_from};
 
-use indexmap::IndexMap;
+use crate::slots::Slots;
 use lg_base::NoMemory;
 use lg_region::{Gap, Group, Right};
 use std::alloc::Global;
-use std::hash::{Hash, Hasher};
 use std::marker::Model;
 
 /// A group of disjuncts of a word, and how a region ends behind that word: its right end, the number of its right list, and how many
@@ -22,24 +21,6 @@ pub(crate) struct Half {
     pub(crate) right: u32,
     pub(crate) rlist: u32,
     pub(crate) nulls: u32,
-}
-
-// The numbers that differ are given to the hasher as one, as those of a key are.
-impl Hash for Half {
-    ghost use Rattle.std.specs.Cmp.Rules.{comparing, hashing};
-    ghost use Rattle.std.proofs.Common.{rules};
-    ghost use Rattle.lg_forest.specs.Hashed.{input_of};
-
-    ghost hash_input = { input_of };
-
-    ghost respects_eq = { Prim.search (hashing, rules) };
-
-    fn hash<H: Hasher>(&self, state: &mut H) {
-        let ends = (self.word as u64) << 56
-            | ((self.right as u64) << 48 | (self.nulls as u64) << 40);
-        let lists = (self.from as u64) << 20 | self.rlist as u64;
-        state.write_u64(ends | lists);
-    }
 }
 
 impl Half {
@@ -69,7 +50,7 @@ pub(crate) struct Ends {
 /// Ends by halves. Contracts see the pairs.
 #[derive(Drop)]
 pub(crate) struct Halves {
-    found: IndexMap<Half, Ends>,
+    found: Slots<Half, Ends>,
 }
 
 impl Model for Halves {
@@ -79,7 +60,7 @@ impl Model for Halves {
 
     ghost Value = { List (SeenHalf × SeenEnds) };
 
-    ghost view = { λ h. h.found.entries };
+    ghost view = { λ h. h.found };
 }
 
 impl Halves {
@@ -88,7 +69,7 @@ impl Halves {
         ensures { result ≡ [] }
     {
         Halves {
-            found: IndexMap::new(alloc),
+            found: Slots::new(alloc),
         }
     }
 
@@ -105,7 +86,7 @@ impl Halves {
         ensures put { OnOk result ((h : Half) (x : Ends) → Contains self.new (h, x) → Contains self.old (h, x) ⊎ ((h ≡ half) × (x ≡ ends))) }
         ensures unchanged { OnErr result (self.new ≡ self.old) }
     {
-        self.found.insert(half, ends)?;
+        self.found.put(half, ends)?;
         Ok(())
     }
 }

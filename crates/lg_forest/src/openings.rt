@@ -3,7 +3,7 @@ ghost use Rattle.std.specs.Prelude.{◌≡◌, ◌⊎◌, ◌+◌, ◌<◌, [], 
 ghost use Rattle.std.specs.List.{Contains};
 ghost use Rattle.lg_forest.specs.Shut.{IsShut, IsShutIn};
 
-use indexmap::IndexMap;
+use crate::slots::Slots;
 use lg_base::NoMemory;
 use lg_region::{Beginning, Group, Origin};
 use std::alloc::Global;
@@ -47,7 +47,7 @@ impl Opening {
 /// Openings by where they begin. Contracts see the pairs.
 #[derive(Drop)]
 pub(crate) struct Openings {
-    found: IndexMap<Origin, Opening>,
+    found: Slots<Origin, Opening>,
 }
 
 impl Model for Openings {
@@ -57,7 +57,7 @@ impl Model for Openings {
 
     ghost Value = { List (SeenOrigin × SeenOpening) };
 
-    ghost view = { λ o. o.found.entries };
+    ghost view = { λ o. o.found };
 }
 
 impl Openings {
@@ -66,7 +66,7 @@ impl Openings {
         ensures { result ≡ [] }
     {
         Openings {
-            found: IndexMap::new(alloc),
+            found: Slots::new(alloc),
         }
     }
 
@@ -91,8 +91,7 @@ impl Openings {
         ensures left { OnOk result ((o : Origin) (x : Opening) → Contains self.new (o, x) → Contains self.old (o, x) ⊎ ((o ≡ origin.now) × (x ≡ other))) }
         ensures unchanged { OnErr result (self.new ≡ self.old) }
     {
-        let found = self.found.insert(*origin, other)?;
-        Ok(found)
+        self.found.put(*origin, other)
     }
 
     /// Puts an opening in, in place of the one that is there. The only error is running out of memory, and then nothing has
@@ -101,7 +100,7 @@ impl Openings {
         ensures put { OnOk result ((o : Origin) (x : Opening) → Contains self.new (o, x) → Contains self.old (o, x) ⊎ ((o ≡ origin) × (x ≡ opening))) }
         ensures unchanged { OnErr result (self.new ≡ self.old) }
     {
-        self.found.insert(origin, opening)?;
+        self.found.put(origin, opening)?;
         Ok(())
     }
 }

@@ -1,12 +1,13 @@
 //! The keys that were asked for, each with its live alternatives.
-ghost use Rattle.std.specs.Prelude.{◌≡◌, ◌≢◌, ◌↔◌, ◌<◌, ◌^◌, [], ◌∷◌, ◌++◌, IsTrue, MatchOption, OnErr, OnOk, List, length};
+ghost use Rattle.std.specs.Prelude.{◌≡◌, ◌≢◌, ◌↔◌, ◌<◌, ◌^◌, [], ◌∷◌, ◌++◌, ◌⊎◌, IfOk, MatchOption, OnErr, OnOk, List, length};
 ghost use Rattle.std.specs.List.{Contains};
 ghost use Rattle.std.specs.Map.{keys_of};
 ghost use Rattle.lg_region.specs.Fronts.{AreOnce};
 ghost use Rattle.lg_region.specs.declared.key.Key.{Key};
 ghost use Rattle.lg_region.specs.declared.alternative.Alt.{Alt};
+ghost use Rattle.lg_forest.specs.Slots.{keys_in, pairs_in};
 
-use indexmap::IndexMap;
+use crate::slots::{Slot, Slots};
 use lg_base::NoMemory;
 use lg_region::{Alts, Key};
 use std::alloc::Global;
@@ -15,7 +16,7 @@ use std::marker::Model;
 /// Keys, each with its live alternatives; a key without a linkage has none. Contracts see the pairs.
 #[derive(Drop)]
 pub(crate) struct Table {
-    found: IndexMap<Key, Alts>,
+    found: Slots<Key, Alts>,
 }
 
 impl Model for Table {
@@ -25,7 +26,7 @@ impl Model for Table {
 
     ghost Value = { List (SeenKey × List SeenAlt) };
 
-    ghost view = { λ t. t.found.entries };
+    ghost view = { λ t. t.found };
 }
 
 impl Table {
@@ -34,7 +35,7 @@ impl Table {
         ensures { result ≡ [] }
     {
         Table {
-            found: IndexMap::new(alloc),
+            found: Slots::new(alloc),
         }
     }
 
@@ -60,15 +61,37 @@ impl Table {
         ensures added { OnOk result (self.new ≡ self.old ++ (key, alts) ∷ []) }
         ensures unchanged { OnErr result (self.new ≡ self.old) }
     {
-        self.found.insert(key, alts)?;
-        Ok(())
+        self.found.add(key, alts)
     }
 
-    /// Lets the keys go that have no alternative.
-    pub fn forget_dead(&mut self)
-        ensures live { (k : Key) (alts : List Alt) → Contains self.new (k, alts) ↔ (Contains self.old (k, alts) × (alts ≢ [])) }
-        ensures once { AreOnce (keys_of self.new) }
+    /// The keys that have an alternative.
+    pub fn into_live(self, alloc: Global) -> Result<Table, NoMemory>
+        ensures { IfOk result (λ live. (k : Key) (alts : List Alt) → Contains live (k, alts) ↔ (Contains self (k, alts) × (alts ≢ []))) }
     {
-        self.found.retain(|_key, alts| !alts.is_empty());
+        let Table { found } = self;
+        live_of(alloc, found.into_slots())
     }
+
+    // Adds a key that is not there, if it has an alternative.
+    fn add_live(&mut self, key: Key, alts: Alts) -> Result<(), NoMemory>
+        requires { Contains (keys_of self.old) key → ⊥ }
+        ensures { OnOk result ((k : Key) (a : List Alt) → Contains self.new (k, a) ↔ (Contains self.old (k, a) ⊎ ((k ≡ key) × (a ≡ alts) × (a ≢ [])))) }
+    {
+        if alts.is_empty() {
+            return Ok(());
+        }
+        self.add(key, alts)
+    }
+}
+
+// Those of some keys that have an alternative.
+fn live_of(alloc: Global, slots: Vec<Slot<Key, Alts>>) -> Result<Table, NoMemory>
+    requires { AreOnce (keys_in slots.items) }
+    ensures { IfOk result (λ live. (k : Key) (alts : List Alt) → Contains live (k, alts) ↔ (Contains (pairs_in slots.items) (k, alts) × (alts ≢ []))) }
+{
+    let mut live = Table::new(alloc);
+    for slot in slots {
+        live.add_live(slot.key, slot.value)?;
+    }
+    Ok(live)
 }

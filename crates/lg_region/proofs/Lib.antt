@@ -31,3 +31,4 @@ pub mod Keeps
 pub mod SmallFits
 pub mod Chaining
 pub mod Alike
+mod Lasts

@@ -19,7 +19,7 @@ last_of cs = slice_get cs (length cs - 1)
 pub record BeginsWith (n : Numbering) (origin : Origin) (gap : Gap) : Type 0 where
   pub left_is : gap.left ≡ origin.left
   pub llist_is : gap.llist ≡ origin.llist
-  pub last_is : gap.llist ≡ 0 → last_of (list_of n.lists gap.rlist) ≡ origin.last
+  pub last_is : gap.llist ≡ 0 → last_of (list_of n.lists gap.rlist) ≡ last_of (list_of n.lists origin.last)
   pub some : (gap.llist ≡ 0) × (gap.rlist ≡ 0) → ⊥
   pub few : origin.nulls ≤ gap.nulls
   pub lead : gap.llist ≢ 0 → gap.lead ≡ left_lead n gap.llist

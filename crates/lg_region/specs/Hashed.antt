@@ -1,10 +1,8 @@
--- What a key and an origin give a hasher: numbers in one, which tells apart what a search asks for.
-use Rattle.std.specs.Prelude.{ℕ, List, [], ◌∷◌, ◌++◌, ◌*◌, ◌^◌, ◌%◌, bit_or}
+-- What a key gives a hasher: numbers in one, which tells apart what a search asks for.
+use Rattle.std.specs.Prelude.{ℕ, List, ◌*◌, ◌^◌, ◌%◌, bit_or}
 use Rattle.std.specs.Hash as fed
-use Rattle.lg_gram.specs.Connectors.{Connector}
 use Rattle.lg_region.specs.declared.key.Key.{Key}
 use Rattle.lg_region.specs.declared.key.Key.TheVariants.{Whole, Region}
-use Rattle.lg_region.specs.declared.opening.Origin.{Origin}
 
 -- a number with so many zero bits behind it, in 64 bits
 abbrev pub raised : ℕ → ℕ → ℕ
@@ -14,9 +12,3 @@ abbrev pub input_of : Key → List (List ℕ)
 input_of (Whole nulls) = fed.u32 nulls
 input_of (Region left right llist rlist nulls) =
     fed.u64 (bit_or (bit_or (raised left 56) (bit_or (raised right 48) (raised nulls 40))) (bit_or (raised llist 20) rlist))
-
--- the connector after the numbers, where there is one
-abbrev pub input_of_origin : Origin → List (List ℕ)
-input_of_origin origin =
-    fed.u64 (bit_or (bit_or (raised origin.left 56) (raised origin.nulls 40)) origin.llist)
-    ++ fed.option (λ (c : Connector). (c.caps ++ c.subs) ∷ []) origin.last

@@ -1,7 +1,8 @@
 -- What is kept of each list: its last connector and the number of the rest; and the numbers of the lists of each disjunct.
 use Rattle.std.specs.Prelude.{◌≡◌, ℕ, suc, ◌+◌, ◌<◌, ◌≤◌, List, [], ◌∷◌, ◌++◌, length, Some, slice_get}
 use Rattle.std.specs.List.{AllZip}
-use Rattle.lg_gram.specs.Connectors.{Connector}
+use Rattle.std.specs.Map.{lookup}
+use Rattle.lg_gram.specs.Connectors.{Connector, connector_eq}
 use Rattle.lg_gram.specs.declared.disjunct.Disjunct.{Disjunct}
 use Rattle.lg_region.specs.Fronts.{AreFirstMet, list_of}
 use Rattle.lg_region.specs.declared.numbering.Tail.{Tail}
@@ -15,6 +16,29 @@ pub record IsTailOf (lists : List (List Connector)) (id : ℕ) (t : Tail) : Type
 pub record AreTailsOf (lists : List (List Connector)) (tails : List Tail) : Type 0 where
   pub same_length : length tails ≡ length lists
   pub each : (n : ℕ) (t : Tail) → slice_get tails n ≡ Some t → IsTailOf lists (suc n) t
+
+-- the list of a number ends with a connector
+pub record HasLast (tails : List Tail) (id : ℕ) (c : Connector) : Type 0 where
+  pub place : ℕ
+  pub tail : Tail
+  pub number : id ≡ suc place
+  pub kept : slice_get tails place ≡ Some tail
+  pub last : tail.last ≡ c
+
+abbrev pub HasSameLast : List Tail → Tail → ℕ → Type 0
+HasSameLast tails t id = HasLast tails id t.last
+
+-- each list has the number of one that ends with the same connector
+abbrev pub AreLastsOf : List Tail → List ℕ → Type 0
+AreLastsOf tails lasts = AllZip (HasSameLast tails) tails lasts
+
+-- connectors, each with the number of a list that ends with it
+abbrev pub AreFirsts : List Tail → List (Connector × ℕ) → Type 0
+AreFirsts tails entries = (c : Connector) (id : ℕ) → lookup (connector_eq c) entries ≡ Some id → HasLast tails id c
+
+-- the list of this number ends with the connector, and is met; so does the list of the number that is given
+abbrev pub GivesFirst : List (Connector × ℕ) → List (Connector × ℕ) → Connector → ℕ → ℕ → Type 0
+GivesFirst old new c id first = (tails : List Tail) → AreFirsts tails old → HasLast tails id c → AreFirsts tails new × HasLast tails first c
 
 -- the lists and their tails, where so many lists have been met so far
 pub record AreNumbered (met : List (List Connector)) (lists : List (List Connector)) (tails : List Tail) : Type 0 where

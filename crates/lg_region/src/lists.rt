@@ -2,6 +2,7 @@
 ghost use Rattle.std.specs.Prelude.{◌≡◌, ◌+◌, ◌<◌, ◌≤◌, [], length, slice_index_or, MatchOption, IfOk};
 ghost use Rattle.lg_gram.specs.Problems.{IsProblem};
 ghost use Rattle.lg_gram.specs.declared.disjunct.Disjunct.{Disjunct};
+ghost use Rattle.lg_region.specs.Alike.{last_of};
 ghost use Rattle.lg_region.specs.Fronts.{AreListsOf, list_of};
 ghost use Rattle.lg_region.specs.Keys.{IsDisjunctAt};
 ghost use Rattle.lg_region.specs.Numbered.{HasSides};
@@ -9,7 +10,7 @@ ghost use Rattle.lg_region.specs.Chains.{class_of as class_of_list, list_on, IsN
 ghost use Rattle.lg_region.specs.Ways.{IsEndOf};
 
 use crate::chains::{Chain, Side, chains, class_of};
-use crate::numbering::{Sides, Tail, numbered};
+use crate::numbering::{Sides, Tail, lasts_of, numbered};
 use crate::ways::End;
 use indexmap::IndexSet;
 use lg_base::NoMemory;
@@ -27,6 +28,7 @@ pub struct Lists<'a> {
     problem: &'a Problem,
     fronts: Vec<&'a [Connector]>,
     tails: IndexSet<Tail>,
+    lasts: Vec<u32>,
     sides: Vec<Vec<Sides>>,
     lefts: Vec<Chain>,
     rights: Vec<Chain>,
@@ -55,12 +57,14 @@ impl<'a> Lists<'a> {
         let mut tails = IndexSet::new(alloc);
         let positions = problem.positions();
         let sides = numbered(alloc, &mut fronts, &mut tails, positions)?;
+        let lasts = lasts_of(alloc, &tails)?;
         let lefts = chains(alloc, Side::Left, positions)?;
         let rights = chains(alloc, Side::Right, positions)?;
         Ok(Lists {
             problem,
             fronts,
             tails,
+            lasts,
             sides,
             lefts,
             rights,
@@ -160,6 +164,17 @@ impl<'a> Lists<'a> {
             Side::Left => &self.lefts[word as usize],
             Side::Right => &self.rights[word as usize],
         }
+    }
+
+    /// The first list that ends with the same connector as this one; 0 for the empty list. No memory.
+    pub(crate) fn last(&self, id: u32) -> u32
+        requires { id ≤ length self.now.lists }
+        ensures { last_of (list_of self.now.lists result) ≡ last_of (list_of self.now.lists id) }
+    {
+        if id == 0 {
+            return 0;
+        }
+        self.lasts[id as usize - 1]
     }
 
     /// The end of a list. None where it is empty. No memory.

@@ -3,9 +3,9 @@ ghost use Rattle.std.specs.Prelude.{◌≡◌, ◌+◌, ◌<◌, ◌^◌, map, l
 ghost use Rattle.std.specs.List.{flat_map};
 ghost use Rattle.lg_gram.specs.Problems.{IsProblem};
 ghost use Rattle.lg_region.specs.Fronts.{all_fronts, fronts as front_parts, fronts_of};
-ghost use Rattle.lg_region.specs.Numbered.{Admits, AreNumbered, AreSidesOf, GivesNumber, GivesSides, Numbers};
+ghost use Rattle.lg_region.specs.Numbered.{Admits, AreLastsOf, AreNumbered, AreSidesOf, GivesFirst, GivesNumber, GivesSides, Numbers};
 
-use indexmap::IndexSet;
+use indexmap::{IndexMap, IndexSet};
 use lg_base::NoMemory;
 use lg_gram::{Connector, Disjunct, Disjuncts};
 use std::alloc::Global;
@@ -36,6 +36,7 @@ pub(crate) fn numbered<'a>(
     requires empty { length fronts.old.items ≡ 0 }
     requires no_tails { length tails.old.keys ≡ 0 }
     ensures lists { OnOk result (AreNumbered (all_fronts positions.now) (map (λ f. f.now) fronts.new.items) tails.new.keys) }
+    ensures few { OnOk result (length tails.new.keys < 2 ^ 32) }
     ensures sides { IfOk result (λ sides. AreSidesOf (map (λ f. f.now) fronts.new.items) positions.now (map (λ v. v.items) sides.items)) }
 {
     let mut rows = Vec::new(alloc);
@@ -105,4 +106,34 @@ fn admit<'a>(
         fronts.push(front)?;
     }
     Ok(index as u32 + 1)
+}
+
+/// For each list but the empty one, the number of the first that ends with the same connector.
+pub(crate) fn lasts_of(alloc: Global, tails: &IndexSet<Tail>) -> Result<Vec<u32>, NoMemory>
+    requires { length tails.now.keys < 2 ^ 32 }
+    ensures { IfOk result (λ lasts. AreLastsOf tails.now.keys lasts.items) }
+{
+    let mut firsts = IndexMap::new(alloc);
+    let mut lasts = Vec::new(alloc);
+    for index in 0..tails.len() {
+        let tail = tails[index];
+        let first = first_with(&mut firsts, tail.last, index as u32 + 1)?;
+        lasts.push(first)?;
+    }
+    Ok(lasts)
+}
+
+// The first list that ends with a connector: that of this number where none was met yet.
+fn first_with(
+    firsts: &mut IndexMap<Connector, u32>,
+    last: Connector,
+    id: u32,
+) -> Result<u32, NoMemory>
+    ensures { IfOk result (λ first. GivesFirst firsts.old.entries firsts.new.entries last id first) }
+{
+    if let Some(first) = firsts.get(&last) {
+        return Ok(*first);
+    }
+    firsts.insert(last, id)?;
+    Ok(id)
 }

@@ -15,36 +15,18 @@ use crate::key::Key;
 use crate::lists::Lists;
 use crate::ways::{Way, has_way, ways_between};
 use lg_base::NoMemory;
-use lg_gram::Connector;
 use smallvec::SmallVec;
 use std::alloc::Global;
-use std::hash::{Hash, Hasher};
 
 /// How regions begin that begin alike: the left end, the number of its list, and how many words are unlinked to the left of the
-/// word that cuts them. Where that list is empty, the last connector of the right list tells the disjuncts that can cut them.
+/// word that cuts them. Where that list is empty, the last connector of the right list tells the disjuncts that can cut them: `last`
+/// is the number of a list that ends with it, the same one for all that do. Where it is not empty, `last` is 0.
 #[derive(Clone, Copy, Debug, PartialEq, Eq)]
 pub struct Origin {
     pub left: u32,
     pub llist: u32,
     pub nulls: u32,
-    pub last: Option<Connector>,
-}
-
-// The three numbers are given to the hasher as one, as those of a key are.
-impl Hash for Origin {
-    ghost use Rattle.std.specs.Cmp.Rules.{comparing, hashing};
-    ghost use Rattle.std.proofs.Common.{rules};
-    ghost use Rattle.lg_region.specs.Hashed.{input_of_origin};
-
-    ghost hash_input = { input_of_origin };
-
-    ghost respects_eq = { Prim.search (hashing, rules) };
-
-    fn hash<H: Hasher>(&self, state: &mut H) {
-        let ends = (self.left as u64) << 56 | (self.nulls as u64) << 40;
-        state.write_u64(ends | self.llist as u64);
-        self.last.hash(state);
-    }
+    pub last: u32,
 }
 
 /// How the alternatives of a group begin that have one left key: how the two left lists go on, and how many words are unlinked on
@@ -120,17 +102,15 @@ pub fn origin_of(lists: &Lists<'_>, gap: &Gap, nulls: u32) -> Origin
     }
 }
 
-// The last connector of the right list, where the left one is empty.
-fn last_that_leads(lists: &Lists<'_>, gap: &Gap) -> Option<Connector>
+// The first list that ends with the same connector as the right one, where the left one is empty.
+fn last_that_leads(lists: &Lists<'_>, gap: &Gap) -> u32
     requires { gap.now.rlist ≤ length lists.now.lists }
-    ensures { gap.now.llist ≡ 0 → last_of (list_of lists.entry.now.lists gap.now.rlist) ≡ result }
+    ensures { gap.now.llist ≡ 0 → last_of (list_of lists.entry.now.lists gap.now.rlist) ≡ last_of (list_of lists.entry.now.lists result) }
 {
-    if gap.llist != 0 {
-        return None;
-    }
-    match lists.end(gap.rlist) {
-        None => None,
-        Some(end) => Some(end.last),
+    if gap.llist == 0 {
+        lists.last(gap.rlist)
+    } else {
+        0
     }
 }
 

@@ -42,6 +42,16 @@ returns-clause-lists c =
     let r = rows_all (map now c.args.fronts.now.items) c.args.tails.now.keys (map now c.loop-position.fronts.items) c.loop-position.tails.keys c.args.positions.now c.loop-position.position-index (map row_items c.loop-position.rows.items) c.loop-position-test.false c.loop-position.invariant in
     r.numbers.numbered [] (none_numbered (map now c.args.fronts.now.items) c.args.tails.now.keys (length-map c.args.fronts.now.items now ∙ c.requires.empty) c.requires.no_tails)
 
+pub returns-clause-few : goal.returns-clause-few
+returns-clause-few c =
+    let r = rows_all (map now c.args.fronts.now.items) c.args.tails.now.keys (map now c.loop-position.fronts.items) c.loop-position.tails.keys c.args.positions.now c.loop-position.position-index (map row_items c.loop-position.rows.items) c.loop-position-test.false c.loop-position.invariant in
+    let none = c.requires.empty in
+    let old = length-map c.args.fronts.now.items now in
+    let few = r.numbers.few in
+    let level = r.numbers.level in
+    let all = few_fronts c.args.positions.now c.requires.problem in
+    omega arith
+
 pub returns-clause-sides : goal.returns-clause-sides
 returns-clause-sides c =
     let r = rows_all (map now c.args.fronts.now.items) c.args.tails.now.keys (map now c.loop-position.fronts.items) c.loop-position.tails.keys c.args.positions.now c.loop-position.position-index (map row_items c.loop-position.rows.items) c.loop-position-test.false c.loop-position.invariant in

@@ -15,6 +15,7 @@ invariant_of-result c =
       problem = c.positions-positions.ensures.limits;
       lists = subst (λ z. AreListsOf z lists) e n.first_met;
       tails = n.tailed;
+      lasts = c.in_ok-lasts.ensures;
       sides = subst (λ z. AreSidesOf lists z (map (λ v. v.items) c.in_ok-sides.sides.items)) e c.in_ok-sides.ensures.sides;
       lefts = subst (λ z. AllZip (IsChain Left) z c.in_ok-lefts.lefts.items) e c.in_ok-lefts.ensures;
       rights = subst (λ z. AllZip (IsChain Right) z c.in_ok-rights.rights.items) e c.in_ok-rights.ensures;

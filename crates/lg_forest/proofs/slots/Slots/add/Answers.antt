@@ -1,0 +1,7 @@
+use Rattle.std.proofs.Common.{Contains, ap, sym, ◌∙◌, subst}
+use Rattle.std.specs.Map.{keys_of}
+use Rattle.lg_forest.proofs.Slotting.{keys_seen}
+use Rattle.lg_forest.proofs.slots.Slots.add.Goals as goal
+
+pub push-requires-clause-fresh : goal.push-requires-clause-fresh
+push-requires-clause-fresh g c = subst (λ z. Contains z c.args.key → ⊥) (sym (ap keys_of c.self.view_is) ∙ keys_seen c.self.inside.slots.items) c.requires

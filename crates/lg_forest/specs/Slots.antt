@@ -1,0 +1,34 @@
+-- Tables that find a key by buckets: each bucket tells the last of its keys, and each key the one of its bucket before it.
+use Rattle.std.specs.Prelude.{◌≡◌, ◌≢◌, ℕ, suc, ◌%◌, ◌^◌, ◌<◌, ◌≤◌, List, length, map, Some, slice_get, slice_index}
+use Rattle.lg_region.specs.Fronts.{AreOnce}
+use Rattle.lg_forest.specs.declared.slots.Links.{Links}
+use Rattle.lg_forest.specs.declared.slots.Slot.{Slot}
+
+abbrev pub keys_in : {K V : Type 0} → List (Slot K V) → List K
+keys_in slots = map (λ s. s.key) slots
+
+abbrev pub pairs_in : {K V : Type 0} → List (Slot K V) → List (K × V)
+pairs_in slots = map (λ s. (s.key, s.value)) slots
+
+-- Of the keys before `end`, the last one of a bucket is the one before `from`, or there is none and `from` is 0.
+pub record IsLast {K : Type 0} (spread : K → ℕ) (count : ℕ) (keys : List K) (end bucket from : ℕ) : Type 0 where
+  pub within : from ≤ end
+  pub others : (n : ℕ) (k : K) → from ≤ n → n < end → slice_get keys n ≡ Some k → spread k % count ≢ bucket
+  pub same : (n : ℕ) (k : K) → from ≡ suc n → slice_get keys n ≡ Some k → spread k % count ≡ bucket
+
+-- each bucket tells the last of its keys before `end`, and each of these keys the one of its bucket before it
+pub record AreLinked {K : Type 0} (spread : K → ℕ) (keys : List K) (heads nexts : List ℕ) (end : ℕ) : Type 0 where
+  pub head : (b : ℕ) → b < length heads → IsLast spread (length heads) keys end b (slice_index heads b)
+  pub next : (n : ℕ) (k : K) → n < end → slice_get keys n ≡ Some k → IsLast spread (length heads) keys n (spread k % length heads) (slice_index nexts n)
+
+-- keys, each once, that are linked, with room for them
+pub record AreSlots {K V : Type 0} (spread : K → ℕ) (slots : List (Slot K V)) (links : Links) : Type 0 where
+  pub linked : AreLinked spread (keys_in slots) links.heads.items links.nexts.items (length slots)
+  pub room : length slots ≤ length links.heads.items
+  pub level : length links.nexts.items ≡ length links.heads.items
+  pub few : length links.heads.items < 2 ^ 32
+  pub once : AreOnce (keys_in slots)
+
+-- the slot of this number has the key
+abbrev pub IsAt : {K V : Type 0} → List (Slot K V) → K → ℕ → Type 0
+IsAt {K} {V} slots key at = (s : Slot K V) × (slice_get slots at ≡ Some s) × (s.key ≡ key)

@@ -1,0 +1,232 @@
+//! A hash table for keys of a few numbers.
+ghost use Rattle.std.specs.Prelude.{◌≡◌, ◌<◌, ◌^◌, ◌%◌, ◌++◌, ◌∷◌, ◌⊎◌, [], length, IfOk, IfSome, MatchOption, OnErr, OnOk};
+ghost use Rattle.std.specs.List.{Contains};
+ghost use Rattle.std.specs.Map.{keys_of};
+ghost use Rattle.lg_region.specs.Fronts.{AreOnce};
+ghost use Rattle.lg_forest.specs.Slots.{AreLinked, AreSlots, IsAt, keys_in, pairs_in};
+
+use crate::spread::Spread;
+use lg_base::NoMemory;
+use std::alloc::Global;
+use std::marker::Model;
+use std::mem;
+
+// How many buckets a table has at first, and where it would have more it is out of memory.
+const FIRST: usize = 16;
+const LAST: usize = 1 << 31;
+
+/// A key and its value.
+#[derive(Drop)]
+pub(crate) struct Slot<K, V> {
+    pub(crate) key: K,
+    pub(crate) value: V,
+}
+
+/// For each bucket the number of its last slot, and for each slot that of the one of its bucket before it; from 1, or 0 where there
+/// is none.
+#[derive(Drop)]
+pub(crate) struct Links {
+    heads: Vec<u32>,
+    nexts: Vec<u32>,
+}
+
+/// Keys, each with a value, in the order in which they came. Contracts see the pairs.
+///
+/// The search looks up more than anything else, and most keys have no linkage; so this table does little: it lets no key go, and has
+/// as many buckets as there is room for slots.
+#[derive(Drop)]
+pub(crate) struct Slots<K: Spread, V> {
+    alloc: Global,
+    links: Links,
+    slots: Vec<Slot<K, V>>,
+}
+
+impl<K: Spread, V> Model for Slots<K, V> {
+    ghost use Rattle.std.specs.Prelude.{List};
+    ghost use Rattle.lg_forest.specs.Slots.{AreSlots as AreKept, pairs_in as pairs};
+
+    ghost Value = { List (K × V) };
+
+    ghost view = { λ t. pairs t.slots.items };
+
+    ghost invariant = { λ t. AreKept K.spread t.slots.items t.links };
+}
+
+impl<K: Spread, V: Drop> Slots<K, V> {
+    /// A table without keys. No memory.
+    pub(crate) fn new(alloc: Global) -> Slots<K, V>
+        ensures { result ≡ [] }
+    {
+        Slots {
+            alloc,
+            links: Links {
+                heads: Vec::new(alloc),
+                nexts: Vec::new(alloc),
+            },
+            slots: Vec::new(alloc),
+        }
+    }
+
+    /// How many keys there are.
+    pub(crate) fn len(&self) -> usize
+        ensures value { result ≡ length self.now }
+        ensures small { result < 2 ^ 32 }
+        ensures once { AreOnce (keys_of self.now) }
+    {
+        self.slots.len()
+    }
+
+    /// The value of a key. None where the key is not there. No memory.
+    pub(crate) fn get(&self, key: &K) -> Option<&V>
+        ensures { MatchOption result (Contains (keys_of self.now) key.now → ⊥) (λ value. Contains self.now (key.now, value.now)) }
+    {
+        let Some(at) = seek(&self.slots, &self.links, key) else {
+            return None;
+        };
+        Some(&self.slots[at].value)
+    }
+
+    /// Adds a key that is not there. The only error is running out of memory, and then nothing has changed.
+    pub(crate) fn add(&mut self, key: K, value: V) -> Result<(), NoMemory>
+        requires { Contains (keys_of self.old) key → ⊥ }
+        ensures added { OnOk result (self.new ≡ self.old ++ (key, value) ∷ []) }
+        ensures unchanged { OnErr result (self.new ≡ self.old) }
+    {
+        make_room(self.alloc, &self.slots, &mut self.links)?;
+        push(&mut self.slots, &mut self.links, key, value)
+    }
+
+    /// Puts the value of a key in, and takes out the one that is there. The only error is running out of memory, and then nothing has
+    /// changed.
+    pub(crate) fn put(&mut self, key: K, value: V) -> Result<Option<V>, NoMemory>
+        ensures taken { IfOk result (λ found. IfSome found (λ old. Contains self.old (key, old))) }
+        ensures put { OnOk result ((k : K) (v : V) → Contains self.new (k, v) → Contains self.old (k, v) ⊎ ((k ≡ key) × (v ≡ value))) }
+        ensures unchanged { OnErr result (self.new ≡ self.old) }
+    {
+        match seek(&self.slots, &self.links, &key) {
+            Some(at) => Ok(Some(replace_at(&mut self.slots, at, value))),
+            None => {
+                self.add(key, value)?;
+                Ok(None)
+            }
+        }
+    }
+
+    /// The keys and their values. No memory.
+    pub(crate) fn into_slots(self) -> Vec<Slot<K, V>>
+        ensures pairs { pairs_in result.items ≡ self }
+        ensures once { AreOnce (keys_in result.items) }
+    {
+        let Slots { slots, .. } = self;
+        slots
+    }
+}
+
+// The bucket of a key with this number.
+fn bucket_of(spread: u64, count: usize) -> usize
+    requires { 0 < count }
+    ensures value { result ≡ spread % count }
+    ensures within { result < count }
+{
+    spread as usize % count
+}
+
+// The number of the slot of a key. None where the key is not there.
+fn seek<K: Spread, V>(slots: &[Slot<K, V>], links: &Links, key: &K) -> Option<usize>
+    requires { AreSlots K.spread slots.now links.now }
+    ensures { MatchOption result (Contains (keys_in slots.now) key.now → ⊥) (IsAt slots.now key.now) }
+{
+    if slots.is_empty() {
+        return None;
+    }
+    seek_from(slots, links, key)
+}
+
+// The same where there are slots.
+fn seek_from<K: Spread, V>(slots: &[Slot<K, V>], links: &Links, key: &K) -> Option<usize>
+    requires slots { AreSlots K.spread slots.now links.now }
+    requires some { 0 < length slots.now }
+    ensures { MatchOption result (Contains (keys_in slots.now) key.now → ⊥) (IsAt slots.now key.now) }
+{
+    let bucket = bucket_of(key.spread(), links.heads.len());
+    let mut next = links.heads[bucket] as usize;
+    while next > 0 {
+        let at = next - 1;
+        if slots[at].key.is(key) {
+            return Some(at);
+        }
+        next = links.nexts[at] as usize;
+    }
+    None
+}
+
+// Puts the value of a slot in, and takes the old one out.
+fn replace_at<K: Spread, V>(slots: &mut Vec<Slot<K, V>>, at: usize, value: V) -> V
+    requires { at < length slots.old.items }
+    ensures keys { keys_in slots.new.items ≡ keys_in slots.old.items }
+    ensures taken { (key : K) → IsAt slots.old.items key at → Contains (pairs_in slots.old.items) (key, result) }
+    ensures put { (key k : K) (v : V) → IsAt slots.old.items key at → Contains (pairs_in slots.new.items) (k, v) → Contains (pairs_in slots.old.items) (k, v) ⊎ ((k ≡ key) × (v ≡ value)) }
+{
+    mem::replace(&mut slots[at].value, value)
+}
+
+// Makes room for one slot more. The only error is running out of memory, and then nothing has changed.
+fn make_room<K: Spread, V>(
+    alloc: Global,
+    slots: &[Slot<K, V>],
+    links: &mut Links,
+) -> Result<(), NoMemory>
+    requires { AreSlots K.spread slots.now links.old }
+    ensures slots { AreSlots K.spread slots.now links.new }
+    ensures room { OnOk result (length slots.now < length links.new.heads.items) }
+{
+    if slots.len() < links.heads.len() {
+        return Ok(());
+    }
+    *links = linked(alloc, slots)?;
+    Ok(())
+}
+
+// Adds a slot, for which there is room. The only error is running out of memory, and then nothing has changed.
+fn push<K: Spread, V: Drop>(
+    slots: &mut Vec<Slot<K, V>>,
+    links: &mut Links,
+    key: K,
+    value: V,
+) -> Result<(), NoMemory>
+    requires slots { AreSlots K.spread slots.old.items links.old }
+    requires room { length slots.old.items < length links.old.heads.items }
+    requires fresh { Contains (keys_in slots.old.items) key → ⊥ }
+    ensures slots { AreSlots K.spread slots.new.items links.new }
+    ensures added { OnOk result (pairs_in slots.new.items ≡ pairs_in slots.old.items ++ (key, value) ∷ []) }
+    ensures unchanged { OnErr result (pairs_in slots.new.items ≡ pairs_in slots.old.items) }
+{
+    let at = slots.len();
+    slots.push(Slot { key, value })?;
+    let bucket = bucket_of(key.spread(), links.heads.len());
+    links.nexts[at] = links.heads[bucket];
+    links.heads[bucket] = at as u32 + 1;
+    Ok(())
+}
+
+// The links of all slots, with room for as many more.
+fn linked<K: Spread, V>(alloc: Global, slots: &[Slot<K, V>]) -> Result<Links, NoMemory>
+    requires { length slots.now < 2 ^ 32 }
+    ensures linked { IfOk result (λ links. AreLinked K.spread (keys_in slots.now) links.heads.items links.nexts.items (length slots.now)) }
+    ensures room { IfOk result (λ links. length slots.now < length links.heads.items) }
+    ensures level { IfOk result (λ links. length links.nexts.items ≡ length links.heads.items) }
+    ensures few { IfOk result (λ links. length links.heads.items < 2 ^ 32) }
+{
+    let count = 2 * slots.len() + FIRST;
+    if count > LAST {
+        return Err(NoMemory);
+    }
+    let mut heads = vec![in alloc; 0; count]?;
+    let mut nexts = vec![in alloc; 0; count]?;
+    for at in 0..slots.len() {
+        let bucket = bucket_of(slots[at].key.spread(), count);
+        nexts[at] = heads[bucket];
+        heads[bucket] = at as u32 + 1;
+    }
+    Ok(Links { heads, nexts })
+}
