@@ -55,7 +55,8 @@ impl Model for Search {
 
 impl Search {
     /// Before the first linkage with the fewest unlinked words. Where disjuncts are pruned, the problem is sharpened: first for as
-    /// many unlinked words as positions have no disjunct, then for one and two more, and where it has no such linkages, for any number.
+    /// many unlinked words as positions have nothing that can be linked, then for one and two more, and where it has no such linkages,
+    /// for any number.
     pub fn start<R: Threads + Sync>(
         rt: &R,
         alloc: Global,

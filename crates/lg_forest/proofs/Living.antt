@@ -1,5 +1,5 @@
 -- The keys of a table that have an alternative.
-use Rattle.std.proofs.Common.{◌≡◌, ◌≢◌, ◌↔◌, ℕ, ◌+◌, ◌<◌, ◌⊎◌, inl, inr, List, [], ◌∷◌, ◌++◌, length, map, Some, refl, sym, ap, ◌∙◌, subst, Contains, arith, length-append}
+use Rattle.std.proofs.Common.{◌≡◌, ◌≢◌, ◌↔◌, ◌<◌, ◌⊎◌, inl, inr, List, [], ◌∷◌, ◌++◌, length, Some, sym, ap, ◌∙◌, subst, Contains, arith, length-append}
 use Rattle.std.specs.List.{slice_get}
 use Rattle.std.proofs.lemmas.List.{append-nil, map-append}
 use Rattle.std.proofs.lemmas.List.Elements.{Contains-append_left, Contains-push, Contains-push_cases}
@@ -52,14 +52,13 @@ next_fresh slots done rest s live are once is has =
 pub live_more : (done : Slots) (s : Slot Key (List Alt)) (old new : Pairs) → AreLiveOf done old
     → ((k : Key) (a : List Alt) → Contains new (k, a) ↔ (Contains old (k, a) ⊎ ((k ≡ s.key) × (a ≡ s.value) × (a ≢ [])))) → AreLiveOf (done ++ s ∷ []) new
 live_more done s old new is adds k alts =
-    let more : pairs_in (done ++ s ∷ []) ≡ pairs_in done ++ (s.key, s.value) ∷ [] = map-append (λ (s : Slot Key (List Alt)). (s.key, s.value)) done (s ∷ []) in
-    (
+    let more : pairs_in (done ++ s ∷ []) ≡ pairs_in done ++ (s.key, s.value) ∷ [] = map-append (λ (s : Slot Key (List Alt)). (s.key, s.value)) done (s ∷ []) in (
       λ h. elim ((adds k alts).0 h) [
         | inl was ↦ (let r = (is k alts).0 was in (subst (λ z. Contains z (k, alts)) (sym more) (Contains-append_left (pairs_in done) ((s.key, s.value) ∷ []) (k, alts) r.0), r.1))
         | inr new ↦ (
             let same : (s.key, s.value) ≡ (k, alts) = λ i. (sym new.0 i, sym new.1 i) in
             (subst (λ z. Contains z (k, alts)) (sym more) (subst (λ (z : Key × List Alt). Contains (pairs_in done ++ (s.key, s.value) ∷ []) z) same (Contains-push (pairs_in done) (s.key, s.value))), new.2)
-          )
+            )
       ],
       λ h. (adds k alts).1 (elim (Contains-push_cases (pairs_in done) (s.key, s.value) (k, alts) (subst (λ z. Contains z (k, alts)) more h.0)) [
         | inl was ↦ inl ((is k alts).1 (was, h.1))

@@ -1,5 +1,5 @@
 -- How the keys of a table are linked by buckets, and found.
-use Rattle.std.proofs.Common.{◌≡◌, ◌≢◌, ℕ, zero, suc, ◌+◌, ◌-◌, ◌%◌, ◌<◌, ◌≤◌, ◌⊎◌, List, [], ◌∷◌, ◌++◌, length, map, get_or, set, refl, sym, ◌∙◌, ap, subst, Option, Some, inl, inr, Contains, arith, add-one, length-append, length-set}
+use Rattle.std.proofs.Common.{◌≡◌, ◌≢◌, ℕ, zero, suc, ◌+◌, ◌-◌, ◌%◌, ◌<◌, ◌≤◌, ◌⊎◌, List, [], ◌∷◌, ◌++◌, length, get_or, set, refl, sym, ◌∙◌, ap, subst, Some, inl, inr, Contains, arith, add-one, length-append, length-set}
 use Rattle.std.specs.List.{slice_get}
 use Rattle.std.proofs.lemmas.Bool.{cases_lt}
 use Rattle.std.proofs.lemmas.List.{get_or-set_same, get_or-set_other}
@@ -61,38 +61,38 @@ module _ {K : Type 0} (spread : K → ℕ) where
 
   last_past : (count : ℕ) (keys : List K) (n b from : ℕ) (k : K) → slice_get keys n ≡ Some k → spread k % count ≢ b → IsLast spread count keys n b from → IsLast spread count keys (suc n) b from
   last_past count keys n b from k at other is =
-    let w = is.within in
-    record {
-      within = omega arith;
-      others = λ m x a l r. elim (cases_lt m n) [
-        | inl h ↦ is.others m x a h r
-        | inr h ↦ (let q : m ≡ n = omega arith in λ e. other (ap (λ z. spread z % count) (same_Some k x (sym at ∙ subst (λ z. slice_get keys z ≡ Some x) q r)) ∙ e))
-      ];
-      same = is.same;
-    }
+      let w = is.within in
+      record {
+        within = omega arith;
+        others = λ m x a l r. elim (cases_lt m n) [
+          | inl h ↦ is.others m x a h r
+          | inr h ↦ (let q : m ≡ n = omega arith in λ e. other (ap (λ z. spread z % count) (same_Some k x (sym at ∙ subst (λ z. slice_get keys z ≡ Some x) q r)) ∙ e))
+        ];
+        same = is.same;
+      }
 
   -- one key more is linked
   pub linked_more : (keys : List K) (n b : ℕ) (k : K) (heads nexts heads' nexts' : List ℕ) → slice_get keys n ≡ Some k → b ≡ spread k % length heads → b < length heads → n < length nexts → AreLinked spread keys heads nexts n
       → heads' ≡ set heads b (suc n) → nexts' ≡ set nexts n (get_or heads b 0) → AreLinked spread keys heads' nexts' (suc n)
   linked_more keys n b k heads nexts heads' nexts' at e small long is f g =
-    let long' : length heads' ≡ length heads = ap (λ z. length z) f ∙ length-set heads b (suc n) in
-    record {
-      head = λ j l. subst (λ c. IsLast spread c keys (suc n) j (get_or heads' j 0)) (sym long') (elim (cases_same j b) [
-        | inl q ↦ subst (λ z. IsLast spread (length heads) keys (suc n) j z) (sym (ap (λ z. get_or z j 0) f ∙ ap (λ z. get_or (set heads b (suc n)) z 0) q ∙ get_or-set_same heads b (suc n) 0 small))
-            (subst (λ z. IsLast spread (length heads) keys (suc n) z (suc n)) (sym (q ∙ e)) (last_here (length heads) keys n k at))
-        | inr q ↦ subst (λ z. IsLast spread (length heads) keys (suc n) j z) (sym (ap (λ z. get_or z j 0) f ∙ get_or-set_other heads b j (suc n) 0 q))
-            (last_past (length heads) keys n j (get_or heads j 0) k at (λ r. q (sym r ∙ sym e)) (is.head j (omega arith)))
-      ]);
-      next = λ m x l r. subst (λ c. IsLast spread c keys m (spread x % c) (get_or nexts' m 0)) (sym long') (elim (cases_same m n) [
-        | inl q ↦ (
-            let same : k ≡ x = same_Some k x (sym at ∙ subst (λ z. slice_get keys z ≡ Some x) q r) in
-            let c : b ≡ spread x % length heads = e ∙ ap (λ z. spread z % length heads) same in
-            subst (λ z. IsLast spread (length heads) keys m (spread x % length heads) z) (sym (ap (λ z. get_or z m 0) g ∙ ap (λ z. get_or (set nexts n (get_or heads b 0)) z 0) q ∙ get_or-set_same nexts n (get_or heads b 0) 0 long))
-            (subst (λ z. IsLast spread (length heads) keys z (spread x % length heads) (get_or heads b 0)) (sym q) (subst (λ z. IsLast spread (length heads) keys n z (get_or heads b 0)) c (is.head b small)))
-            )
-        | inr q ↦ subst (λ z. IsLast spread (length heads) keys m (spread x % length heads) z) (sym (ap (λ z. get_or z m 0) g ∙ get_or-set_other nexts n m (get_or heads b 0) 0 q)) (is.next m x (omega arith) r)
-      ]);
-    }
+      let long' : length heads' ≡ length heads = ap (λ z. length z) f ∙ length-set heads b (suc n) in
+      record {
+        head = λ j l. subst (λ c. IsLast spread c keys (suc n) j (get_or heads' j 0)) (sym long') (elim (cases_same j b) [
+          | inl q ↦ subst (λ z. IsLast spread (length heads) keys (suc n) j z) (sym (ap (λ z. get_or z j 0) f ∙ ap (λ z. get_or (set heads b (suc n)) z 0) q ∙ get_or-set_same heads b (suc n) 0 small))
+              (subst (λ z. IsLast spread (length heads) keys (suc n) z (suc n)) (sym (q ∙ e)) (last_here (length heads) keys n k at))
+          | inr q ↦ subst (λ z. IsLast spread (length heads) keys (suc n) j z) (sym (ap (λ z. get_or z j 0) f ∙ get_or-set_other heads b j (suc n) 0 q))
+              (last_past (length heads) keys n j (get_or heads j 0) k at (λ r. q (sym r ∙ sym e)) (is.head j (omega arith)))
+        ]);
+        next = λ m x l r. subst (λ c. IsLast spread c keys m (spread x % c) (get_or nexts' m 0)) (sym long') (elim (cases_same m n) [
+          | inl q ↦ (
+              let same : k ≡ x = same_Some k x (sym at ∙ subst (λ z. slice_get keys z ≡ Some x) q r) in
+              let c : b ≡ spread x % length heads = e ∙ ap (λ z. spread z % length heads) same in
+              subst (λ z. IsLast spread (length heads) keys m (spread x % length heads) z) (sym (ap (λ z. get_or z m 0) g ∙ ap (λ z. get_or (set nexts n (get_or heads b 0)) z 0) q ∙ get_or-set_same nexts n (get_or heads b 0) 0 long))
+              (subst (λ z. IsLast spread (length heads) keys z (spread x % length heads) (get_or heads b 0)) (sym q) (subst (λ z. IsLast spread (length heads) keys n z (get_or heads b 0)) c (is.head b small)))
+              )
+          | inr q ↦ subst (λ z. IsLast spread (length heads) keys m (spread x % length heads) z) (sym (ap (λ z. get_or z m 0) g ∙ get_or-set_other nexts n m (get_or heads b 0) 0 q)) (is.next m x (omega arith) r)
+        ]);
+      }
 
   -- where no key is left, it is not there
   pub not_there : (count : ℕ) (keys : List K) (key : K) (next : ℕ) → next ≡ 0 → IsSeeking spread count keys key next → Contains keys key → ⊥
@@ -187,14 +187,14 @@ are_more {K} {V} spread slots slots' s links links' n b is place are room fresh 
     let more : keys_in slots' ≡ keys ++ s.key ∷ [] = ap keys_in is ∙ map-append (λ (s : Slot K V). s.key) slots (s ∷ []) in
     let count' : length slots' ≡ suc n = ap (λ z. length z) is ∙ (let l = length-append slots (s ∷ []) in omega arith) in
     let wider : AreLinked spread (keys ++ s.key ∷ []) links.heads.items links.nexts.items n =
-      subst (λ z. AreLinked spread (keys ++ s.key ∷ []) links.heads.items links.nexts.items z) (long ∙ sym place) (linked_wider spread keys s.key links.heads.items links.nexts.items (subst (λ z. AreLinked spread keys links.heads.items links.nexts.items z) (sym long) are.linked)) in
+    subst (λ z. AreLinked spread (keys ++ s.key ∷ []) links.heads.items links.nexts.items z) (long ∙ sym place) (linked_wider spread keys s.key links.heads.items links.nexts.items (subst (λ z. AreLinked spread keys links.heads.items links.nexts.items z) (sym long) are.linked)) in
     let at : slice_get (keys ++ s.key ∷ []) n ≡ Some s.key = subst (λ z. slice_get (keys ++ s.key ∷ []) z ≡ Some s.key) (long ∙ sym place) (get_end keys s.key) in
     let level = are.level in
     let long_heads : length links'.heads.items ≡ length links.heads.items = ap (λ z. length z) heads ∙ length-set links.heads.items b (n + 1) in
     let long_nexts : length links'.nexts.items ≡ length links.nexts.items = ap (λ z. length z) nexts ∙ length-set links.nexts.items n (get_or links.heads.items b 0) in
     let few = are.few in
     let linked : AreLinked spread (keys ++ s.key ∷ []) links'.heads.items links'.nexts.items (suc n) =
-      linked_more spread (keys ++ s.key ∷ []) n b s.key links.heads.items links.nexts.items links'.heads.items links'.nexts.items at bucket small (omega arith) wider (heads ∙ ap (λ z. set links.heads.items b z) (add-one n)) nexts in
+    linked_more spread (keys ++ s.key ∷ []) n b s.key links.heads.items links.nexts.items links'.heads.items links'.nexts.items at bucket small (omega arith) wider (heads ∙ ap (λ z. set links.heads.items b z) (add-one n)) nexts in
     record {
       linked = subst (λ z. AreLinked spread z links'.heads.items links'.nexts.items (length slots')) (sym more) (subst (λ z. AreLinked spread (keys ++ s.key ∷ []) links'.heads.items links'.nexts.items z) (sym count') linked);
       room = omega arith;

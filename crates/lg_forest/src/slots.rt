@@ -13,6 +13,7 @@ use std::mem;
 
 // How many buckets a table has at first, and where it would have more it is out of memory.
 const FIRST: usize = 16;
+
 const LAST: usize = 1 << 31;
 
 /// A key and its value.

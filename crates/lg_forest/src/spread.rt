@@ -27,7 +27,10 @@ pub(crate) trait Spread: Copy {
 fn mixed(ends: u64, lists: u64) -> u64
     ensures { result ≡ mixed_of ends lists }
 {
-    ends.wrapping_mul(GOLDEN).wrapping_add(lists).wrapping_mul(GOLDEN) >> 32
+    ends.wrapping_mul(GOLDEN)
+        .wrapping_add(lists)
+        .wrapping_mul(GOLDEN)
+        >> 32
 }
 
 impl Spread for Key {

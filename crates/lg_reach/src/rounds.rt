@@ -1,5 +1,5 @@
 //! Rounds of walks through all formulas of a sentence.
-ghost use Rattle.std.specs.Prelude.{◌≤◌, ◌+◌, ◌^◌, ◌<◌, IfOk};
+ghost use Rattle.std.specs.Prelude.{◌≤◌, ◌+◌, IfOk};
 ghost use Rattle.lg_gram.specs.Linkages.{Linkage, unlinked};
 ghost use Rattle.lg_reach.specs.Ends.{IsLinkageOf};
 ghost use Rattle.lg_reach.specs.Reach.{HaveFewer, HaveUsed};

@@ -21,11 +21,10 @@ loop-at-preserved g c =
     let small : b < length heads = omega arith in
     let l : n < length slots = omega arith in
     let at = key_at spread slots n c.index-slots-at.result (slice_get_read slots (length slots) n c.index-slots-at.result refl l c.index-slots-at.is) in
-    let bucket = c.bucket_of-bucket.ensures.value ∙ ap (λ z. z % (2 * length slots + 16)) (c.spread.ensures ∙ ap (λ s. spread s.key) (sym c.index-slots-at.is)) ∙ ap (λ z. spread c.index-slots-at.result.key % z) (sym long) in
-    (
+    let bucket = c.bucket_of-bucket.ensures.value ∙ ap (λ z. z % (2 * length slots + 16)) (c.spread.ensures ∙ ap (λ s. spread s.key) (sym c.index-slots-at.is)) ∙ ap (λ z. spread c.index-slots-at.result.key % z) (sym long) in (
       subst (λ z. AreLinked spread (keys_in slots) (set heads b (n + 1)) (set nexts n c.index.result.now) z) (sym (add-one n))
-      (linked_more spread (keys_in slots) n b c.index-slots-at.result.key heads nexts (set heads b (n + 1)) (set nexts n c.index.result.now) at bucket small (omega arith) so
-      (ap (λ z. set heads b z) (add-one n)) (ap (λ z. set nexts n z) (c.index.ensures ∙ get_or_default_zero heads b c.index.result.now small))),
+          (linked_more spread (keys_in slots) n b c.index-slots-at.result.key heads nexts (set heads b (n + 1)) (set nexts n c.index.result.now) at bucket small (omega arith) so
+          (ap (λ z. set heads b z) (add-one n)) (ap (λ z. set nexts n z) (c.index.ensures ∙ get_or_default_zero heads b c.index.result.now small))),
       length-set heads b (n + 1) ∙ long,
       length-set nexts n c.index.result.now ∙ level,
     )

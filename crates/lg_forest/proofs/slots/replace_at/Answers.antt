@@ -1,6 +1,5 @@
-use Rattle.std.proofs.Common.{◌≡◌, ◌⊎◌, Contains, ap, sym, ◌∙◌, subst}
-use Rattle.std.proofs.Math.ListN.{set}
-use Rattle.lg_forest.specs.Slots.{keys_in, pairs_in}
+use Rattle.std.proofs.Common.{◌≡◌, ◌⊎◌, Contains, sym, subst}
+use Rattle.lg_forest.specs.Slots.{pairs_in}
 use Rattle.lg_forest.proofs.Slotting.{put_at, same_keys, taken_at}
 use Rattle.lg_forest.proofs.slots.replace_at.Goals as goal
 
