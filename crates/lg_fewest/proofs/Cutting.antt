@@ -287,6 +287,12 @@ table_added n s least old new are is added t x has =
 
 -- ---- what a slice of beginnings shows
 
+abbrev pub no_group : Group
+no_group = record { word = 0; left = 0; from = 0; to = 0 }
+
+pub same_groups : (n : Numbering) (gap : Gap) (word : ℕ) (xs ys : List Group) → xs ≡ ys → GroupsOfWord n gap word (length (get_or n.positions word [])) [] ys → GroupsOfWord n gap word (length (get_or n.positions word [])) [] xs
+same_groups n gap word xs ys e h = subst (λ z. GroupsOfWord n gap word (length (get_or n.positions word [])) [] z) (sym e) h
+
 abbrev pub no_beginning : Beginning
 no_beginning = record { nulls = 0; way = record { joint = None; near = 0; far = 0 } }
 

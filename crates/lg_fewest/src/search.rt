@@ -100,11 +100,12 @@ fn cut_at(
     ensures lowers { IfOk result (Lowers (IsCutSum lists.entry.now span (StandsAt word)) most) }
     ensures table { OnOk result (AreLeast lists.entry.now table.new) }
 {
-    let groups = groups_at(alloc, lists, gap, word)?;
+    let found = groups_at(alloc, lists, gap, word)?;
+    let groups = found.as_slice();
     let mut least = most;
     for index in 0..groups.len() {
-        let group = groups[index];
-        least = cut_in(alloc, lists, table, span, gap, &group, least)?;
+        let group = &groups[index];
+        least = cut_in(alloc, lists, table, span, gap, group, least)?;
     }
     Ok(least)
 }

@@ -9,6 +9,7 @@ use crate::key::Key;
 use crate::lists::Lists;
 use crate::ways::{Way, Ways, set_ways, ways_between};
 use lg_base::NoMemory;
+use smallvec::SmallVec;
 use std::alloc::Global;
 
 /// The class of the disjuncts that can cut a region, on the side of the list that decides.
@@ -31,7 +32,7 @@ pub struct Gap {
 
 /// Disjuncts of a word, from one number up to another, of which those that can cut the region have the same left list, by its
 /// number.
-#[derive(Clone, Copy, Debug)]
+#[derive(Clone, Copy, Debug, Default)]
 pub struct Group {
     pub word: u32,
     pub left: u32,
@@ -40,11 +41,14 @@ pub struct Group {
 }
 
 /// A disjunct of a word by its number, and how its right list goes on.
-#[derive(Clone, Copy, Debug)]
+#[derive(Clone, Copy, Debug, Default)]
 pub struct Right {
     pub disjunct: u32,
     pub way: Way,
 }
+
+/// Disjuncts with their ways on, of which most groups have few.
+pub type Rights = SmallVec<Right, 8>;
 
 impl Right {
     /// The right key of an alternative that cuts the region at the word of the group with this disjunct, and leaves so many words
@@ -81,11 +85,12 @@ pub(crate) fn push_group(
     if lefts.is_empty() {
         return Ok(());
     }
-    let rights = rights(alloc, lists, gap, group)?;
+    let found = rights(alloc, lists, gap, group)?;
+    let rights = found.as_slice();
     let least = gap.nulls.saturating_sub(gap.right - group.word - 1);
     let most = gap.nulls.min(group.word - gap.left - 1);
     for nulls in least..most + 1 {
-        push_splits(gap, group.word, nulls, lefts, &rights, out)?;
+        push_splits(gap, group.word, nulls, lefts, rights, out)?;
     }
     Ok(())
 }
@@ -97,24 +102,32 @@ pub fn rights(
     lists: &Lists<'_>,
     gap: &Gap,
     group: &Group,
-) -> Result<Vec<Right>, NoMemory>
+) -> Result<Rights, NoMemory>
     requires gap { IsKnownGap lists.now gap.now }
     requires group { IsGroup lists.now gap.now group.now }
     ensures { IfOk result (λ rights. AreExactly rights.items (IsRightOf lists.entry.now gap.now group.now)) }
 {
-    let mut rights = Vec::new(alloc);
+    let mut rights = Rights::new(alloc);
     let mut ways = Ways::new(alloc);
+    let end = lists.end(gap.rlist);
     let mut number = group.from;
     while number < group.to {
         let sides = lists.sides(group.word, number);
-        set_ways(lists, sides.right, gap.rlist, gap.llist != 0, &mut ways)?;
+        set_ways(
+            lists,
+            sides.right,
+            gap.rlist,
+            end.as_ref(),
+            gap.llist != 0,
+            &mut ways,
+        )?;
         push_rights(number, &ways, &mut rights)?;
         number = lists.next(gap.lead.side, group.word, number);
     }
     Ok(rights)
 }
 
-fn push_rights(number: u32, ways: &[Way], rights: &mut Vec<Right>) -> Result<(), NoMemory>
+fn push_rights(number: u32, ways: &[Way], rights: &mut Rights) -> Result<(), NoMemory>
     ensures { OnOk result (rights.new.items ≡ rights.old.items ++ map (right_of number) ways.now) }
 {
     for way in ways {

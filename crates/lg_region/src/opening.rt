@@ -37,6 +37,9 @@ pub struct Beginning {
     pub way: Way,
 }
 
+/// Groups, of which most words have few.
+pub type Groups = SmallVec<Group, 4>;
+
 /// Beginnings, of which most groups have few.
 pub type Beginnings = SmallVec<Beginning, 4>;
 
@@ -124,30 +127,20 @@ pub fn end_with(gap: &Gap, nulls: u32) -> u32
 }
 
 /// The groups of a region at one of its words: each alternative that cuts it there stands in exactly one.
-pub fn groups_at(
-    alloc: Global,
-    lists: &Lists<'_>,
-    gap: &Gap,
-    word: u32,
-) -> Result<Vec<Group>, NoMemory>
+pub fn groups_at(alloc: Global, lists: &Lists<'_>, gap: &Gap, word: u32) -> Result<Groups, NoMemory>
     requires known { IsKnownGap lists.now gap.now }
     requires after { gap.now.left < word }
     requires before { word < gap.now.right }
     requires within { gap.now.right ≤ length lists.now.positions }
     ensures { IfOk result (λ groups. GroupsOfWord lists.entry.now gap.now word (length (slice_index_or lists.entry.now.positions word [])) [] groups.items) }
 {
-    let mut groups = Vec::new(alloc);
+    let mut groups = Groups::new(alloc);
     push_groups(lists, gap, word, &mut groups)?;
     Ok(groups)
 }
 
 // Adds the groups of a word.
-fn push_groups(
-    lists: &Lists<'_>,
-    gap: &Gap,
-    word: u32,
-    groups: &mut Vec<Group>,
-) -> Result<(), NoMemory>
+fn push_groups(lists: &Lists<'_>, gap: &Gap, word: u32, groups: &mut Groups) -> Result<(), NoMemory>
     requires known { IsKnownGap lists.now gap.now }
     requires after { gap.now.left < word }
     requires before { word < gap.now.right }
@@ -247,7 +240,14 @@ pub fn push_endings(
 {
     lists.are_numbered();
     let rights = rights(alloc, lists, gap, group)?;
-    push_with_left(gap, group.word, begin.nulls, &begin.way, &rights, out)
+    push_with_left(
+        gap,
+        group.word,
+        begin.nulls,
+        &begin.way,
+        rights.as_slice(),
+        out,
+    )
 }
 
 /// Adds the alternatives of a group that begin so and go on with these disjuncts. The only error is running out of memory: what the

@@ -1,7 +1,7 @@
 //! How the lists of two ends go on behind a joint between them.
-ghost use Rattle.std.specs.Prelude.{◌≡◌, ◌≤◌, ◌++◌, ◌↔◌, false, length, map, IfOk, IsTrue, OnOk};
+ghost use Rattle.std.specs.Prelude.{◌≡◌, ◌≤◌, ◌++◌, ◌↔◌, false, length, map, IfOk, IsTrue, MatchOption, OnOk};
 ghost use Rattle.lg_region.specs.Fronts.{AreListsOf};
-ghost use Rattle.lg_region.specs.Ways.{AddsExactly, AreExactly, HasWay, IsWayOf, rest_items, rests_of, way_of, joined_ways};
+ghost use Rattle.lg_region.specs.Ways.{AddsExactly, AreExactly, HasWay, IsEndOf, IsWayOf, rest_items, rests_of, way_of, joined_ways};
 
 use crate::key::Joint;
 use crate::lists::Lists;
@@ -76,7 +76,8 @@ pub(crate) fn ways_between(
     ensures { IfOk result (λ ways. AreExactly ways.items (IsWayOf lists.entry.now.lists near far apart)) }
 {
     let mut ways = Ways::new(alloc);
-    set_ways(lists, near, far, apart, &mut ways)?;
+    let end = lists.end(far);
+    set_ways(lists, near, far, end.as_ref(), apart, &mut ways)?;
     Ok(ways)
 }
 
@@ -99,16 +100,18 @@ pub(crate) fn has_way(lists: &Lists<'_>, near: u32, far: u32, apart: bool) -> bo
     matches(&first.last, &second.last)
 }
 
-/// The same, in place of what `ways` has.
+/// The same, in place of what `ways` has. The end of the far list is given, so that it need not be looked up for each near one.
 pub(crate) fn set_ways(
     lists: &Lists<'_>,
     near: u32,
     far: u32,
+    end: Option<&End>,
     apart: bool,
     ways: &mut Ways,
 ) -> Result<(), NoMemory>
     requires near { near ≤ length lists.now.lists }
     requires far { far ≤ length lists.now.lists }
+    requires end { MatchOption end (far ≡ 0) (λ e. IsEndOf lists.now.lists far e.now) }
     ensures { OnOk result (AreExactly ways.new.items (IsWayOf lists.entry.now.lists near far apart)) }
 {
     lists.are_numbered();
@@ -120,26 +123,33 @@ pub(crate) fn set_ways(
             far,
         })?;
     }
-    push_joints(lists, near, far, ways)?;
+    push_joints(lists, near, far, end, ways)?;
     Ok(())
 }
 
 // The ways on with a joint.
-fn push_joints(lists: &Lists<'_>, near: u32, far: u32, ways: &mut Ways) -> Result<(), NoMemory>
+fn push_joints(
+    lists: &Lists<'_>,
+    near: u32,
+    far: u32,
+    end: Option<&End>,
+    ways: &mut Ways,
+) -> Result<(), NoMemory>
     requires near { near ≤ length lists.now.lists }
     requires far { far ≤ length lists.now.lists }
+    requires end { MatchOption end (far ≡ 0) (λ e. IsEndOf lists.now.lists far e.now) }
     ensures { OnOk result (AddsExactly ways.old.items ways.new.items (IsWayOf lists.entry.now.lists near far false)) }
 {
     let Some(first) = lists.end(near) else {
         return Ok(());
     };
-    let Some(second) = lists.end(far) else {
+    let Some(second) = end else {
         return Ok(());
     };
     if !matches(&first.last, &second.last) {
         return Ok(());
     }
-    push_joined(ways, &first, &second)
+    push_joined(ways, &first, second)
 }
 
 fn push_joined(ways: &mut Ways, near: &End, far: &End) -> Result<(), NoMemory>

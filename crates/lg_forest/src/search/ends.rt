@@ -91,13 +91,14 @@ impl Search {
     {
         alternatives_end();
         lists.are_numbered();
-        let all = rights(self.alloc, lists, gap, &start.group)?;
+        let found = rights(self.alloc, lists, gap, &start.group)?;
+        let all = found.as_slice();
         let mut live = Vec::new(self.alloc);
         for index in 0..all.len() {
-            let right = all[index];
+            let right = &all[index];
             let rkey = right.key(gap, &start.group, nulls);
             if self.visit(lists, rkey, steps)? {
-                live.push(right)?;
+                live.push(*right)?;
             }
         }
         Ok(Ends { rights: live })

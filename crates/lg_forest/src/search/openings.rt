@@ -158,10 +158,11 @@ impl Search {
         ensures later { steps.old ≤ steps.new }
     {
         lists.keep_limits();
-        let groups = groups_at(self.alloc, lists, gap, word)?;
+        let found = groups_at(self.alloc, lists, gap, word)?;
+        let groups = found.as_slice();
         for index in 0..groups.len() {
-            let group = groups[index];
-            self.open_group(lists, gap, &group, nulls, &mut opening.starts, steps)?;
+            let group = &groups[index];
+            self.open_group(lists, gap, group, nulls, &mut opening.starts, steps)?;
         }
         opening.done = word + 1;
         Ok(())

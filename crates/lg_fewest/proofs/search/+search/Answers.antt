@@ -1,4 +1,4 @@
-use Rattle.std.proofs.Common.{◌≡◌, ◌+◌, ◌∙◌, refl, sym, subst, length, get_or, arith, rules}
+use Rattle.std.proofs.Common.{◌+◌, ◌∙◌, refl, sym, subst, get_or, arith, rules}
 use Rattle.std.proofs.lemmas.Option.{slice_get-get_or}
 use Rattle.lg_region.specs.Keys.{IsValidKey}
 use Rattle.lg_region.specs.Openings.{IsGapOf}
@@ -67,38 +67,35 @@ cut_at-groups_at-requires-clause-within t c = c.requires.gap.within
 
 pub cut_at-loop-index-init : goal.cut_at-loop-index-init
 cut_at-loop-index-init t c = record {
-  lowers = cut.sums_none c.args.lists.now c.args.span _ c.args.most (cut.among_none cut.In c.in_ok-groups.groups.items);
+  lowers = cut.sums_none c.args.lists.now c.args.span _ c.args.most (cut.among_none cut.In c.as_slice-groups.result.now);
   table = c.requires.table;
 }
 
 pub cut_at-cut_in-requires : goal.cut_at-cut_in-requires
 cut_at-cut_in-requires t c =
-    let gs = c.in_ok-groups.groups.items in
-    let end : c.len-index-end.result ≡ length gs = c.len-index-end.ensures ∙ c.in_ok-groups.groups.ok.0 in
+    let gs = c.as_slice-groups.result.now in
     let test = c.loop-index-test.true in
-    let at = cut.at_of gs c.loop-index.index c.index.result.now (omega arith) c.index.ensures in
-    let is = cut.group_is c.args.lists.now c.args.span c.args.gap.now c.requires.gap c.args.word gs c.in_ok-groups.ensures c.loop-index.index c.index.result.now at in
+    let at = slice_get-get_or gs c.loop-index.index cut.no_group (omega arith) in
+    let is = cut.group_is c.args.lists.now c.args.span c.args.gap.now c.requires.gap c.args.word gs (cut.same_groups c.args.lists.now c.args.gap.now c.args.word _ _ c.as_slice-groups.ensures c.in_ok-found.ensures) c.loop-index.index (get_or gs c.loop-index.index cut.no_group) at in
     (search rules, (c.requires.law, (c.requires.span, (c.requires.gap, (is, c.loop-index.invariant.table)))))
 
 pub cut_at-loop-index-preserved : goal.cut_at-loop-index-preserved
 cut_at-loop-index-preserved t c =
-    let gs = c.in_ok-groups.groups.items in
+    let gs = c.as_slice-groups.result.now in
     let i = c.loop-index.index in
-    let end : c.len-index-end.result ≡ length gs = c.len-index-end.ensures ∙ c.in_ok-groups.groups.ok.0 in
     let test = c.loop-index-test.true in
-    let at = cut.at_of gs i c.index.result.now (omega arith) c.index.ensures in
+    let at = slice_get-get_or gs i cut.no_group (omega arith) in
     record {
-      lowers = cut.sums_then c.args.lists.now c.args.span (cut.Among cut.In gs i) (cut.In c.index.result.now) (cut.Among cut.In gs (i + 1)) c.args.most _ _ (cut.among_next cut.In gs i (i + 1) c.index.result.now refl at)
+      lowers = cut.sums_then c.args.lists.now c.args.span (cut.Among cut.In gs i) (cut.In (get_or gs c.loop-index.index cut.no_group)) (cut.Among cut.In gs (i + 1)) c.args.most _ _ (cut.among_next cut.In gs i (i + 1) (get_or gs c.loop-index.index cut.no_group) refl at)
           c.loop-index.invariant.lowers c.in_ok-least.ensures.lowers;
       table = c.in_ok-least.ensures.table;
     }
 
 pub cut_at-returns-clause-lowers : goal.cut_at-returns-clause-lowers
 cut_at-returns-clause-lowers t c =
-    let gs = c.in_ok-groups.groups.items in
-    let end : c.len-index-end.result ≡ length gs = c.len-index-end.ensures ∙ c.in_ok-groups.groups.ok.0 in
+    let gs = c.as_slice-groups.result.now in
     let test = c.loop-index-test.false in
-    cut.groups_all c.args.lists.now c.args.span c.args.gap.now c.requires.gap c.args.word gs c.in_ok-groups.ensures c.loop-index.index c.args.most c.loop-index.least (omega arith) c.loop-index.invariant.lowers
+    cut.groups_all c.args.lists.now c.args.span c.args.gap.now c.requires.gap c.args.word gs (cut.same_groups c.args.lists.now c.args.gap.now c.args.word _ _ c.as_slice-groups.ensures c.in_ok-found.ensures) c.loop-index.index c.args.most c.loop-index.least (omega arith) c.loop-index.invariant.lowers
 
 -- ---- beginning by beginning
 

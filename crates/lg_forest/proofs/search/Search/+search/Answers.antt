@@ -28,11 +28,12 @@ use Rattle.lg_region.specs.Ways.{AddsExactly, AreExactly}
 use Rattle.std.specs.Map.{keys_of}
 use Rattle.lg_forest.specs.Ends.{AreEnds, AsksRight, EndsWith, IsLiveRight}
 use Rattle.lg_forest.specs.declared.halves.Half.{Half}
+use Rattle.lg_region.proofs.Once.{exactly_same}
 use Rattle.lg_forest.proofs.Once.{contains_at}
 use Rattle.lg_forest.proofs.search.Search.+search.Goals as goal
 use Rattle.lg_forest.proofs.search.Search.+search.Goals.{explore_rights-then-branch+in_ok-push, explore_rights-else-branch, open_group-then-branch+in_ok-push, open_group-else-branch, open-in-Some, open-in-None}
-use Rattle.lg_forest.proofs.Opening.{no_beginning, none_starts, opening_kept, opening_new, opening_some, same_begins, word_opened, words_all, words_first, words_next}
-use Rattle.lg_forest.proofs.Ending.{all_asked, all_live, ended_asked, ended_live, ends_asked, ends_here, ends_known, first_asked, next_asked, right_valid}
+use Rattle.lg_forest.proofs.Opening.{no_beginning, no_group, none_starts, opening_kept, opening_new, opening_some, same_begins, same_groups, word_opened, words_all, words_first, words_next}
+use Rattle.lg_forest.proofs.Ending.{no_right, all_asked, all_live, ended_asked, ended_live, ends_asked, ends_here, ends_known, first_asked, next_asked, right_valid}
 use Rattle.lg_forest.proofs.Levels.{LeavesFewer, fewer_apart, fewer_next, fewer_none, levels_asked, levels_live}
 use Rattle.lg_forest.proofs.Starting.{IsOfGroup, OfFirst, SoFar, opening_asked, opening_live, start_asked, group_asked, group_started, group_there, groups_apart, groups_started, left_asked, lefts_as, lefts_then, start_dropped, start_kept, at_word, word_started}
 
@@ -254,50 +255,46 @@ open_group-returns-clause-goes g t c =
 
 pub open_word-loop-index-init : goal.open_word-loop-index-init
 open_word-loop-index-init g t c = record {
-  starts = part.adds_none c.args.opening.now.starts.items _ (λ s m. part.among_none (IsOfGroup c.args.lists.now c.args.gap.now c.args.nulls) c.in_ok-groups.groups.items s m);
-  goes = goes_none c.requires.ready (part.asked_start c.args.lists.now _ c.args.self.now.table c.requires.ready.table (λ k (a, alt, m, e). part.among_none In c.in_ok-groups.groups.items a m));
+  starts = part.adds_none c.args.opening.now.starts.items _ (λ s m. part.among_none (IsOfGroup c.args.lists.now c.args.gap.now c.args.nulls) c.as_slice-groups.result.now s m);
+  goes = goes_none c.requires.ready (part.asked_start c.args.lists.now _ c.args.self.now.table c.requires.ready.table (λ k (a, alt, m, e). part.among_none In c.as_slice-groups.result.now a m));
 }
 
 pub open_word-open_group-requires : goal.open_word-open_group-requires
 open_word-open_group-requires g t c κs within =
-    let gs = c.in_ok-groups.groups.items in
-    let end : c.len-index-end.result ≡ length gs = c.len-index-end.ensures ∙ c.in_ok-groups.groups.ok.0 in
+    let gs = c.as_slice-groups.result.now in
     let test = c.loop-index-test.true in
-    let at = part.at_of gs c.loop-index.index c.index.result.now (omega arith) c.index.ensures in
-    let of = group_there c.args.lists.now c.args.gap.now c.args.word gs c.in_ok-groups.ensures c.index.result.now (contains_at gs c.loop-index.index c.index.result.now at) in
+    let at = slice_get-get_or gs c.loop-index.index no_group (omega arith) in
+    let of = group_there c.args.lists.now c.args.gap.now c.args.word gs (same_groups c.args.lists.now c.args.gap.now c.args.word _ _ c.as_slice-groups.ensures c.in_ok-found.ensures) (get_or gs c.loop-index.index no_group) (contains_at gs c.loop-index.index (get_or gs c.loop-index.index no_group) at) in
     (search rules, (search rules, (ready_after c.requires.ready c.loop-index.invariant.goes (omega arith), (c.requires.gap, of.0))))
 
 pub open_word-loop-index-preserved : goal.open_word-loop-index-preserved
 open_word-loop-index-preserved g t c =
     let n = c.args.lists.now in
-    let gs = c.in_ok-groups.groups.items in
+    let gs = c.as_slice-groups.result.now in
     let i = c.loop-index.index in
-    let end : c.len-index-end.result ≡ length gs = c.len-index-end.ensures ∙ c.in_ok-groups.groups.ok.0 in
     let test = c.loop-index-test.true in
-    let at = part.at_of gs i c.index.result.now (omega arith) c.index.ensures in
-    let step = part.among_next In gs i (i + 1) c.index.result.now (omega arith) at in
+    let at = slice_get-get_or gs i no_group (omega arith) in
+    let step = part.among_next In gs i (i + 1) (get_or gs c.loop-index.index no_group) (omega arith) at in
     record {
-      starts = groups_started n c.args.gap.now c.args.nulls gs (groups_apart n c.args.gap.now c.args.word gs c.in_ok-groups.ensures) i (i + 1) c.index.result.now (omega arith) at c.args.opening.now.starts.items c.loop-index.opening.starts.items c.open_group.new.starts.items c.loop-index.invariant.starts c.in_ok-open_group.ensures.starts;
+      starts = groups_started n c.args.gap.now c.args.nulls gs (groups_apart n c.args.gap.now c.args.word gs (same_groups c.args.lists.now c.args.gap.now c.args.word _ _ c.as_slice-groups.ensures c.in_ok-found.ensures)) i (i + 1) (get_or gs c.loop-index.index no_group) (omega arith) at c.args.opening.now.starts.items c.loop-index.opening.starts.items c.open_group.new.starts.items c.loop-index.invariant.starts c.in_ok-open_group.ensures.starts;
       goes = goes_then c.loop-index.invariant.goes c.in_ok-open_group.ensures.goes
-          (lefts_then n (key_of c.args.gap.now) c.args.nulls (Among In gs i) (In c.index.result.now) (Among In gs (i + 1)) step c.args.self.now.table c.loop-index.self.table c.open_group.new.self.table c.loop-index.invariant.goes.asked c.in_ok-open_group.ensures.goes.asked);
+          (lefts_then n (key_of c.args.gap.now) c.args.nulls (Among In gs i) (In (get_or gs c.loop-index.index no_group)) (Among In gs (i + 1)) step c.args.self.now.table c.loop-index.self.table c.open_group.new.self.table c.loop-index.invariant.goes.asked c.in_ok-open_group.ensures.goes.asked);
     }
 
 pub open_word-returns-clause-opens : goal.open_word-returns-clause-opens
 open_word-returns-clause-opens g t c =
-    let gs = c.in_ok-groups.groups.items in
-    let end : c.len-index-end.result ≡ length gs = c.len-index-end.ensures ∙ c.in_ok-groups.groups.ok.0 in
+    let gs = c.as_slice-groups.result.now in
     let test = c.loop-index-test.false in
-    word_started c.args.lists.now c.args.gap.now c.args.nulls c.args.word gs c.in_ok-groups.ensures c.loop-index.index (omega arith) c.args.opening.now (record { done = c.args.word + 1; starts = c.loop-index.opening.starts }) refl c.loop-index.invariant.starts
+    word_started c.args.lists.now c.args.gap.now c.args.nulls c.args.word gs (same_groups c.args.lists.now c.args.gap.now c.args.word _ _ c.as_slice-groups.ensures c.in_ok-found.ensures) c.loop-index.index (omega arith) c.args.opening.now (record { done = c.args.word + 1; starts = c.loop-index.opening.starts }) refl c.loop-index.invariant.starts
 
 pub open_word-returns-clause-goes : goal.open_word-returns-clause-goes
 open_word-returns-clause-goes g t c =
     let n = c.args.lists.now in
-    let gs = c.in_ok-groups.groups.items in
-    let end : c.len-index-end.result ≡ length gs = c.len-index-end.ensures ∙ c.in_ok-groups.groups.ok.0 in
+    let gs = c.as_slice-groups.result.now in
     let test = c.loop-index-test.false in
     goes_as c.loop-index.invariant.goes
     (lefts_as n (key_of c.args.gap.now) c.args.nulls (Among In gs c.loop-index.index) (StandsAt c.args.word)
-    (λ a alt. at_word n c.args.gap.now c.args.word gs c.in_ok-groups.ensures c.loop-index.index (omega arith) (key_of c.args.gap.now) refl a alt.0) c.args.self.now.table c.loop-index.self.table c.loop-index.invariant.goes.asked)
+    (λ a alt. at_word n c.args.gap.now c.args.word gs (same_groups c.args.lists.now c.args.gap.now c.args.word _ _ c.as_slice-groups.ensures c.in_ok-found.ensures) c.loop-index.index (omega arith) (key_of c.args.gap.now) refl a alt.0) c.args.self.now.table c.loop-index.self.table c.loop-index.invariant.goes.asked)
 
 pub open-loop-word-init : goal.open-loop-word-init
 open-loop-word-init g t c =
@@ -530,7 +527,7 @@ explore_beginning-returns-clause-goes g t c =
 pub explore_rights-loop-index-init : goal.explore_rights-loop-index-init
 explore_rights-loop-index-init g t c =
     let n = c.args.lists.now in
-    let all = c.in_ok-all.all.items in
+    let all = c.as_slice-all.result.now in
     record {
       goes = goes_none c.requires.ready (first_asked n c.args.gap.now c.args.start.now.group c.args.nulls all c.args.self.now.table c.requires.ready.table);
       live = subst (λ z. AddsExactly [] z (λ r. HasLinkageUnder n.positions n.lists (key_behind c.args.gap.now c.args.start.now.group c.args.nulls r) × Among (λ (x : Right) (y : Right). x ≡ y) all 0 r)) (sym c.new-live.ensures.items)
@@ -542,13 +539,12 @@ explore_rights-visit-requires g t c κs within =
     let n = c.args.lists.now in
     let gap = c.args.gap.now in
     let s = c.args.start.now in
-    let all = c.in_ok-all.all.items in
-    let end : c.len-index-end.result ≡ length all = c.len-index-end.ensures ∙ c.in_ok-all.all.ok.0 in
+    let all = c.as_slice-all.result.now in
     let test = c.loop-index-test.true in
-    let at = part.at_of all c.loop-index.index c.index.result.now (omega arith) c.index.ensures in
+    let at = slice_get-get_or all c.loop-index.index no_right (omega arith) in
     let ends = c.alternatives_end.ensures n gap s.group s.begin c.are_numbered.ensures c.requires.gap.is_gap.known c.requires.start.group c.requires.start.some in
-    let valid = right_valid n gap s.group s.begin (key_of gap) refl ends c.requires.ready.decided c.requires.gap.valid c.index.result.now ((c.in_ok-all.ensures.each c.index.result.now).0 (contains_at all c.loop-index.index c.index.result.now at)) in
-    let same : key_behind gap s.group (gap.nulls - s.begin.nulls) c.index.result.now ≡ c.key-rkey.result = ap (λ z. key_behind gap s.group z c.index.result.now) (sym c.requires.nulls) ∙ sym c.key-rkey.ensures in
+    let valid = right_valid n gap s.group s.begin (key_of gap) refl ends c.requires.ready.decided c.requires.gap.valid (get_or all c.loop-index.index no_right) (((exactly_same _ _ c.as_slice-all.ensures c.in_ok-found.ensures).each (get_or all c.loop-index.index no_right)).0 (contains_at all c.loop-index.index (get_or all c.loop-index.index no_right) at)) in
+    let same : key_behind gap s.group (gap.nulls - s.begin.nulls) (get_or all c.loop-index.index no_right) ≡ c.key-rkey.result = ap (λ z. key_behind gap s.group z (get_or all c.loop-index.index no_right)) (sym c.requires.nulls) ∙ sym c.key-rkey.ensures in
     let narrow : key_width n.positions c.key-rkey.result < gap_width gap = subst (λ z. key_width n.positions z < gap_width gap) same valid.1 in
     (search rules, (search rules, (ready_after c.requires.ready c.loop-index.invariant.goes (omega arith), subst (IsValidKey n.positions n.lists) same valid.0)))
 
@@ -558,12 +554,11 @@ explore_rights-loop-index-preserved g t c =
     let gap = c.args.gap.now in
     let group = c.args.start.now.group in
     let nulls = c.args.nulls in
-    let all = c.in_ok-all.all.items in
+    let all = c.as_slice-all.result.now in
     let i = c.loop-index.index in
-    let r = c.index.result.now in
-    let end : c.len-index-end.result ≡ length all = c.len-index-end.ensures ∙ c.in_ok-all.all.ok.0 in
+    let r = (get_or all c.loop-index.index no_right) in
     let test = c.loop-index-test.true in
-    let at = part.at_of all i r (omega arith) c.index.ensures in
+    let at = slice_get-get_or all i no_right (omega arith) in
     let Live : Right → Type 0 = λ z. HasLinkageUnder n.positions n.lists (key_behind gap group nulls z) in
     record {
       goes = goes_then c.loop-index.invariant.goes c.in_ok-visit.ensures.goes
@@ -571,24 +566,22 @@ explore_rights-loop-index-preserved g t c =
           (subst (λ z. Asked n (λ k. k ≡ z) c.loop-index.self.table c.visit.new.self.table) c.key-rkey.ensures c.in_ok-visit.ensures.goes.asked));
       live = elim c.if-branch.branch [
         | explore_rights-then-branch+in_ok-push w ↦ subst (λ z. AddsExactly [] z (λ x. Live x × Among (λ (u v : Right). u ≡ v) all (i + 1) x)) (sym (ap (λ v. v.items) w.live-is))
-            (part.one_kept Live all i (i + 1) r (omega arith) at c.in_ok-all.ensures.once [] c.loop-index.live.items _ (subst (HasLinkageUnder n.positions n.lists) c.key-rkey.ensures (c.in_ok-visit.ensures.found.0 w.if-branch.true)) w.in_ok-push.ensures.items c.loop-index.invariant.live)
+            (part.one_kept Live all i (i + 1) r (omega arith) at (exactly_same _ _ c.as_slice-all.ensures c.in_ok-found.ensures).once [] c.loop-index.live.items _ (subst (HasLinkageUnder n.positions n.lists) c.key-rkey.ensures (c.in_ok-visit.ensures.found.0 w.if-branch.true)) w.in_ok-push.ensures.items c.loop-index.invariant.live)
         | explore_rights-else-branch w ↦ subst (λ z. AddsExactly [] z (λ x. Live x × Among (λ (u v : Right). u ≡ v) all (i + 1) x)) (sym (ap (λ v. v.items) w.live-is))
-            (part.one_dropped Live all i (i + 1) r (omega arith) at c.in_ok-all.ensures.once [] c.loop-index.live.items (λ l. true≢false (sym (c.in_ok-visit.ensures.found.1 (subst (HasLinkageUnder n.positions n.lists) (sym c.key-rkey.ensures) l)) ∙ w.if-branch.false)) c.loop-index.invariant.live)
+            (part.one_dropped Live all i (i + 1) r (omega arith) at (exactly_same _ _ c.as_slice-all.ensures c.in_ok-found.ensures).once [] c.loop-index.live.items (λ l. true≢false (sym (c.in_ok-visit.ensures.found.1 (subst (HasLinkageUnder n.positions n.lists) (sym c.key-rkey.ensures) l)) ∙ w.if-branch.false)) c.loop-index.invariant.live)
       ];
     }
 
 pub explore_rights-returns-clause-live : goal.explore_rights-returns-clause-live
 explore_rights-returns-clause-live g t c =
-    let end : c.len-index-end.result ≡ length c.in_ok-all.all.items = c.len-index-end.ensures ∙ c.in_ok-all.all.ok.0 in
     let test = c.loop-index-test.false in
-    all_live c.args.lists.now c.args.gap.now c.args.start.now.group c.args.nulls c.in_ok-all.all.items c.in_ok-all.ensures c.loop-index.index (omega arith) [] c.loop-index.live.items refl c.loop-index.invariant.live
+    all_live c.args.lists.now c.args.gap.now c.args.start.now.group c.args.nulls c.as_slice-all.result.now (exactly_same _ _ c.as_slice-all.ensures c.in_ok-found.ensures) c.loop-index.index (omega arith) [] c.loop-index.live.items refl c.loop-index.invariant.live
 
 pub explore_rights-returns-clause-goes : goal.explore_rights-returns-clause-goes
 explore_rights-returns-clause-goes g t c =
-    let end : c.len-index-end.result ≡ length c.in_ok-all.all.items = c.len-index-end.ensures ∙ c.in_ok-all.all.ok.0 in
     let test = c.loop-index-test.false in
     goes_as c.loop-index.invariant.goes
-    (all_asked c.args.lists.now c.args.gap.now c.args.start.now.group c.args.nulls c.in_ok-all.all.items c.in_ok-all.ensures c.loop-index.index (omega arith) c.args.self.now.table c.loop-index.self.table c.loop-index.invariant.goes.asked)
+    (all_asked c.args.lists.now c.args.gap.now c.args.start.now.group c.args.nulls c.as_slice-all.result.now (exactly_same _ _ c.as_slice-all.ensures c.in_ok-found.ensures) c.loop-index.index (omega arith) c.args.self.now.table c.loop-index.self.table c.loop-index.invariant.goes.asked)
 
 pub explore_ending-returns-in-Some-clause-live : goal.explore_ending-returns-in-Some-clause-live
 explore_ending-returns-in-Some-clause-live g t c =
