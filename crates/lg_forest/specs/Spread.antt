@@ -13,12 +13,19 @@ golden = 11400714819323198485
 unfoldable pub mixed_of : ℕ → ℕ → ℕ
 mixed_of ends lists = (((ends * golden) % 2 ^ 64 + lists) % 2 ^ 64 * golden) % 2 ^ 64 / 2 ^ 32
 
+-- numbers that go on from that of two others
+abbrev pub from_mixed : ℕ → ℕ → ℕ → ℕ
+from_mixed ends lists n = (mixed_of ends lists + n) % 2 ^ 64
+
+-- what is looked up one after another has neighbouring numbers: regions with the same ends and right list, by their left list
 abbrev pub of_key : Key → ℕ
 of_key (Whole nulls) = nulls
-of_key (Region left right llist rlist nulls) = mixed_of (bit_or (raised left 16) (bit_or (raised right 8) nulls)) (bit_or (raised llist 32) rlist)
+of_key (Region left right llist rlist nulls) = from_mixed (bit_or (raised left 16) (bit_or (raised right 8) nulls)) rlist llist
 
+-- the numbers of unlinked words of one origin
 abbrev pub of_origin : Origin → ℕ
-of_origin o = mixed_of (bit_or (raised o.left 8) o.nulls) (bit_or (raised o.llist 32) o.last)
+of_origin o = from_mixed o.left (bit_or (raised o.llist 32) o.last) o.nulls
 
+-- the groups of one word
 abbrev pub of_half : Half → ℕ
-of_half h = mixed_of (bit_or (raised h.word 16) (bit_or (raised h.right 8) h.nulls)) (bit_or (raised h.from 32) h.rlist)
+of_half h = from_mixed (bit_or (raised h.word 16) (bit_or (raised h.right 8) h.nulls)) h.rlist h.from

@@ -13,7 +13,8 @@ pub(crate) trait Spread: Copy {
     // The number that chooses where to look.
     ghost spread: { Self → ℕ };
 
-    /// A number below 2^32 by which a table chooses where to look. A table is fast where most keys have numbers of their own.
+    /// A number by which a table chooses where to look. A table is fast where most keys have numbers of their own, and where those that are
+    /// looked up one after another have neighbouring ones: their buckets then lie side by side.
     fn spread(&self) -> u64
         ensures { result ≡ spread self.now };
 
@@ -49,7 +50,7 @@ impl Spread for Key {
                 nulls,
             } => {
                 let ends = (left as u64) << 16 | ((right as u64) << 8 | nulls as u64);
-                mixed(ends, (llist as u64) << 32 | rlist as u64)
+                mixed(ends, rlist as u64).wrapping_add(llist as u64)
             }
         }
     }
@@ -65,8 +66,8 @@ impl Spread for Origin {
     ghost spread = { of_origin };
 
     fn spread(&self) -> u64 {
-        let ends = (self.left as u64) << 8 | self.nulls as u64;
-        mixed(ends, (self.llist as u64) << 32 | self.last as u64)
+        let lists = (self.llist as u64) << 32 | self.last as u64;
+        mixed(self.left as u64, lists).wrapping_add(self.nulls as u64)
     }
 
     fn is(&self, other: &Self) -> bool {
@@ -81,7 +82,7 @@ impl Spread for Half {
 
     fn spread(&self) -> u64 {
         let ends = (self.word as u64) << 16 | ((self.right as u64) << 8 | self.nulls as u64);
-        mixed(ends, (self.from as u64) << 32 | self.rlist as u64)
+        mixed(ends, self.rlist as u64).wrapping_add(self.from as u64)
     }
 
     fn is(&self, other: &Self) -> bool {
