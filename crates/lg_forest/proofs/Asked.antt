@@ -1,5 +1,5 @@
 -- The table grows by what is asked for.
-use Rattle.std.proofs.Common.{◌≡◌, ◌↔◌, ℕ, suc, ◌<◌, ◌≤◌, ◌⊎◌, inl, inr, refl, sym, ap, ◌∙◌, subst, List, [], ◌∷◌, ◌++◌, Option, Some, None, IfSome, IfOk, OnOk, Contains, slice_get, take, length, Bool, true, false, not, true≢false, IsTrue, arith}
+use Rattle.std.proofs.Common.{◌≡◌, ◌≢◌, ◌↔◌, ℕ, suc, ◌<◌, ◌≤◌, ◌⊎◌, inl, inr, refl, sym, ap, ◌∙◌, subst, List, [], ◌∷◌, ◌++◌, Option, Some, None, IfSome, IfOk, OnErr, OnOk, Contains, slice_get, take, length, Bool, true, false, not, true≢false, IsTrue, arith}
 use Rattle.std.proofs.lemmas.List.{map-append, take_all}
 use Rattle.std.proofs.lemmas.Option.{slice_get_within, get_or_from_slice_get}
 use Rattle.std.proofs.Math.Seq.{take-suc}
@@ -128,6 +128,17 @@ live_decides n k alts true d v live is = (
 live_decides n k [] false d v live is = absurd (true≢false (sym (is.1 refl)))
 live_decides n k (a ∷ alts) false d v live is = ((λ t. (d.decides k v).1 (let x = (live.exactly a).0 (contains_here a alts) in (a, x.0, x.1))), (λ h. refl))
 
+-- the same of a table that tells whether there are some
+pub live_found : (n : Numbering) (k : Key) (es : Entries) (live : Bool) → KeysAreDecided n → IsTable n es → IsValidKey n.positions n.lists k → (alts : List Alt) × Contains es (k, alts) × (IsTrue live ↔ (alts ≢ [])) → IsTrue live ↔ HasLinkageUnder n.positions n.lists k
+live_found n k es live d table v ([], has, is) = (
+  (λ t. absurd (is.0 t refl)),
+  (λ h. (let a = (d.decides k v).0 h in absurd (contains_none a.0 (((table.live k [] has).exactly a.0).1 (a.1, a.2))))),
+)
+live_found n k es live d table v (a ∷ alts, has, is) = (
+  (λ t. (d.decides k v).1 (let x = ((table.live k (a ∷ alts) has).exactly a).0 (contains_here a alts) in (a, x.0, x.1))),
+  (λ h. is.1 (λ e. (let bad : ⊥ = cc in bad))),
+)
+
 -- a key that is in the table
 pub found_in : (k : Key) (alts : List Alt) (es : Entries) → Contains es (k, alts) → Contains (keys_of es) k
 found_in k alts es has = contains_map (λ (e : Key × List Alt). e.0) es (k, alts) has
@@ -139,6 +150,14 @@ ok_as (Err e) P Q f h = tt
 pub on_ok_as : {T E : Type 0} (r : Result T E) (P Q : Type 0) → (P → Q) → OnOk r P → OnOk r Q
 on_ok_as (Ok x) P Q f h = f h
 on_ok_as (Err e) P Q f h = tt
+
+pub on_err_any : {T E : Type 0} (r : Result T E) (P : Type 0) → P → OnErr r P
+on_err_any (Ok x) P p = tt
+on_err_any (Err e) P p = p
+
+pub on_err_as : {T E : Type 0} (r : Result T E) (P Q : Type 0) → (P → Q) → OnErr r P → OnErr r Q
+on_err_as (Ok x) P Q f h = tt
+on_err_as (Err e) P Q f h = f h
 
 -- what the alternatives before a place ask for
 abbrev pub AsksBy : Numbering → List Alt → ℕ → Key → Type 0

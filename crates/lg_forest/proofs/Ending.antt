@@ -23,7 +23,6 @@ use Rattle.lg_forest.specs.Halves.{AddsLive, AsksAmong, IsEnding}
 use Rattle.lg_forest.specs.Search.{Asked, AsksOf, IsTable, KeysAreDecided, key_width}
 use Rattle.lg_forest.specs.Search.AsksOf.{left as asks_left, right as asks_right}
 use Rattle.lg_forest.specs.declared.halves.Half.{Half}
-use Rattle.lg_forest.specs.declared.halves.Ends.{Ends}
 use Rattle.lg_forest.proofs.Among.{Among, alt_in, alt_out, among_all, among_next, among_none, ending_left, from_none}
 use Rattle.lg_forest.proofs.Asked.{asked_as, asked_same, asked_then, part_narrow}
 use Rattle.lg_forest.proofs.Once.{contains_at, contains_map, map_found, map_once}
@@ -134,7 +133,7 @@ module _ (n : Numbering) (half : Half) (gap other : Gap) (g h : Group) (x : Ends
   key_too r = λ i. key_behind (record gap { right = same_right i }) (record g { word = same_word i }) half.nulls r
 
 -- what one region tells holds of all that end alike
-pub ends_known : (n : Numbering) (es : Entries) (half : Half) (gap : Gap) (g : Group) (ends : Ends) → EndsWith n half gap g → AreExactly ends.rights.items (IsLiveRight n gap g half.nulls)
+pub ends_known : (n : Numbering) (es : Entries) (half : Half) (gap : Gap) (g : Group) (ends : List Right) → EndsWith n half gap g → AreExactly ends (IsLiveRight n gap g half.nulls)
     → ((r : Right) → IsRightOf n gap g r → Contains (keys_of es) (key_behind gap g half.nulls r)) → AreEnds n es half ends
 ends_known n es half gap g ends x are asked = record {
   live = λ other h y. record {
@@ -148,11 +147,11 @@ ends_known n es half gap g ends x are asked = record {
 }
 
 -- a table that only grew
-pub ends_kept : (n : Numbering) (old new : Entries) → ((k : Key) → Contains (keys_of old) k → Contains (keys_of new) k) → (half : Half) (ends : Ends) → AreEnds n old half ends → AreEnds n new half ends
+pub ends_kept : (n : Numbering) (old new : Entries) → ((k : Key) → Contains (keys_of old) k → Contains (keys_of new) k) → (half : Half) (ends : List Right) → AreEnds n old half ends → AreEnds n new half ends
 ends_kept n old new kept half ends x = record { live = x.live; asked = λ gap g r y of. kept (key_behind gap g half.nulls r) (x.asked gap g r y of) }
 
 -- where they are remembered nothing more is asked for
-pub ends_asked : (n : Numbering) (es : Entries) (half : Half) (ends : Ends) (gap : Gap) (g : Group) → IsTable n es → AreEnds n es half ends → EndsWith n half gap g → Asked n (AsksRight n gap g half.nulls) es es
+pub ends_asked : (n : Numbering) (es : Entries) (half : Half) (ends : List Right) (gap : Gap) (g : Group) → IsTable n es → AreEnds n es half ends → EndsWith n half gap g → Asked n (AsksRight n gap g half.nulls) es es
 ends_asked n es half ends gap g t x y = asked_same n (AsksRight n gap g half.nulls) es t (λ k (r, of, e). subst (λ z. Contains (keys_of es) z) (sym e) (x.asked gap g r y of))
 
 -- ---- one disjunct after another

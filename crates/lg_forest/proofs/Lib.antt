@@ -20,5 +20,7 @@ pub mod Shutting
 pub mod Ending
 pub mod Slotting
 pub mod Living
+pub mod Entering
+pub mod Running
 pub mod Starting
 pub mod Going

@@ -30,7 +30,7 @@ pub map_found : {X Y : Type 0} (f : X → Y) (xs : List X) (y : Y) → Contains 
 map_found f [] y h = absurd (contains_none y h)
 map_found f (x ∷ xs) y h = elim (contains_cases (f x) (map f xs) y h) [ inl e ↦ (x, contains_here x xs, e) | inr t ↦ (let r = map_found f xs y t in (r.0, contains_later x xs r.0 r.1, r.2)) ]
 
-map_at : {X Y : Type 0} (f : X → Y) (xs : List X) (i : ℕ) (y : Y) → slice_get (map f xs) i ≡ Some y → (x : X) × (slice_get xs i ≡ Some x) × (f x ≡ y)
+pub map_at : {X Y : Type 0} (f : X → Y) (xs : List X) (i : ℕ) (y : Y) → slice_get (map f xs) i ≡ Some y → (x : X) × (slice_get xs i ≡ Some x) × (f x ≡ y)
 map_at f [] i y e = absurd (let bad : ⊥ = cc in bad)
 map_at f (x ∷ xs) zero y e = (x, refl, same_Some (f x) y e)
 map_at f (x ∷ xs) (suc i) y e = map_at f xs i y e

@@ -28,7 +28,7 @@ use Rattle.lg_forest.specs.declared.openings.Opening.{Opening}
 use Rattle.lg_region.specs.declared.opening.Origin.{Origin}
 use Rattle.lg_forest.specs.declared.openings.Start.{Start}
 use Rattle.lg_forest.proofs.Asked.{asked_same, keys_later}
-use Rattle.lg_forest.proofs.Among.{append_cases, alt_in, alt_out}
+use Rattle.lg_forest.proofs.Among.{append_cases, alt_in, alt_out, ending_left}
 use Rattle.lg_forest.proofs.Ending.{ends_kept}
 use Rattle.lg_forest.proofs.Levels.{leaves}
 use Rattle.lg_forest.proofs.Starting.{lefts_as, lefts_then}
@@ -54,7 +54,7 @@ same_groups n gap word xs ys e h = subst (λ z. GroupsOfWord n gap word (length 
 
 module _ (n : Numbering) (old new : Entries) (kept : (k : Key) → Contains (keys_of old) k → Contains (keys_of new) k) where
   pub opening_kept : (origin : Origin) (o : Opening) → IsOpening n old origin o → IsOpening n new origin o
-  opening_kept origin o x = record { behind = x.behind; before = x.before; level = x.level; each = x.each; some = x.some; apart = x.apart; asked = λ gap a k b i s e. kept k (x.asked gap a k b i s e) }
+  opening_kept origin o x = record { behind = x.behind; before = x.before; level = x.level; each = x.each; live = x.live; some = x.some; apart = x.apart; asked = λ gap a k b i s e. kept k (x.asked gap a k b i s e) }
 
   pub memory_kept : (m : Memory) → IsMemory n old m → IsMemory n new m
   memory_kept m x = record { known = x.known; opened = λ origin o has. opening_kept origin o (x.opened origin o has); ended = λ half ends has. ends_kept n old new kept half ends (x.ended half ends has) }
@@ -187,6 +187,7 @@ module _ (n : Numbering) (are : AreListsOf n.positions n.lists) (law : RegionsBe
         before = λ s c. absurd (none s c);
         level = λ s c. absurd (none s c);
         each = λ gap s b c. absurd (none s c);
+        live = λ gap s b c. absurd (none s c);
         some = λ gap a b i s live. absurd (behind gap a b i s);
         apart = λ gap i j s t a f g. absurd (none s (contains_at o.starts.items i s f));
         asked = λ gap a k b i s f. absurd (behind gap a b i s);
@@ -213,6 +214,11 @@ module _ (n : Numbering) (are : AreListsOf n.positions n.lists) (law : RegionsBe
       before = λ s c. (let e = opens.done in elim (starts_cases s c) [ inl h ↦ (let l = x.before s h in omega arith) | inr h ↦ (let l = (opens.each s h).0 in omega arith) ]);
       level = λ s c. elim (starts_cases s c) [ inl h ↦ x.level s h | inr h ↦ (opens.each s h).1 ];
       each = λ other s o c l. elim (starts_cases s c) [ inl h ↦ x.each other s o h l | inr h ↦ start_moved gap b other o s (opens.each s h).1 (opens.each s h).2 l ];
+      live = λ other s o c. elim (starts_cases s c) [
+        | inl h ↦ x.live other s o h
+        | inr h ↦ (let l = lefts gap b other o in let keys : left_of gap s.group s.begin ≡ left_of other s.group s.begin = λ i. left_of (record gap { left = l i }) s.group s.begin in
+            subst (HasLinkageUnder n.positions n.lists) keys (opens.each s h).3)
+      ];
       some = λ other a o i s live. elim (end_cases a s) [
         | inl h ↦ (let r = x.some other a o i h live in (r.0, starts_left r.0 r.1, r.2))
         | inr h ↦ (let m = moved other o gap b word a i h lt in
@@ -239,6 +245,15 @@ module _ (n : Numbering) (are : AreListsOf n.positions n.lists) (law : RegionsBe
         old_not_more : (other : Gap) (s t : Start) (a : Alt) → Contains old.starts.items s → Contains opens.more t → StartsSo other s a → StartsSo other t a → ⊥
         old_not_more other s t a c e p q =
             let l = x.before s c in let w = (opens.each t e).0 in let same = one_word s.group.word t.group.word a (start_at other s a p) (start_at other t a q) in omega arith
+
+-- the left key of a start is in the table
+pub start_there : (n : Numbering) (es : Entries) (origin : Origin) (o : Opening) (gap : Gap) (s : Start) → IsOpening n es origin o → BeginsWith n origin gap → Contains o.starts.items s → IsStart n gap s → Contains (keys_of es) (left_of gap s.group s.begin)
+start_there n es origin o gap s x b has is =
+    let a = is.some.0 in
+    let h = is.some.1 in
+    let p = is.some.2 in
+    x.asked gap a (left_of gap s.group s.begin) b (h.0, subst (λ z. LeavesLeft z a) (x.level s has) (leaves gap s.group s.begin a p))
+    (before_at s.group.word o.done a (in_at s.group.word s.group.from s.group.to a h.1) (x.before s has)) (ending_left gap s.group s.begin a p)
 
 -- ---- the words of a region
 

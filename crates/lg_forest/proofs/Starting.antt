@@ -179,7 +179,7 @@ module _ (n : Numbering) (gap : Gap) (nulls word : ℕ) (gs : List Group) (of : 
     each = λ s c. (let m = (x.exactly.each s).0 c in
         let has = group_there n gap word gs of m.1 (contains_at gs m.0 m.1 m.3) in
         let e : s.group ≡ m.1 = m.4.0 in
-        (ap (λ (z : Group). z.word) e ∙ has.1, m.4.2, record { group = subst (λ z. IsGroup n gap z) (sym e) has.0; some = subst (λ z. (a : Alt) × IsIn n gap z a × BeginsSo gap z s.begin a) (sym e) m.4.1 }));
+        (ap (λ (z : Group). z.word) e ∙ has.1, m.4.2, record { group = subst (λ z. IsGroup n gap z) (sym e) has.0; some = subst (λ z. (a : Alt) × IsIn n gap z a × BeginsSo gap z s.begin a) (sym e) m.4.1 }, m.4.3));
     some = λ a alt at live. (let h = of.some a alt.0 (number_in n gap word a alt.0 at) in
         let g : Group = h.0 in
         let has : Contains gs g = subst (λ z. Contains z g) (sym of.added) h.1 in

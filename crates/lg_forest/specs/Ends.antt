@@ -12,7 +12,6 @@ use Rattle.lg_region.specs.declared.group.Group.{Group}
 use Rattle.lg_region.specs.declared.group.Right.{Right}
 use Rattle.lg_forest.specs.Demands.{HasLinkageUnder}
 use Rattle.lg_forest.specs.declared.halves.Half.{Half}
-use Rattle.lg_forest.specs.declared.halves.Ends.{Ends}
 
 -- a region that a group cuts with so many unlinked words behind its word, as far as its end goes
 abbrev pub half_from : Gap → Group → ℕ → Half
@@ -38,8 +37,8 @@ abbrev pub IsLiveRight : Numbering → Gap → Group → ℕ → Right → Type 
 IsLiveRight n gap g nulls r = IsRightOf n gap g r × HasLinkageUnder n.positions n.lists (key_behind gap g nulls r)
 
 -- Of each region that ends so: exactly these disjuncts of the group have a right key with a linkage, and the right keys of all are in the table.
-pub record AreEnds (n : Numbering) (entries : List (Key × List Alt)) (half : Half) (ends : Ends) : Type 0 where
-  pub live : (gap : Gap) (g : Group) → EndsWith n half gap g → AreExactly ends.rights.items (IsLiveRight n gap g half.nulls)
+pub record AreEnds (n : Numbering) (entries : List (Key × List Alt)) (half : Half) (rights : List Right) : Type 0 where
+  pub live : (gap : Gap) (g : Group) → EndsWith n half gap g → AreExactly rights (IsLiveRight n gap g half.nulls)
   pub asked : (gap : Gap) (g : Group) (r : Right) → EndsWith n half gap g → IsRightOf n gap g r → Contains (keys_of entries) (key_behind gap g half.nulls r)
 
 -- the right keys of the disjuncts of a group

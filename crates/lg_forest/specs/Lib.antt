@@ -4,7 +4,10 @@ pub mod Known
 pub mod Search
 pub mod Drafts
 pub mod Halves
+pub mod Runs
 pub mod Ends
+pub mod Small
+pub mod Entries
 pub mod Slots
 pub mod Spread
 pub mod Shut

@@ -18,7 +18,7 @@ use Rattle.lg_forest.specs.Ends.{AreEnds}
 use Rattle.lg_forest.specs.Halves.{IsEnding}
 use Rattle.lg_forest.specs.Known.{AreKnown}
 use Rattle.lg_forest.specs.declared.halves.Half.{Half}
-use Rattle.lg_forest.specs.declared.halves.Ends.{Ends}
+use Rattle.lg_region.specs.declared.group.Right.{Right}
 use Rattle.lg_forest.specs.declared.memory.Memory.{Memory}
 use Rattle.lg_forest.specs.declared.openings.Opening.{Opening}
 use Rattle.lg_region.specs.declared.opening.Origin.{Origin}
@@ -42,13 +42,14 @@ abbrev pub IsLiveLeft : Numbering → Alt → Type 0
 IsLiveLeft n a = IfSome (left_key a) (HasLinkageUnder n.positions n.lists)
 
 -- Of each region that begins so, and its alternatives with as many unlinked words on the left as the origin says: the starts are ones of it where
--- it has room behind their words, each alternative before `done` whose left key has a linkage starts as exactly one of them, and the left keys of all
+-- it has room behind their words, their left keys have a linkage, each alternative before `done` whose left key has a linkage starts as exactly one of them, and the left keys of all
 -- alternatives before `done` are in the table.
 pub record IsOpening (n : Numbering) (entries : List (Key × List Alt)) (origin : Origin) (o : Opening) : Type 0 where
   pub behind : origin.left < o.done
   pub before : (s : Start) → Contains o.starts.items s → s.group.word < o.done
   pub level : (s : Start) → Contains o.starts.items s → s.begin.nulls ≡ origin.nulls
   pub each : (gap : Gap) (s : Start) → BeginsWith n origin gap → Contains o.starts.items s → s.group.word < end_of gap origin.nulls → IsStart n gap s
+  pub live : (gap : Gap) (s : Start) → BeginsWith n origin gap → Contains o.starts.items s → IsLiveStart n gap s
   pub some : (gap : Gap) (a : Alt) → BeginsWith n origin gap → IsAltAt n gap origin.nulls a → StandsBefore o.done a → IsLiveLeft n a
       → (s : Start) × Contains o.starts.items s × StartsSo gap s a
   pub apart : (gap : Gap) (i j : ℕ) (s t : Start) (a : Alt) → slice_get o.starts.items i ≡ Some s → slice_get o.starts.items j ≡ Some t → StartsSo gap s a → StartsSo gap t a → i ≡ j
@@ -59,7 +60,7 @@ pub record IsOpening (n : Numbering) (entries : List (Key × List Alt)) (origin 
 pub record IsMemory (n : Numbering) (entries : List (Key × List Alt)) (m : Memory) : Type 0 where
   pub known : AreKnown n m.known
   pub opened : (origin : Origin) (o : Opening) → Contains m.openings (origin, o) → IsOpening n entries origin o
-  pub ended : (half : Half) (ends : Ends) → Contains m.halves (half, ends) → AreEnds n entries half ends
+  pub ended : (half : Half) (rights : List Right) → Contains m.halves (half, rights) → AreEnds n entries half rights
 
 -- it is still right, and some of what was known is taken out
 pub record IsLeft (n : Numbering) (entries : List (Key × List Alt)) (old new : Memory) : Type 0 where
@@ -94,6 +95,6 @@ pub record OpensWord (n : Numbering) (gap : Gap) (nulls word : ℕ) (old new : O
   pub done : new.done ≡ word + 1
   pub more : List Start
   pub added : new.starts.items ≡ old.starts.items ++ more
-  pub each : (s : Start) → Contains more s → (s.group.word ≡ word) × (s.begin.nulls ≡ nulls) × IsStart n gap s
+  pub each : (s : Start) → Contains more s → (s.group.word ≡ word) × (s.begin.nulls ≡ nulls) × IsStart n gap s × IsLiveStart n gap s
   pub some : (a : Alt) → IsAltAt n gap nulls a → StandsAt word a → IsLiveLeft n a → (s : Start) × Contains more s × StartsSo gap s a
   pub apart : (other : Gap) (i j : ℕ) (s t : Start) (a : Alt) → slice_get more i ≡ Some s → slice_get more j ≡ Some t → StartsSo other s a → StartsSo other t a → i ≡ j

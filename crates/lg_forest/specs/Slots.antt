@@ -1,11 +1,13 @@
 -- Tables that find a key by buckets: each bucket tells the last of its keys, and each key the one of its bucket before it.
 use Rattle.std.specs.Prelude.{◌≡◌, ◌≢◌, ℕ, suc, ◌%◌, ◌^◌, ◌<◌, ◌≤◌, List, length, map, Some, slice_get, slice_index}
 use Rattle.lg_region.specs.Fronts.{AreOnce}
-use Rattle.lg_forest.specs.declared.slots.Links.{Links}
 use Rattle.lg_forest.specs.declared.slots.Slot.{Slot}
 
 abbrev pub keys_in : {K V : Type 0} → List (Slot K V) → List K
 keys_in slots = map (λ s. s.key) slots
+
+abbrev pub nexts_in : {K V : Type 0} → List (Slot K V) → List ℕ
+nexts_in slots = map (λ s. s.next) slots
 
 abbrev pub pairs_in : {K V : Type 0} → List (Slot K V) → List (K × V)
 pairs_in slots = map (λ s. (s.key, s.value)) slots
@@ -22,11 +24,10 @@ pub record AreLinked {K : Type 0} (spread : K → ℕ) (keys : List K) (heads ne
   pub next : (n : ℕ) (k : K) → n < end → slice_get keys n ≡ Some k → IsLast spread (length heads) keys n (spread k % length heads) (slice_index nexts n)
 
 -- keys, each once, that are linked, with room for them
-pub record AreSlots {K V : Type 0} (spread : K → ℕ) (slots : List (Slot K V)) (links : Links) : Type 0 where
-  pub linked : AreLinked spread (keys_in slots) links.heads.items links.nexts.items (length slots)
-  pub room : length slots ≤ length links.heads.items
-  pub level : length links.nexts.items ≡ length links.heads.items
-  pub few : length links.heads.items < 2 ^ 32
+pub record AreSlots {K V : Type 0} (spread : K → ℕ) (slots : List (Slot K V)) (heads : List ℕ) : Type 0 where
+  pub linked : AreLinked spread (keys_in slots) heads (nexts_in slots) (length slots)
+  pub room : length slots ≤ length heads
+  pub few : length heads < 2 ^ 32
   pub once : AreOnce (keys_in slots)
 
 -- the slot of this number has the key

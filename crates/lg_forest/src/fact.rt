@@ -1,4 +1,5 @@
 //! What the workers' memo keeps: the alternatives of keys.
+use crate::spread::Spread;
 use lg_base::NoMemory;
 use lg_gram::Problem;
 use lg_memo::Fact;
@@ -24,16 +25,7 @@ impl Fact for Expansion {
     ghost same = { same_key };
 
     fn place(key: &Key) -> u64 {
-        match *key {
-            Key::Whole { nulls } => u64::from(nulls),
-            Key::Region {
-                left,
-                right,
-                llist,
-                rlist,
-                nulls,
-            } => mixed(&[left, right, llist, rlist, nulls]),
-        }
+        key.spread()
     }
 
     fn same(a: &Key, b: &Key) -> bool {
@@ -45,13 +37,4 @@ impl Fact for Expansion {
     }
 
     ghost alike = { alike_if_equal AreKept same_key (λ a b. Prim.search rules) };
-}
-
-// One number for these, in whose lower half each of them counts.
-fn mixed(numbers: &[u32]) -> u64 {
-    let mut mix = 0u64;
-    for number in numbers {
-        mix = (mix.rotate_left(5) ^ u64::from(*number)).wrapping_mul(0x9E37_79B9_7F4A_7C15);
-    }
-    mix >> 32
 }

@@ -12,6 +12,7 @@ mod memory;
 mod openings;
 mod search;
 mod slots;
+mod small;
 pub mod spell;
 mod spread;
 mod table;

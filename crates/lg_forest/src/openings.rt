@@ -1,6 +1,7 @@
 //! What is known of the regions that begin alike: the ways to begin whose left key has a linkage.
-ghost use Rattle.std.specs.Prelude.{◌≡◌, ◌⊎◌, ◌+◌, ◌<◌, [], List, IfOk, IfSome, IsTrue, OnErr, OnOk};
+ghost use Rattle.std.specs.Prelude.{◌≡◌, ◌≢◌, ◌⊎◌, ◌+◌, ◌<◌, [], IfOk, IsTrue, MatchOption, OnErr, OnOk};
 ghost use Rattle.std.specs.List.{Contains};
+ghost use Rattle.std.specs.Map.{keys_of};
 ghost use Rattle.lg_forest.specs.Shut.{IsShut, IsShutIn};
 
 use crate::slots::Slots;
@@ -87,8 +88,10 @@ impl Openings {
         origin: &Origin,
         other: Opening,
     ) -> Result<Option<Opening>, NoMemory>
-        ensures taken { IfOk result (λ found. IfSome found (λ opening. Contains self.old (origin.now, opening))) }
+        ensures taken { IfOk result (λ found. MatchOption found (Contains (keys_of self.old) origin.now → ⊥) (λ opening. Contains self.old (origin.now, opening))) }
         ensures left { OnOk result ((o : Origin) (x : Opening) → Contains self.new (o, x) → Contains self.old (o, x) ⊎ ((o ≡ origin.now) × (x ≡ other))) }
+        ensures there { OnOk result (Contains self.new (origin.now, other)) }
+        ensures kept { OnOk result ((o : Origin) (x : Opening) → o ≢ origin.now → Contains self.old (o, x) → Contains self.new (o, x)) }
         ensures unchanged { OnErr result (self.new ≡ self.old) }
     {
         self.found.put(*origin, other)
@@ -98,6 +101,8 @@ impl Openings {
     /// changed.
     pub(crate) fn put(&mut self, origin: Origin, opening: Opening) -> Result<(), NoMemory>
         ensures put { OnOk result ((o : Origin) (x : Opening) → Contains self.new (o, x) → Contains self.old (o, x) ⊎ ((o ≡ origin) × (x ≡ opening))) }
+        ensures there { OnOk result (Contains self.new (origin, opening)) }
+        ensures kept { OnOk result ((o : Origin) (x : Opening) → o ≢ origin → Contains self.old (o, x) → Contains self.new (o, x)) }
         ensures unchanged { OnErr result (self.new ≡ self.old) }
     {
         self.found.put(origin, opening)?;

@@ -88,8 +88,9 @@ impl Search {
         ensures goes { OnOk result (Goes lists.entry.now (λ k. k ≡ key) 0 self.old steps.old self.new steps.new) }
         ensures later { steps.old ≤ steps.new }
     {
-        if let Some(alts) = self.table.get(&key) {
-            return Ok(!alts.is_empty());
+        lists.keep_limits();
+        if let Some(live) = self.table.is_live(&key) {
+            return Ok(live);
         }
         let live = self.explore(lists, key, steps)?;
         let found = !live.is_empty();

@@ -1,9 +1,9 @@
 //! A hash table for keys of a few numbers.
-ghost use Rattle.std.specs.Prelude.{◌≡◌, ◌<◌, ◌^◌, ◌%◌, ◌++◌, ◌∷◌, ◌⊎◌, [], length, IfOk, IfSome, MatchOption, OnErr, OnOk};
+ghost use Rattle.std.specs.Prelude.{◌≡◌, ◌≢◌, ◌<◌, ◌^◌, ◌%◌, ◌++◌, ◌∷◌, ◌⊎◌, [], length, IfOk, IfSome, MatchOption, OnErr, OnOk};
 ghost use Rattle.std.specs.List.{Contains};
 ghost use Rattle.std.specs.Map.{keys_of};
 ghost use Rattle.lg_region.specs.Fronts.{AreOnce};
-ghost use Rattle.lg_forest.specs.Slots.{AreLinked, AreSlots, IsAt, keys_in, pairs_in};
+ghost use Rattle.lg_forest.specs.Slots.{AreLinked, AreSlots, IsAt, keys_in, nexts_in, pairs_in};
 
 use crate::spread::Spread;
 use lg_base::NoMemory;
@@ -11,34 +11,27 @@ use std::alloc::Global;
 use std::marker::Model;
 use std::mem;
 
-// How many buckets a table has at first, and where it would have more it is out of memory.
-const FIRST: usize = 16;
+// How many buckets a table has at first, and how many it may have: where it would have more it is out of memory.
+const FEWEST_BUCKETS: usize = 16;
 
-const LAST: usize = 1 << 31;
+const MOST_BUCKETS: usize = 1 << 31;
 
-/// A key and its value.
+/// A key and its value, and the number of the slot of the same bucket before it, from 1, or 0 where there is none.
 #[derive(Drop)]
 pub(crate) struct Slot<K, V> {
     pub(crate) key: K,
     pub(crate) value: V,
-}
-
-/// For each bucket the number of its last slot, and for each slot that of the one of its bucket before it; from 1, or 0 where there
-/// is none.
-#[derive(Drop)]
-pub(crate) struct Links {
-    heads: Vec<u32>,
-    nexts: Vec<u32>,
+    next: u32,
 }
 
 /// Keys, each with a value, in the order in which they came. Contracts see the pairs.
 ///
 /// The search looks up more than anything else, and most keys have no linkage; so this table does little: it lets no key go, and has
-/// as many buckets as there is room for slots.
+/// as many buckets as there is room for slots. `heads` has for each bucket the number of its last slot, from 1, or 0.
 #[derive(Drop)]
 pub(crate) struct Slots<K: Spread, V> {
     alloc: Global,
-    links: Links,
+    heads: Vec<u32>,
     slots: Vec<Slot<K, V>>,
 }
 
@@ -50,7 +43,7 @@ impl<K: Spread, V> Model for Slots<K, V> {
 
     ghost view = { λ t. pairs t.slots.items };
 
-    ghost invariant = { λ t. AreKept K.spread t.slots.items t.links };
+    ghost invariant = { λ t. AreKept K.spread t.slots.items t.heads.items };
 }
 
 impl<K: Spread, V: Drop> Slots<K, V> {
@@ -60,10 +53,7 @@ impl<K: Spread, V: Drop> Slots<K, V> {
     {
         Slots {
             alloc,
-            links: Links {
-                heads: Vec::new(alloc),
-                nexts: Vec::new(alloc),
-            },
+            heads: Vec::new(alloc),
             slots: Vec::new(alloc),
         }
     }
@@ -79,9 +69,10 @@ impl<K: Spread, V: Drop> Slots<K, V> {
 
     /// The value of a key. None where the key is not there. No memory.
     pub(crate) fn get(&self, key: &K) -> Option<&V>
-        ensures { MatchOption result (Contains (keys_of self.now) key.now → ⊥) (λ value. Contains self.now (key.now, value.now)) }
+        ensures found { MatchOption result (Contains (keys_of self.now) key.now → ⊥) (λ value. Contains self.now (key.now, value.now)) }
+        ensures only { IfSome result (λ value. (v : V) → Contains self.now (key.now, v) → v ≡ value.now) }
     {
-        let Some(at) = seek(&self.slots, &self.links, key) else {
+        let Some(at) = seek(&self.slots, &self.heads, key) else {
             return None;
         };
         Some(&self.slots[at].value)
@@ -93,18 +84,20 @@ impl<K: Spread, V: Drop> Slots<K, V> {
         ensures added { OnOk result (self.new ≡ self.old ++ (key, value) ∷ []) }
         ensures unchanged { OnErr result (self.new ≡ self.old) }
     {
-        make_room(self.alloc, &self.slots, &mut self.links)?;
-        push(&mut self.slots, &mut self.links, key, value)
+        make_room(self.alloc, &mut self.slots, &mut self.heads)?;
+        push(&mut self.slots, &mut self.heads, key, value)
     }
 
-    /// Puts the value of a key in, and takes out the one that is there. The only error is running out of memory, and then nothing has
-    /// changed.
+    /// Puts the value of a key in, and takes out the one that is there. None where the key was not there. The only error is running out
+    /// of memory, and then nothing has changed.
     pub(crate) fn put(&mut self, key: K, value: V) -> Result<Option<V>, NoMemory>
-        ensures taken { IfOk result (λ found. IfSome found (λ old. Contains self.old (key, old))) }
+        ensures taken { IfOk result (λ found. MatchOption found (Contains (keys_of self.old) key → ⊥) (λ old. Contains self.old (key, old))) }
         ensures put { OnOk result ((k : K) (v : V) → Contains self.new (k, v) → Contains self.old (k, v) ⊎ ((k ≡ key) × (v ≡ value))) }
+        ensures there { OnOk result (Contains self.new (key, value)) }
+        ensures kept { OnOk result ((k : K) (v : V) → k ≢ key → Contains self.old (k, v) → Contains self.new (k, v)) }
         ensures unchanged { OnErr result (self.new ≡ self.old) }
     {
-        match seek(&self.slots, &self.links, &key) {
+        match seek(&self.slots, &self.heads, &key) {
             Some(at) => Ok(Some(replace_at(&mut self.slots, at, value))),
             None => {
                 self.add(key, value)?;
@@ -133,30 +126,30 @@ fn bucket_of(spread: u64, count: usize) -> usize
 }
 
 // The number of the slot of a key. None where the key is not there.
-fn seek<K: Spread, V>(slots: &[Slot<K, V>], links: &Links, key: &K) -> Option<usize>
-    requires { AreSlots K.spread slots.now links.now }
+fn seek<K: Spread, V>(slots: &[Slot<K, V>], heads: &[u32], key: &K) -> Option<usize>
+    requires { AreSlots K.spread slots.now heads.now }
     ensures { MatchOption result (Contains (keys_in slots.now) key.now → ⊥) (IsAt slots.now key.now) }
 {
     if slots.is_empty() {
         return None;
     }
-    seek_from(slots, links, key)
+    seek_from(slots, heads, key)
 }
 
 // The same where there are slots.
-fn seek_from<K: Spread, V>(slots: &[Slot<K, V>], links: &Links, key: &K) -> Option<usize>
-    requires slots { AreSlots K.spread slots.now links.now }
+fn seek_from<K: Spread, V>(slots: &[Slot<K, V>], heads: &[u32], key: &K) -> Option<usize>
+    requires slots { AreSlots K.spread slots.now heads.now }
     requires some { 0 < length slots.now }
     ensures { MatchOption result (Contains (keys_in slots.now) key.now → ⊥) (IsAt slots.now key.now) }
 {
-    let bucket = bucket_of(key.spread(), links.heads.len());
-    let mut next = links.heads[bucket] as usize;
+    let bucket = bucket_of(key.spread(), heads.len());
+    let mut next = heads[bucket] as usize;
     while next > 0 {
-        let at = next - 1;
-        if slots[at].key.is(key) {
-            return Some(at);
+        let slot = &slots[next - 1];
+        if slot.key.is(key) {
+            return Some(next - 1);
         }
-        next = links.nexts[at] as usize;
+        next = slot.next as usize;
     }
     None
 }
@@ -165,69 +158,73 @@ fn seek_from<K: Spread, V>(slots: &[Slot<K, V>], links: &Links, key: &K) -> Opti
 fn replace_at<K: Spread, V>(slots: &mut Vec<Slot<K, V>>, at: usize, value: V) -> V
     requires { at < length slots.old.items }
     ensures keys { keys_in slots.new.items ≡ keys_in slots.old.items }
+    ensures nexts { nexts_in slots.new.items ≡ nexts_in slots.old.items }
     ensures taken { (key : K) → IsAt slots.old.items key at → Contains (pairs_in slots.old.items) (key, result) }
     ensures put { (key k : K) (v : V) → IsAt slots.old.items key at → Contains (pairs_in slots.new.items) (k, v) → Contains (pairs_in slots.old.items) (k, v) ⊎ ((k ≡ key) × (v ≡ value)) }
+    ensures there { (key : K) → IsAt slots.old.items key at → Contains (pairs_in slots.new.items) (key, value) }
+    ensures kept { (key k : K) (v : V) → IsAt slots.old.items key at → k ≢ key → Contains (pairs_in slots.old.items) (k, v) → Contains (pairs_in slots.new.items) (k, v) }
 {
     mem::replace(&mut slots[at].value, value)
 }
 
-// Makes room for one slot more. The only error is running out of memory, and then nothing has changed.
+// Makes room for one slot more. The only error is running out of memory.
 fn make_room<K: Spread, V>(
     alloc: Global,
-    slots: &[Slot<K, V>],
-    links: &mut Links,
+    slots: &mut Vec<Slot<K, V>>,
+    heads: &mut Vec<u32>,
 ) -> Result<(), NoMemory>
-    requires { AreSlots K.spread slots.now links.old }
-    ensures slots { AreSlots K.spread slots.now links.new }
-    ensures room { OnOk result (length slots.now < length links.new.heads.items) }
+    requires { AreSlots K.spread slots.old.items heads.old.items }
+    ensures slots { AreSlots K.spread slots.new.items heads.new.items }
+    ensures same { pairs_in slots.new.items ≡ pairs_in slots.old.items }
+    ensures room { OnOk result (length slots.new.items < length heads.new.items) }
 {
-    if slots.len() < links.heads.len() {
+    if slots.len() < heads.len() {
         return Ok(());
     }
-    *links = linked(alloc, slots)?;
+    *heads = linked(alloc, slots)?;
     Ok(())
 }
 
 // Adds a slot, for which there is room. The only error is running out of memory, and then nothing has changed.
 fn push<K: Spread, V: Drop>(
     slots: &mut Vec<Slot<K, V>>,
-    links: &mut Links,
+    heads: &mut [u32],
     key: K,
     value: V,
 ) -> Result<(), NoMemory>
-    requires slots { AreSlots K.spread slots.old.items links.old }
-    requires room { length slots.old.items < length links.old.heads.items }
+    requires slots { AreSlots K.spread slots.old.items heads.old }
+    requires room { length slots.old.items < length heads.old }
     requires fresh { Contains (keys_in slots.old.items) key → ⊥ }
-    ensures slots { AreSlots K.spread slots.new.items links.new }
+    ensures slots { AreSlots K.spread slots.new.items heads.new }
     ensures added { OnOk result (pairs_in slots.new.items ≡ pairs_in slots.old.items ++ (key, value) ∷ []) }
     ensures unchanged { OnErr result (pairs_in slots.new.items ≡ pairs_in slots.old.items) }
 {
-    let at = slots.len();
-    slots.push(Slot { key, value })?;
-    let bucket = bucket_of(key.spread(), links.heads.len());
-    links.nexts[at] = links.heads[bucket];
-    links.heads[bucket] = at as u32 + 1;
+    let bucket = bucket_of(key.spread(), heads.len());
+    let next = heads[bucket];
+    slots.push(Slot { key, value, next })?;
+    heads[bucket] = slots.len() as u32;
     Ok(())
 }
 
-// The links of all slots, with room for as many more.
-fn linked<K: Spread, V>(alloc: Global, slots: &[Slot<K, V>]) -> Result<Links, NoMemory>
-    requires { length slots.now < 2 ^ 32 }
-    ensures linked { IfOk result (λ links. AreLinked K.spread (keys_in slots.now) links.heads.items links.nexts.items (length slots.now)) }
-    ensures room { IfOk result (λ links. length slots.now < length links.heads.items) }
-    ensures level { IfOk result (λ links. length links.nexts.items ≡ length links.heads.items) }
-    ensures few { IfOk result (λ links. length links.heads.items < 2 ^ 32) }
+// Links all slots by new buckets, with room for as many more. The only error is running out of memory, and then nothing has changed.
+fn linked<K: Spread, V>(alloc: Global, slots: &mut Vec<Slot<K, V>>) -> Result<Vec<u32>, NoMemory>
+    requires { length slots.old.items < 2 ^ 32 }
+    ensures linked { IfOk result (λ heads. AreLinked K.spread (keys_in slots.new.items) heads.items (nexts_in slots.new.items) (length slots.new.items)) }
+    ensures room { IfOk result (λ heads. length slots.new.items < length heads.items) }
+    ensures few { IfOk result (λ heads. length heads.items < 2 ^ 32) }
+    ensures same { pairs_in slots.new.items ≡ pairs_in slots.old.items }
+    ensures unchanged { OnErr result (slots.new.items ≡ slots.old.items) }
 {
-    let count = 2 * slots.len() + FIRST;
-    if count > LAST {
+    let count = 2 * slots.len() + FEWEST_BUCKETS;
+    if count > MOST_BUCKETS {
         return Err(NoMemory);
     }
     let mut heads = vec![in alloc; 0; count]?;
-    let mut nexts = vec![in alloc; 0; count]?;
     for at in 0..slots.len() {
-        let bucket = bucket_of(slots[at].key.spread(), count);
-        nexts[at] = heads[bucket];
+        let slot = &mut slots[at];
+        let bucket = bucket_of(slot.key.spread(), count);
+        slot.next = heads[bucket];
         heads[bucket] = at as u32 + 1;
     }
-    Ok(Links { heads, nexts })
+    Ok(heads)
 }

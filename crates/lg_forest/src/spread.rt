@@ -3,6 +3,7 @@ ghost use Rattle.std.specs.Prelude.{◌≡◌, ◌↔◌, ℕ, IsTrue};
 ghost use Rattle.lg_forest.specs.Spread.{mixed_of};
 
 use crate::halves::Half;
+use crate::small::SmallKey;
 use lg_region::{Key, Origin};
 
 // 2^64 by the golden ratio, an odd number whose products spread well.
@@ -53,6 +54,20 @@ impl Spread for Key {
                 mixed(ends, rlist as u64).wrapping_add(llist as u64)
             }
         }
+    }
+
+    fn is(&self, other: &Self) -> bool {
+        *self == *other
+    }
+}
+
+impl Spread for SmallKey {
+    ghost use Rattle.lg_forest.specs.Spread.{of_small};
+
+    ghost spread = { of_small };
+
+    fn spread(&self) -> u64 {
+        self.full().spread()
     }
 
     fn is(&self, other: &Self) -> bool {

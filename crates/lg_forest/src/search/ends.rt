@@ -9,41 +9,15 @@ ghost use Rattle.lg_forest.specs.Halves.{AddsLive, AsksAmong};
 ghost use Rattle.lg_forest.specs.Opened.{IsStart, StartsSo};
 
 use super::Search;
-use crate::halves::{Ends, Half};
+use crate::halves::Half;
 use crate::openings::Start;
 use lg_base::{NoMemory, Steps};
-use lg_region::{Alt, Gap, Lists, alternatives_end, push_ended, rights};
+use lg_region::{Alt, Gap, Lists, Rights, alternatives_end, push_ended, rights};
 
 impl Search {
-    // Adds the live alternatives that start so.
+    // Adds the live alternatives that start so, where their left key has a linkage: those whose right key has one too.
     #[cycle(search)]
-    pub(super) fn explore_beginning<L>(
-        &mut self,
-        lists: &Lists<'_>,
-        gap: &Gap,
-        start: &Start,
-        live: &mut Vec<Alt>,
-        steps: &mut Steps<L>,
-    ) -> Result<(), NoMemory>
-        requires ready { IsReady lists.now (gap_width gap.now) self.old steps.old }
-        requires gap { IsValidGap lists.now gap.now }
-        requires start { IsStart lists.now gap.now start.now }
-        ensures live { OnOk result (AddsLive lists.entry.now (key_of gap.now) (StartsSo gap.now start.now) live.old.items live.new.items) }
-        ensures goes { let n = lists.entry.now in OnOk result (Goes n (AsksAmong n (key_of gap.now) (StartsSo gap.now start.now)) 0 self.old steps.old self.new steps.new) }
-        ensures later { steps.old ≤ steps.new }
-    {
-        alternatives_end();
-        lists.are_numbered();
-        let lkey = start.begin.key(gap, &start.group);
-        if !self.visit(lists, lkey, steps)? {
-            return Ok(());
-        }
-        self.explore_ending(lists, gap, start, live, steps)
-    }
-
-    // Adds them where their left key has a linkage: those whose right key has one too.
-    #[cycle(search)]
-    fn explore_ending<L>(
+    pub(super) fn explore_ending<L>(
         &mut self,
         lists: &Lists<'_>,
         gap: &Gap,
@@ -61,14 +35,16 @@ impl Search {
     {
         alternatives_end();
         lists.are_numbered();
+        lists.keep_limits();
         let nulls = gap.nulls - start.begin.nulls;
         let half = Half::of(gap, &start.group, nulls);
-        if let Some(ends) = self.memory.halves.get(&half) {
-            return push_ended(gap, &start.group, &start.begin, &ends.rights, live);
+        if let Some(rights) = self.memory.halves.get(&half) {
+            return push_ended(gap, &start.group, &start.begin, rights, live);
         }
-        let ends = self.explore_rights(lists, gap, start, nulls, steps)?;
-        push_ended(gap, &start.group, &start.begin, &ends.rights, live)?;
-        self.memory.halves.put(half, ends)
+        let found = self.explore_rights(lists, gap, start, nulls, steps)?;
+        let rights = found.as_slice();
+        push_ended(gap, &start.group, &start.begin, rights, live)?;
+        self.memory.halves.put(half, rights)
     }
 
     // The disjuncts of the group of a start whose right key has a linkage, with so many words unlinked behind their word.
@@ -80,12 +56,12 @@ impl Search {
         start: &Start,
         nulls: u32,
         steps: &mut Steps<L>,
-    ) -> Result<Ends, NoMemory>
+    ) -> Result<Rights, NoMemory>
         requires ready { IsReady lists.now (gap_width gap.now) self.old steps.old }
         requires gap { IsValidGap lists.now gap.now }
         requires start { IsStart lists.now gap.now start.now }
         requires nulls { nulls ≡ gap.now.nulls - start.now.begin.nulls }
-        ensures live { IfOk result (λ ends. AreExactly ends.rights.items (IsLiveRight lists.entry.now gap.now start.now.group nulls)) }
+        ensures live { IfOk result (λ rights. AreExactly rights.items (IsLiveRight lists.entry.now gap.now start.now.group nulls)) }
         ensures goes { let n = lists.entry.now in OnOk result (Goes n (AsksRight n gap.now start.now.group nulls) 0 self.old steps.old self.new steps.new) }
         ensures later { steps.old ≤ steps.new }
     {
@@ -93,7 +69,7 @@ impl Search {
         lists.are_numbered();
         let found = rights(self.alloc, lists, gap, &start.group)?;
         let all = found.as_slice();
-        let mut live = Vec::new(self.alloc);
+        let mut live = Rights::new(self.alloc);
         for index in 0..all.len() {
             let right = &all[index];
             let rkey = right.key(gap, &start.group, nulls);
@@ -101,6 +77,6 @@ impl Search {
                 live.push(*right)?;
             }
         }
-        Ok(Ends { rights: live })
+        Ok(live)
     }
 }

@@ -1,20 +1,22 @@
 //! Regions with a list: how the regions begin that begin alike is looked at once, and each alternative begins as one of these openings.
 ghost use Rattle.std.specs.Prelude.{◌≡◌, ◌<◌, ◌≤◌, IfOk, OnOk};
+ghost use Rattle.std.specs.List.{Contains};
+ghost use Rattle.std.specs.Map.{keys_of};
 ghost use Rattle.lg_region.specs.Alike.{BeginsWith, end_of};
 ghost use Rattle.lg_region.specs.Groups.{IsGroup, StandsIn};
-ghost use Rattle.lg_region.specs.Openings.{LeavesLeft};
+ghost use Rattle.lg_region.specs.Openings.{LeavesLeft, left_of};
 ghost use Rattle.lg_forest.specs.Demands.{AsksNext};
 ghost use Rattle.lg_forest.specs.Forests.{AreLive};
 ghost use Rattle.lg_forest.specs.Goes.{Goes, IsReady, IsValidGap, gap_width, key_of};
 ghost use Rattle.lg_forest.specs.Halves.{AddsLive, AsksAmong};
-ghost use Rattle.lg_forest.specs.Opened.{AddsStarts, AsksLeft, IsAny, IsOpening, IsStart, OpensWord, StandsAt, StartsSo};
+ghost use Rattle.lg_forest.specs.Opened.{AddsStarts, AsksLeft, IsAny, IsLiveStart, IsOpening, IsStart, OpensWord, StandsAt, StartsSo};
 
 use super::Search;
 use crate::openings::{Opening, Start};
 use lg_base::{NoMemory, Steps};
 use lg_region::{
-    Alt, Alts, Gap, Group, Lists, Origin, alternatives_are_small, beginnings, end_with, groups_at,
-    origin_of, regions_begin_alike,
+    Alt, Alts, Gap, Group, Lists, Origin, alternatives_are_small, alternatives_end, beginnings,
+    end_with, groups_at, origin_of, regions_begin_alike,
 };
 
 impl Search {
@@ -76,7 +78,7 @@ impl Search {
         Ok(())
     }
 
-    // Adds the live alternatives that start so, if the region has room behind the word of the start.
+    // Adds the live alternatives that start so, if the region has room behind the word of the start. Their left key has a linkage.
     #[cycle(search)]
     fn explore_start<L>(
         &mut self,
@@ -92,17 +94,20 @@ impl Search {
         requires alike { BeginsWith lists.now origin.now gap.now }
         requires start { start.now.group.word < end_of gap.now origin.now.nulls → IsStart lists.now gap.now start.now }
         requires level { start.now.begin.nulls ≡ origin.now.nulls }
+        requires left { IsLiveStart lists.now gap.now start.now }
+        requires there { start.now.group.word < end_of gap.now origin.now.nulls → Contains (keys_of self.old.table) (left_of gap.now start.now.group start.now.begin) }
         ensures live { OnOk result (AddsLive lists.entry.now (key_of gap.now) (StartsSo gap.now start.now) live.old.items live.new.items) }
         ensures goes { let n = lists.entry.now in OnOk result (Goes n (AsksAmong n (key_of gap.now) (StartsSo gap.now start.now)) 0 self.old steps.old self.new steps.new) }
         ensures later { steps.old ≤ steps.new }
     {
         regions_begin_alike();
+        alternatives_end();
         lists.are_numbered();
         let end = end_with(gap, origin.nulls);
         if start.group.word >= end {
             return Ok(());
         }
-        self.explore_beginning(lists, gap, start, live, steps)
+        self.explore_ending(lists, gap, start, live, steps)
     }
 
     // The opening of the region, where all its words were looked at. In the memory one without words stays in its place.

@@ -1,4 +1,4 @@
-use Rattle.std.proofs.Common.{inl, inr, refl, [], ◌++◌, ◌≡◌, ◌↔◌, ◌+◌, ◌-◌, ◌<◌, ◌≤◌, ◌∙◌, true≢false, Option, subst, sym, ap, Some, IsTrue, IfOk, OnOk, IfSome, length, take, slice_get, get_or, Contains, map, arith, rules}
+use Rattle.std.proofs.Common.{inl, inr, refl, [], ◌≡◌, ◌↔◌, ◌+◌, ◌-◌, ◌<◌, ◌≤◌, ◌∙◌, true≢false, Option, subst, sym, ap, Some, IsTrue, IfOk, MatchOption, OnOk, IfSome, length, take, slice_get, get_or, Contains, map, arith, rules}
 use Rattle.std.proofs.lemmas.Option.{slice_get-get_or}
 use Rattle.lg_region.specs.Groups.{key_behind}
 use Rattle.lg_region.specs.Keys.{IsValidKey, kept}
@@ -13,7 +13,7 @@ use Rattle.lg_forest.specs.declared.openings.Opening.{Opening}
 use Rattle.lg_region.specs.declared.alternative.Alt.TheVariants.{Split as At}
 use Rattle.lg_forest.proofs.Going.{goes_added, goes_as, goes_none, goes_then, gap_valid, ok_goes, ok_then, ok_ticked, ready_after, ready_less, ready_ticked}
 use Rattle.lg_forest.specs.Goes.{Goes, gap_width, key_of}
-use Rattle.lg_forest.proofs.Asked.{live_decides, not_there, asked_as, asked_more, asked_all, asked_left, asked_both, ok_as, on_ok_as, last_kept, alt_at, exact}
+use Rattle.lg_forest.proofs.Asked.{live_decides, live_found, not_there, asked_as, asked_more, asked_all, asked_same, asked_left, asked_both, ok_as, on_ok_as, last_kept, alt_at, exact}
 use Rattle.lg_forest.proofs.Flags.{Flags, kept_live, flags_long, flags_more, all_flags}
 use Rattle.lg_forest.specs.Halves.{AddsLive, AsksAmong}
 use Rattle.lg_forest.specs.Shut.{IsShut}
@@ -21,9 +21,9 @@ use Rattle.lg_forest.proofs.Shutting.{shut_asked, shut_live}
 use Rattle.lg_forest.proofs.Among as part
 use Rattle.lg_forest.proofs.Among.{Among, In}
 use Rattle.lg_region.specs.Alike.{end_of}
-use Rattle.lg_region.specs.Openings.{LeavesLeft, ended, left_of}
+use Rattle.lg_region.specs.Openings.{LeavesLeft, left_of}
 use Rattle.lg_region.specs.declared.opening.Beginning.{Beginning}
-use Rattle.lg_forest.specs.Opened.{AsksLeft, IsAny, IsOpening, StandsAt, StartsSo}
+use Rattle.lg_forest.specs.Opened.{AsksLeft, IsAny, IsOpening, IsStart, StandsAt, StartsSo}
 use Rattle.lg_region.specs.Ways.{AddsExactly, AreExactly}
 use Rattle.std.specs.Map.{keys_of}
 use Rattle.lg_forest.specs.Ends.{AreEnds, AsksRight, EndsWith, IsLiveRight}
@@ -32,7 +32,8 @@ use Rattle.lg_region.proofs.Once.{exactly_same}
 use Rattle.lg_forest.proofs.Once.{contains_at}
 use Rattle.lg_forest.proofs.search.Search.+search.Goals as goal
 use Rattle.lg_forest.proofs.search.Search.+search.Goals.{explore_rights-then-branch+in_ok-push, explore_rights-else-branch, open_group-then-branch+in_ok-push, open_group-else-branch, open-in-Some, open-in-None}
-use Rattle.lg_forest.proofs.Opening.{no_beginning, no_group, none_starts, opening_kept, opening_new, opening_some, same_begins, same_groups, word_opened, words_all, words_first, words_next}
+use Rattle.lg_forest.proofs.Entering.{valid_small}
+use Rattle.lg_forest.proofs.Opening.{no_beginning, no_group, none_starts, opening_kept, opening_new, opening_some, start_there, same_begins, same_groups, word_opened, words_all, words_first, words_next}
 use Rattle.lg_forest.proofs.Ending.{no_right, all_asked, all_live, ended_asked, ended_live, ends_asked, ends_here, ends_known, first_asked, next_asked, right_valid}
 use Rattle.lg_forest.proofs.Levels.{LeavesFewer, fewer_apart, fewer_next, fewer_none, levels_asked, levels_live}
 use Rattle.lg_forest.proofs.Starting.{IsOfGroup, OfFirst, SoFar, opening_asked, opening_live, start_asked, group_asked, group_started, group_there, groups_apart, groups_started, left_asked, lefts_as, lefts_then, start_dropped, start_kept, at_word, word_started}
@@ -115,10 +116,13 @@ is_live-returns-else-branch-clause-goes g t c =
 
 pub visit-returns-in-Some-clause-found : goal.visit-returns-in-Some-clause-found
 visit-returns-in-Some-clause-found g t c =
-    live_decides c.args.lists.now c.args.key c.in-Some.alts.now c.is_empty.result c.requires.ready.decided c.requires.key (c.requires.ready.table.live c.args.key c.in-Some.alts.now c.in-Some.ensures) c.is_empty.ensures
+    live_found c.args.lists.now c.args.key c.args.self.now.table c.in-Some.live c.requires.ready.decided c.requires.ready.table c.requires.key c.in-Some.ensures
 
-pub visit-add-requires : goal.visit-add-requires
-visit-add-requires g t c = not_there c.args.lists.now c.args.key c.args.self.now.table c.explore.new.self.table c.requires.ready.decided c.requires.key c.in_default.ensures c.in_ok-live.ensures.goes.asked
+pub visit-add-requires-clause-fresh : goal.visit-add-requires-clause-fresh
+visit-add-requires-clause-fresh g t c = not_there c.args.lists.now c.args.key c.args.self.now.table c.explore.new.self.table c.requires.ready.decided c.requires.key c.in_default.ensures c.in_ok-live.ensures.goes.asked
+
+pub visit-add-requires-clause-small : goal.visit-add-requires-clause-small
+visit-add-requires-clause-small g t c = valid_small c.args.lists.now.positions c.args.lists.now.lists c.args.key c.keep_limits.ensures.few c.requires.key
 
 pub visit-returns-clause-found : goal.visit-returns-clause-found
 visit-returns-clause-found g t c =
@@ -305,7 +309,7 @@ open-loop-word-init g t c =
     let opened : IsOpening n c.args.self.now.table c.args.origin.now c.match-taken.opening = elim c.match-taken.branch [
       | open-in-Some w ↦ subst (λ z. IsOpening n c.args.self.now.table c.args.origin.now z) (sym w.opening-is)
           (c.requires.ready.known.opened c.args.origin.now w.in-Some.opening
-          (subst (λ o. IfSome o (λ opening. Contains c.args.self.now.memory.openings (c.args.origin.now, opening))) w.in-Some.is c.in_ok-taken.ensures.taken))
+          (subst (λ o. MatchOption o (Contains (keys_of c.args.self.now.memory.openings) c.args.origin.now → ⊥) (λ opening. Contains c.args.self.now.memory.openings (c.args.origin.now, opening))) w.in-Some.is c.in_ok-taken.ensures.taken))
       | open-in-None w ↦ subst (λ z. IsOpening n c.args.self.now.table c.args.origin.now z) (sym w.opening-is) (empty w.none-opening.result w.none-opening.ensures.done w.none-opening.ensures.starts)
     ] in
     let behind = opened.behind in
@@ -381,11 +385,28 @@ explore_start-returns-then-start-end-clause-goes g t c =
     (part.asked_start c.args.lists.now _ c.args.self.now.table c.requires.ready.table
     (λ k (a, alt, s, o). none_starts c.args.lists.now c.are_numbered.ensures c.regions_begin_alike.ensures c.args.origin.now (key_of c.args.gap.now) c.args.gap.now refl c.requires.alike c.args.start.now c.requires.level (omega arith) a alt s))
 
-pub explore_start-explore_beginning-requires : goal.explore_start-explore_beginning-requires
-explore_start-explore_beginning-requires g t c κs within =
+pub explore_start-explore_ending-requires : goal.explore_start-explore_ending-requires
+explore_start-explore_ending-requires g t c κs within =
     let test = c.if-start-end.false in
     let end = c.end_with-end.ensures in
-    (search rules, (search rules, (ready_less c.requires.ready (omega arith), (c.requires.gap, c.requires.start (omega arith)))))
+    (search rules, (search rules, (ready_less c.requires.ready (omega arith), (c.requires.gap, (c.requires.start (omega arith), c.requires.left)))))
+
+-- the left key is in the table, and then the right ones are asked for
+pub explore_start-returns-clause-goes : goal.explore_start-returns-clause-goes
+explore_start-returns-clause-goes g t c =
+    let test = c.if-start-end.false in
+    let end = c.end_with-end.ensures in
+    let n = c.args.lists.now in
+    let gap = c.args.gap.now in
+    let s = c.args.start.now in
+    let lt : s.group.word < end_of gap c.args.origin.now.nulls = omega arith in
+    let start = c.requires.start lt in
+    let lkey = left_of gap s.group s.begin in
+    let table = c.args.self.now.table in
+    let ends = c.alternatives_end.ensures n gap s.group s.begin c.are_numbered.ensures c.requires.gap.is_gap.known start.group start.some in
+    let there = asked_same n (λ k. k ≡ lkey) table c.requires.ready.table (λ k e. subst (λ z. Contains (keys_of table) z) (sym e) (c.requires.there lt)) in
+    ok_then c.explore_ending.result c.explore_ending.new.self c.explore_ending.new.steps (goes_none c.requires.ready there) c.explore_ending.ensures.goes
+    (ended_asked n gap s.group s.begin (key_of gap) refl ends c.requires.left start.some table table c.explore_ending.new.self.table there)
 
 pub explore_opening-loop-index-init : goal.explore_opening-loop-index-init
 explore_opening-loop-index-init g t c =
@@ -407,7 +428,12 @@ explore_opening-explore_start-requires g t c κs within =
     let test = c.loop-index-test.true in
     let at = part.at_of starts.items c.loop-index.index c.index.result.now (omega arith) c.index.ensures in
     let has = contains_at starts.items c.loop-index.index c.index.result.now at in
-    (search rules, (search rules, (ready_after c.requires.ready c.loop-index.invariant.goes (omega arith), (c.requires.gap, (c.origin_of-origin.ensures.begins, ((λ l. c.loop-index.invariant.opened.each c.args.gap.now c.index.result.now c.origin_of-origin.ensures.begins has l), c.loop-index.invariant.opened.level c.index.result.now has))))))
+    let gap = c.args.gap.now in
+    let s = c.index.result.now in
+    let opened = c.loop-index.invariant.opened in
+    let begins = c.origin_of-origin.ensures.begins in
+    let each : s.group.word < end_of gap c.origin_of-origin.result.nulls → IsStart c.args.lists.now gap s = λ l. opened.each gap s begins has l in
+    (search rules, (search rules, (ready_after c.requires.ready c.loop-index.invariant.goes (omega arith), (c.requires.gap, (c.origin_of-origin.ensures.begins, (each, (opened.level s has, (opened.live gap s begins has, λ l. start_there c.args.lists.now c.loop-index.self.table c.origin_of-origin.result c.in_ok-opening.opening gap s opened begins has (each l)))))))))
 
 pub explore_opening-loop-index-preserved : goal.explore_opening-loop-index-preserved
 explore_opening-loop-index-preserved g t c =
@@ -491,39 +517,6 @@ explore_opening-origin_of-origin-requires-clause-gap g t c = (key_of c.args.gap.
 pub explore_opening-open-requires : goal.explore_opening-open-requires
 explore_opening-open-requires g t c κs within = (search rules, (search rules, (ready_less c.requires.ready (omega arith), (c.requires.gap, c.origin_of-origin.ensures.begins))))
 
-pub explore_beginning-visit-requires : goal.explore_beginning-visit-requires
-explore_beginning-visit-requires g t c κs within =
-    let valid = part.left_valid c.args.lists.now (key_of c.args.gap.now) c.args.gap.now c.args.start.now.group c.args.start.now.begin c.key-lkey.result c.requires.ready.decided c.requires.gap.valid refl c.key-lkey.ensures c.requires.start.some in
-    let narrow : key_width c.args.lists.now.positions c.key-lkey.result < gap_width c.args.gap.now = valid.1 in
-    (search rules, (search rules, (ready_less c.requires.ready (omega arith), valid.0)))
-
-pub explore_beginning-returns-then-not-branch-clause-live : goal.explore_beginning-returns-then-not-branch-clause-live
-explore_beginning-returns-then-not-branch-clause-live g t c =
-    part.dead_live c.args.lists.now (key_of c.args.gap.now) c.args.gap.now c.args.start.now.group c.args.start.now.begin c.key-lkey.result refl c.key-lkey.ensures
-    (λ h. true≢false (sym (c.in_ok-visit.ensures.found.1 h) ∙ c.if-not-branch.true)) c.args.live.now.items
-
-pub explore_beginning-returns-then-not-branch-clause-goes : goal.explore_beginning-returns-then-not-branch-clause-goes
-explore_beginning-returns-then-not-branch-clause-goes g t c =
-    goes_as c.in_ok-visit.ensures.goes
-    (part.dead_asked c.args.lists.now (key_of c.args.gap.now) c.args.gap.now c.args.start.now.group c.args.start.now.begin c.key-lkey.result refl c.key-lkey.ensures
-    (λ h. true≢false (sym (c.in_ok-visit.ensures.found.1 h) ∙ c.if-not-branch.true)) c.requires.start.some c.args.self.now.table c.visit.new.self.table c.in_ok-visit.ensures.goes.asked)
-
-pub explore_beginning-explore_ending-requires : goal.explore_beginning-explore_ending-requires
-explore_beginning-explore_ending-requires g t c κs within =
-    let n = c.args.lists.now in
-    (search rules, (search rules, (ready_after c.requires.ready c.in_ok-visit.ensures.goes (omega arith), (c.requires.gap, (c.requires.start, subst (HasLinkageUnder n.positions n.lists) c.key-lkey.ensures (c.in_ok-visit.ensures.found.0 c.if-not-branch.false))))))
-
-pub explore_beginning-returns-clause-goes : goal.explore_beginning-returns-clause-goes
-explore_beginning-returns-clause-goes g t c =
-    let n = c.args.lists.now in
-    let gap = c.args.gap.now in
-    let s = c.args.start.now in
-    let ends = c.alternatives_end.ensures n gap s.group s.begin c.are_numbered.ensures c.requires.gap.is_gap.known c.requires.start.group c.requires.start.some in
-    let left = subst (HasLinkageUnder n.positions n.lists) c.key-lkey.ensures (c.in_ok-visit.ensures.found.0 c.if-not-branch.false) in
-    ok_then c.explore_ending.result c.explore_ending.new.self c.explore_ending.new.steps c.in_ok-visit.ensures.goes c.explore_ending.ensures.goes
-    (ended_asked n gap s.group s.begin (key_of gap) refl ends left c.requires.start.some c.args.self.now.table c.visit.new.self.table c.explore_ending.new.self.table
-    (subst (λ z. Asked n (λ k. k ≡ z) c.args.self.now.table c.visit.new.self.table) c.key-lkey.ensures c.in_ok-visit.ensures.goes.asked))
-
 pub explore_rights-loop-index-init : goal.explore_rights-loop-index-init
 explore_rights-loop-index-init g t c =
     let n = c.args.lists.now in
@@ -566,7 +559,7 @@ explore_rights-loop-index-preserved g t c =
           (subst (λ z. Asked n (λ k. k ≡ z) c.loop-index.self.table c.visit.new.self.table) c.key-rkey.ensures c.in_ok-visit.ensures.goes.asked));
       live = elim c.if-branch.branch [
         | explore_rights-then-branch+in_ok-push w ↦ subst (λ z. AddsExactly [] z (λ x. Live x × Among (λ (u v : Right). u ≡ v) all (i + 1) x)) (sym (ap (λ v. v.items) w.live-is))
-            (part.one_kept Live all i (i + 1) r (omega arith) at (exactly_same _ _ c.as_slice-all.ensures c.in_ok-found.ensures).once [] c.loop-index.live.items _ (subst (HasLinkageUnder n.positions n.lists) c.key-rkey.ensures (c.in_ok-visit.ensures.found.0 w.if-branch.true)) w.in_ok-push.ensures.items c.loop-index.invariant.live)
+            (part.one_kept Live all i (i + 1) r (omega arith) at (exactly_same _ _ c.as_slice-all.ensures c.in_ok-found.ensures).once [] c.loop-index.live.items _ (subst (HasLinkageUnder n.positions n.lists) c.key-rkey.ensures (c.in_ok-visit.ensures.found.0 w.if-branch.true)) w.in_ok-push.ensures.ok c.loop-index.invariant.live)
         | explore_rights-else-branch w ↦ subst (λ z. AddsExactly [] z (λ x. Live x × Among (λ (u v : Right). u ≡ v) all (i + 1) x)) (sym (ap (λ v. v.items) w.live-is))
             (part.one_dropped Live all i (i + 1) r (omega arith) at (exactly_same _ _ c.as_slice-all.ensures c.in_ok-found.ensures).once [] c.loop-index.live.items (λ l. true≢false (sym (c.in_ok-visit.ensures.found.1 (subst (HasLinkageUnder n.positions n.lists) (sym c.key-rkey.ensures) l)) ∙ w.if-branch.false)) c.loop-index.invariant.live)
       ];
@@ -583,6 +576,26 @@ explore_rights-returns-clause-goes g t c =
     goes_as c.loop-index.invariant.goes
     (all_asked c.args.lists.now c.args.gap.now c.args.start.now.group c.args.nulls c.as_slice-all.result.now (exactly_same _ _ c.as_slice-all.ensures c.in_ok-found.ensures) c.loop-index.index (omega arith) c.args.self.now.table c.loop-index.self.table c.loop-index.invariant.goes.asked)
 
+pub explore_ending-of-half-requires-clause-word : goal.explore_ending-of-half-requires-clause-word
+explore_ending-of-half-requires-clause-word g t c =
+    let few : length c.args.lists.now.positions ≤ 252 = c.keep_limits.ensures.few in
+    let before = c.requires.start.group.before in
+    let within = c.requires.gap.is_gap.within in
+    omega arith
+
+pub explore_ending-of-half-requires-clause-right : goal.explore_ending-of-half-requires-clause-right
+explore_ending-of-half-requires-clause-right g t c =
+    let few : length c.args.lists.now.positions ≤ 252 = c.keep_limits.ensures.few in
+    let within = c.requires.gap.is_gap.within in
+    omega arith
+
+pub explore_ending-of-half-requires-clause-nulls : goal.explore_ending-of-half-requires-clause-nulls
+explore_ending-of-half-requires-clause-nulls g t c =
+    let few : length c.args.lists.now.positions ≤ 252 = c.keep_limits.ensures.few in
+    let within = c.requires.gap.is_gap.within in
+    let less = c.requires.gap.is_gap.few in
+    omega arith
+
 pub explore_ending-returns-in-Some-clause-live : goal.explore_ending-returns-in-Some-clause-live
 explore_ending-returns-in-Some-clause-live g t c =
     let n = c.args.lists.now in
@@ -590,12 +603,12 @@ explore_ending-returns-in-Some-clause-live g t c =
     let s = c.args.start.now in
     let nulls = gap.nulls - s.begin.nulls in
     let ends = c.alternatives_end.ensures n gap s.group s.begin c.are_numbered.ensures c.requires.gap.is_gap.known c.requires.start.group c.requires.start.some in
-    let known = c.requires.ready.known.ended c.of-half.result c.in-Some.ends.now c.in-Some.ensures in
+    let known = c.requires.ready.known.ended c.of-half.result c.in-Some.rights.now c.in-Some.ensures in
     let with = subst (λ z. EndsWith n z gap s.group) (sym c.of-half.ensures) (ends_here n (key_of gap) gap s.group nulls c.requires.gap.is_gap) in
     let same : c.of-half.result.nulls ≡ nulls = ap (λ (h : Half). h.nulls) c.of-half.ensures in
     on_ok_as c.push_ended.result _ _
-    (λ e. ended_live n gap s.group s.begin (key_of gap) refl ends c.requires.left c.in-Some.ends.now.rights.items (subst (λ z. AreExactly c.in-Some.ends.now.rights.items (IsLiveRight n gap s.group z)) same (known.live gap s.group with)) c.args.live.now.items c.push_ended.new.out.items
-    (e ∙ ap (λ z. c.args.live.now.items ++ map (ended gap s.group s.begin) z) c.deref.ensures.value))
+    (λ e. ended_live n gap s.group s.begin (key_of gap) refl ends c.requires.left c.in-Some.rights.now (subst (λ z. AreExactly c.in-Some.rights.now (IsLiveRight n gap s.group z)) same (known.live gap s.group with)) c.args.live.now.items c.push_ended.new.out.items
+    e)
     c.push_ended.ensures.added
 
 pub explore_ending-returns-in-Some-clause-goes : goal.explore_ending-returns-in-Some-clause-goes
@@ -604,11 +617,11 @@ explore_ending-returns-in-Some-clause-goes g t c =
     let gap = c.args.gap.now in
     let s = c.args.start.now in
     let nulls = gap.nulls - s.begin.nulls in
-    let known = c.requires.ready.known.ended c.of-half.result c.in-Some.ends.now c.in-Some.ensures in
+    let known = c.requires.ready.known.ended c.of-half.result c.in-Some.rights.now c.in-Some.ensures in
     let with = subst (λ z. EndsWith n z gap s.group) (sym c.of-half.ensures) (ends_here n (key_of gap) gap s.group nulls c.requires.gap.is_gap) in
     let same : c.of-half.result.nulls ≡ nulls = ap (λ (h : Half). h.nulls) c.of-half.ensures in
     part.ok_any c.push_ended.result _
-    (goes_none c.requires.ready (subst (λ z. Asked n (AsksRight n gap s.group z) c.args.self.now.table c.args.self.now.table) same (ends_asked n c.args.self.now.table c.of-half.result c.in-Some.ends.now gap s.group c.requires.ready.table known with)))
+    (goes_none c.requires.ready (subst (λ z. Asked n (AsksRight n gap s.group z) c.args.self.now.table c.args.self.now.table) same (ends_asked n c.args.self.now.table c.of-half.result c.in-Some.rights.now gap s.group c.requires.ready.table known with)))
 
 pub explore_ending-returns-clause-live : goal.explore_ending-returns-clause-live
 explore_ending-returns-clause-live g t c =
@@ -616,10 +629,10 @@ explore_ending-returns-clause-live g t c =
     let gap = c.args.gap.now in
     let s = c.args.start.now in
     let ends = c.alternatives_end.ensures n gap s.group s.begin c.are_numbered.ensures c.requires.gap.is_gap.known c.requires.start.group c.requires.start.some in
-    let rights = c.in_ok-ends.ends.rights.items in
+    let rights = c.as_slice-rights.result.now in
     part.ok_any c.put.result _
-    (ended_live n gap s.group s.begin (key_of gap) refl ends c.requires.left rights c.in_ok-ends.ensures.live c.args.live.now.items c.push_ended-2.new.out.items
-    (c.in_ok-push_ended.ensures.added ∙ ap (λ z. c.args.live.now.items ++ map (ended gap s.group s.begin) z) c.deref-2.ensures.value))
+    (ended_live n gap s.group s.begin (key_of gap) refl ends c.requires.left rights (exactly_same _ _ c.as_slice-rights.ensures c.in_ok-found.ensures.live) c.args.live.now.items c.push_ended-2.new.out.items
+    c.in_ok-push_ended.ensures.added)
 
 pub explore_ending-returns-clause-goes : goal.explore_ending-returns-clause-goes
 explore_ending-returns-clause-goes g t c =
@@ -627,13 +640,14 @@ explore_ending-returns-clause-goes g t c =
     let gap = c.args.gap.now in
     let s = c.args.start.now in
     let nulls = gap.nulls - s.begin.nulls in
-    let goes = c.in_ok-ends.ensures.goes in
+    let rights = c.as_slice-rights.result.now in
+    let goes = c.in_ok-found.ensures.goes in
     let table = c.explore_rights.new.self.table in
     let half = c.of-half.result in
     let with = subst (λ z. EndsWith n z gap s.group) (sym c.of-half.ensures) (ends_here n (key_of gap) gap s.group nulls c.requires.gap.is_gap) in
     let same : half.nulls ≡ nulls = ap (λ (h : Half). h.nulls) c.of-half.ensures in
-    let new : AreEnds n table half c.in_ok-ends.ends = ends_known n table half gap s.group c.in_ok-ends.ends with
-    (subst (λ z. AreExactly c.in_ok-ends.ends.rights.items (IsLiveRight n gap s.group z)) (sym same) c.in_ok-ends.ensures.live)
+    let new : AreEnds n table half rights = ends_known n table half gap s.group rights with
+    (subst (λ z. AreExactly rights (IsLiveRight n gap s.group z)) (sym same) (exactly_same _ _ c.as_slice-rights.ensures c.in_ok-found.ensures.live))
     (λ r of. subst (λ z. Contains (keys_of table) (key_behind gap s.group z r)) (sym same) (goes.asked.there (key_behind gap s.group nulls r) (r, of, refl))) in
     on_ok_as c.put.result _ _
     (λ put. record {

@@ -45,9 +45,6 @@ decreases-open_word g l = 9 * gap_width l.gap.now + 3
 abbrev pub decreases-open_group : goal.decreases-open_group
 decreases-open_group g l = 9 * gap_width l.gap.now + 2
 
-abbrev pub decreases-explore_beginning : goal.decreases-explore_beginning
-decreases-explore_beginning g l = 9 * gap_width l.gap.now + 3
-
 abbrev pub decreases-explore_ending : goal.decreases-explore_ending
 decreases-explore_ending g l = 9 * gap_width l.gap.now + 2
 
