@@ -17,11 +17,10 @@ use Rattle.lg_region.specs.declared.alternative.Alt.TheVariants.{AllNull, Split 
 use Rattle.lg_region.specs.declared.group.Gap.{Gap}
 use Rattle.lg_region.specs.declared.group.Group.{Group}
 use Rattle.lg_region.specs.declared.opening.Beginning.{Beginning}
-use Rattle.lg_forest.specs.Demands.{HasLinkageUnder, left_key}
+use Rattle.lg_forest.specs.Demands.{left_key}
 use Rattle.lg_forest.specs.Forests.{IsLive}
 use Rattle.lg_forest.specs.Halves.{AddsLive, AsksAmong, IsEnding}
-use Rattle.lg_forest.specs.Search.{Asked, AsksOf, IsTable, KeysAreDecided, key_width}
-use Rattle.lg_forest.specs.Search.AsksOf.{left as asks_left, right as asks_right}
+use Rattle.lg_forest.specs.Search.{Asked, IsTable, KeysAreDecided, key_width}
 use Rattle.lg_forest.specs.Demands.AsksNext.{left as next_left}
 use Rattle.lg_forest.proofs.Asked.{asked_as, asked_then, next_narrow}
 use Rattle.lg_forest.proofs.Once.{contains_at, contains_none, once_none}
@@ -165,25 +164,6 @@ alt_out n key gap a e h = subst (λ z. IsAltOf n.positions n.lists z a) e h
 pub left_valid : (n : Numbering) (key : Key) (gap : Gap) (g : Group) (b : Beginning) (lkey : Key) → KeysAreDecided n → IsValidKey n.positions n.lists key → IsKeyOfGap key gap → lkey ≡ left_of gap g b → (a : Alt) × IsIn n gap g a × BeginsSo gap g b a
     → IsValidKey n.positions n.lists lkey × (key_width n.positions lkey < key_width n.positions key)
 left_valid n key gap g b lkey d v is e (a, i, h) = next_narrow n key lkey d v (next_left a lkey (alt_in n key gap a is i.0) (ending_left gap g b a h ∙ ap Some (sym e)))
-
-module _ (n : Numbering) (key : Key) (gap : Gap) (g : Group) (b : Beginning) (lkey : Key) (is : IsKeyOfGap key gap) (e : lkey ≡ left_of gap g b) where
-  left_is : (a : Alt) → BeginsSo gap g b a → left_key a ≡ Some lkey
-  left_is a h = ending_left gap g b a h ∙ ap Some (sym e)
-
-  -- where the left key has no linkage none is live, and no more is asked for
-  pub dead_live : (HasLinkageUnder n.positions n.lists lkey → ⊥) → (live : List Alt) → AddsLive n key (IsEnding gap g b) live live
-  dead_live dead live = adds_none live (λ a. IsAltOf n.positions n.lists key a × IsEnding gap g b a × IsLive n.positions n.lists a) (λ a (i, h, l). dead (subst (λ z. IfSome z (HasLinkageUnder n.positions n.lists)) (left_is a h.1) l.left))
-
-  pub dead_asked : (HasLinkageUnder n.positions n.lists lkey → ⊥) → (a : Alt) × IsIn n gap g a × BeginsSo gap g b a → (old new : List (Key × List Alt)) → Asked n (λ k. k ≡ lkey) old new → Asked n (AsksAmong n key (IsEnding gap g b)) old new
-  dead_asked dead (a, i, h) old new x =
-      asked_as n (λ k. k ≡ lkey) (AsksAmong n key (IsEnding gap g b)) old new
-      (λ k q. (a, alt_in n key gap a is i.0, (i.1, h), asks_left k (left_is a h ∙ ap Some (sym q))))
-      (λ k (a', i', h', asks). only a' k h'.1 asks)
-      x
-    where
-      only : (a' : Alt) (k : Key) → BeginsSo gap g b a' → AsksOf n a' k → k ≡ lkey
-      only a' _ h' (asks_left k q) = let two : ◌≡◌ {A = Option Key} (Some k) (Some lkey) = sym q ∙ left_is a' h' in cc
-      only a' _ h' (asks_right k q l) = absurd (dead (subst (λ z. IfSome z (HasLinkageUnder n.positions n.lists)) (left_is a' h') l))
 
 -- what was added to nothing
 pub from_none : {X : Type 0} (old new : List X) (P : X → Type 0) → old ≡ [] → AddsExactly old new P → AreExactly new P

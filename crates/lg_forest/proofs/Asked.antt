@@ -18,7 +18,7 @@ use Rattle.lg_forest.specs.declared.search.alternatives.Last.{Last}
 use Rattle.lg_forest.specs.Forests.{AreLive}
 use Rattle.lg_forest.specs.Search.{KeysAreDecided, IsTable, IsLast, Asked, AsksOf, key_width, part_bound}
 use Rattle.lg_forest.specs.Search.AsksOf.{left as asks_left, right as asks_right}
-use Rattle.lg_forest.proofs.Once.{contains_here, contains_none, contains_map, contains_at}
+use Rattle.lg_forest.proofs.Once.{contains_here, contains_none, contains_at}
 
 abbrev Entries : Type 0
 Entries = List (Key × List Alt)
@@ -138,10 +138,6 @@ live_found n k es live d table v (a ∷ alts, has, is) = (
   (λ t. (d.decides k v).1 (let x = ((table.live k (a ∷ alts) has).exactly a).0 (contains_here a alts) in (a, x.0, x.1))),
   (λ h. is.1 (λ e. (let bad : ⊥ = cc in bad))),
 )
-
--- a key that is in the table
-pub found_in : (k : Key) (alts : List Alt) (es : Entries) → Contains es (k, alts) → Contains (keys_of es) k
-found_in k alts es has = contains_map (λ (e : Key × List Alt). e.0) es (k, alts) has
 
 pub ok_as : {T E : Type 0} (r : Result T E) (P Q : T → Type 0) → ((x : T) → P x → Q x) → IfOk r P → IfOk r Q
 ok_as (Ok x) P Q f h = f x h

@@ -12,7 +12,7 @@ use Rattle.lg_region.proofs.Numbers.{contains_get}
 use Rattle.lg_forest.specs.Slots.{keys_in, pairs_in}
 use Rattle.lg_forest.specs.declared.slots.Slot.{Slot}
 use Rattle.lg_forest.specs.declared.small.SmallKey.{SmallKey}
-use Rattle.lg_forest.proofs.Once.{contains_key, contains_map, contains_none, map_found}
+use Rattle.lg_forest.proofs.Once.{contains_key, contains_map, map_found}
 
 abbrev Slots : Type 0
 Slots = List (Slot SmallKey ℕ)
@@ -23,9 +23,6 @@ Pairs = List (SmallKey × ℕ)
 -- exactly those of the slots whose number is not 0
 abbrev pub AreLiveOf : Slots → Pairs → Type 0
 AreLiveOf done live = (k : SmallKey) (n : ℕ) → Contains live (k, n) ↔ (Contains (pairs_in done) (k, n) × (0 < n))
-
-pub none_live : AreLiveOf [] []
-none_live k n = (λ h. absurd (contains_none (k, n) h), λ h. absurd (contains_none (k, n) h.0))
 
 -- a value that stands once does not stand before itself
 once_apart : {X : Type 0} (xs ys : List X) (y : X) → AreOnce (xs ++ y ∷ ys) → Contains xs y → ⊥

@@ -44,15 +44,6 @@ contains_key [] k h = absurd (contains_none k h)
 contains_key {X} {Y} (e ∷ es) k (zero, l, at) = (e.1, subst (λ (z : X). Contains (e ∷ es) (z, e.1)) at (contains_here e es))
 contains_key (e ∷ es) k (suc i, l, at) = let r = contains_key es k (i, omega arith, at) in (r.0, contains_later e es (k, r.0) r.1)
 
-pub filter_in : {X : Type 0} (p : X → Bool) (xs : List X) (x : X) → Contains xs x → p x ≡ true → Contains (filter p xs) x
-filter_in p [] x h e = absurd (contains_none x h)
-filter_in p (y ∷ xs) x (zero, l, f) e = rw (ap p f ∙ e) (subst (λ z. Contains (z ∷ filter p xs) x) (sym f) (contains_here x (filter p xs)))
-filter_in p (y ∷ xs) x (suc k, l, f) e =
-    elim (cases_Bool (p y)) [
-      | inl t ↦ rw t (contains_later y (filter p xs) x (filter_in p xs x (k, omega arith, f) e))
-      | inr t ↦ rw t (filter_in p xs x (k, omega arith, f) e)
-    ]
-
 pub filter_out : {X : Type 0} (p : X → Bool) (xs : List X) (x : X) → Contains (filter p xs) x → Contains xs x × (p x ≡ true)
 filter_out p [] x h = absurd (contains_none x h)
 filter_out p (y ∷ xs) x h =

@@ -1,8 +1,7 @@
 -- The disjuncts of halves, side by side in one list.
-use Rattle.std.proofs.Common.{◌≡◌, ◌≢◌, ◌+◌, ◌-◌, ◌⊎◌, inl, inr, List, [], ◌∷◌, ◌++◌, length, take, drop, map, refl, sym, ap, ◌∙◌, subst, Contains, arith, length-append}
-use Rattle.std.proofs.lemmas.List.{drop-append-le, length-drop, take-append-le, take_all}
+use Rattle.std.proofs.Common.{◌≡◌, ◌≢◌, ◌-◌, ◌⊎◌, inl, inr, List, [], ◌∷◌, ◌++◌, length, take, drop, map, refl, sym, ap, ◌∙◌, subst, Contains, arith, length-append}
+use Rattle.std.proofs.lemmas.List.{drop-append-le, length-drop, take-append-le}
 use Rattle.std.specs.Map.{keys_of}
-use lib.Seq.{drop-append_seam}
 use Rattle.lg_region.specs.declared.group.Right.{Right}
 use Rattle.lg_forest.specs.Runs.{AreRuns, IsRun, ends_of, run_of}
 use Rattle.lg_forest.specs.declared.halves.Half.{Half}
@@ -19,17 +18,6 @@ run_wider rights more run is =
     let e = is.ends in
     let long = length-drop run.start rights in
     ap (λ z. take (run.end - run.start) z) (drop-append-le run.start rights more (omega arith)) ∙ take-append-le (run.end - run.start) (drop run.start rights) more (omega arith)
-
--- what was put last
-pub run_last : (rights more : List Right) (run : Run) → run.start ≡ length rights → run.end ≡ length rights + length more → run_of (rights ++ more) run ≡ more
-run_last rights more run s e =
-    ap (λ z. take (run.end - run.start) (drop z (rights ++ more))) s ∙ ap (λ z. take (run.end - run.start) z) (drop-append_seam rights more) ∙ take_all (run.end - run.start) more (omega arith)
-
-pub is_run_last : (rights more all : List Right) (run : Run) → run.start ≡ length rights → run.end ≡ length rights + length more → all ≡ rights ++ more → IsRun all run
-is_run_last rights more all run s e are = record {
-  starts = omega arith;
-  ends = (let long = ap length are ∙ length-append rights more in omega arith);
-}
 
 module _ (old more new : List Right) (grown : new ≡ old ++ more) where
   pub run_kept : (run : Run) → IsRun old run → IsRun new run

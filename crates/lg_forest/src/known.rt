@@ -1,6 +1,7 @@
 //! The alternatives that workers found.
-ghost use Rattle.std.specs.Prelude.{◌≡◌, ◌+◌, [], ◌⊎◌, MatchOption, OnErr, OnOk, List, length};
+ghost use Rattle.std.specs.Prelude.{◌≡◌, ◌↔◌, ◌+◌, [], ◌⊎◌, IsTrue, MatchOption, OnErr, OnOk, List, length};
 ghost use Rattle.std.specs.List.{Contains};
+ghost use Rattle.std.specs.Map.{keys_of};
 ghost use Rattle.lg_region.specs.declared.key.Key.{Key};
 ghost use Rattle.lg_region.specs.declared.alternative.Alt.{Alt};
 
@@ -36,14 +37,19 @@ impl Known {
         }
     }
 
-    /// Whether the alternatives of a key are here. It only chooses the way on.
-    pub fn has(&self, key: &Key) -> bool {
-        !self.found.is_empty() && self.found.contains_key(key)
+    /// Whether the alternatives of a key are here. No memory.
+    pub fn has(&self, key: &Key) -> bool
+        ensures { IsTrue result ↔ Contains (keys_of self.now) key.now }
+    {
+        if self.found.is_empty() {
+            return false;
+        }
+        self.found.contains_key(key)
     }
 
     /// Takes the alternatives of a key out. None where the key is not there. No memory.
     pub fn take(&mut self, key: &Key) -> Option<Alts>
-        ensures taken { MatchOption result (length self.new ≡ length self.old) (λ alts. Contains self.old (key.now, alts) × (length self.new + 1 ≡ length self.old)) }
+        ensures taken { MatchOption result ((Contains (keys_of self.old) key.now → ⊥) × (length self.new ≡ length self.old)) (λ alts. Contains self.old (key.now, alts) × (length self.new + 1 ≡ length self.old)) }
         ensures left { (k : Key) (alts : List Alt) → Contains self.new (k, alts) → Contains self.old (k, alts) }
     {
         self.found.swap_remove(key)
@@ -53,6 +59,7 @@ impl Known {
     /// has changed.
     pub fn add(&mut self, key: Key, alts: Alts) -> Result<(), NoMemory>
         ensures added { OnOk result ((k : Key) (a : List Alt) → Contains self.new (k, a) → Contains self.old (k, a) ⊎ ((k ≡ key) × (a ≡ alts))) }
+        ensures there { OnOk result (Contains self.new (key, alts)) }
         ensures unchanged { OnErr result (self.new ≡ self.old) }
     {
         self.found.insert(key, alts)?;
