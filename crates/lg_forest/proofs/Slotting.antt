@@ -1,7 +1,9 @@
 -- How the keys of a table are linked by buckets, and found.
-use Rattle.std.proofs.Common.{◌≡◌, ◌≢◌, ℕ, zero, suc, ◌-◌, ◌%◌, ◌^◌, ◌<◌, ◌≤◌, ◌⊎◌, List, [], ◌∷◌, ◌++◌, length, get_or, set, refl, sym, ◌∙◌, ap, subst, Some, inl, inr, Contains, arith, length-append, length-set}
+use Rattle.std.proofs.Common.{◌≡◌, ◌≢◌, ℕ, zero, suc, ◌+◌, ◌-◌, ◌*◌, ◌%◌, ◌^◌, ◌<◌, ◌≤◌, ◌⊎◌, List, [], ◌∷◌, ◌++◌, length, get_or, set, refl, sym, ◌∙◌, ap, subst, Some, inl, inr, Contains, arith, length-append, length-set}
 use Rattle.std.specs.List.{slice_get}
 use Rattle.std.proofs.lemmas.Bool.{cases_lt}
+use Rattle.std.proofs.lemmas.Nat.{and_mask, pow-add, pow_pos}
+use Rattle.std.specs.Int.Bits.{bit_and}
 use Rattle.std.proofs.lemmas.List.{get_or-set_same, get_or-set_other}
 use Rattle.std.proofs.Math.Seq.{get_or-append_seam, map-set, map-set_same}
 use Rattle.std.proofs.lemmas.Option.{get_or_from_slice_get, same_Some, slice_get-get_or, slice_get-map, slice_get_within}
@@ -10,7 +12,7 @@ use Rattle.std.specs.Option.{option_map}
 use Rattle.std.proofs.lemmas.List.{length-map, map-append}
 use Rattle.std.proofs.lemmas.List.Elements.{Contains-push_cases}
 use Rattle.lg_region.specs.Fronts.{AreOnce}
-use Rattle.lg_forest.specs.Slots.{AreLinked, AreSlots, IsAt, IsLast, keys_in, nexts_in, pairs_in}
+use Rattle.lg_forest.specs.Slots.{AreLinked, AreSlots, IsAt, IsLast, IsPowerOfTwo, keys_in, nexts_in, pairs_in}
 use Rattle.lg_forest.specs.declared.slots.Slot.{Slot}
 use Rattle.lg_region.proofs.Firsts.{get_end, get_left, push_cases}
 use Rattle.lg_region.proofs.Once.{once_append, once_one}
@@ -156,6 +158,7 @@ module _ {K V : Type 0} (spread : K → ℕ) (slots slots' : List (Slot K V)) (h
         linked = subst (λ z. AreLinked spread z heads (nexts_in slots') (length slots')) (sym same)
             (subst (λ z. AreLinked spread (keys_in slots) heads z (length slots')) (sym nexts) (subst (λ z. AreLinked spread (keys_in slots) heads (nexts_in slots) z) (sym long) are.linked));
         room = (let r = are.room in omega arith);
+        power = are.power;
         few = are.few;
         once = subst (λ z. AreOnce z) (sym same) are.once;
       }
@@ -203,6 +206,7 @@ are_more {K} {V} spread slots slots' s heads heads' n b is place are room fresh 
     record {
       linked = subst (λ z. AreLinked spread z heads' (nexts_in slots') (length slots')) (sym more) (subst (λ z. AreLinked spread (keys ++ s.key ∷ []) heads' (nexts_in slots') z) (sym count') linked);
       room = omega arith;
+      power = λ some. subst IsPowerOfTwo (sym long_heads) (are.power (λ none. some (long_heads ∙ none)));
       few = omega arith;
       once = subst (λ z. AreOnce z) (sym more) (once_more keys s.key are.once fresh);
     }
@@ -233,12 +237,26 @@ module _ {K V : Type 0} (slots : List (Slot K V)) (at : ℕ) (s : Slot K V) (nex
       (λ m l. ap (λ z. get_or z m 0) nexts ∙ get_or-set_other (nexts_in slots) at m next 0 (λ e. (let bad : ⊥ = omega arith in bad)))
       (ap (λ z. get_or z at 0) nexts ∙ get_or-set_same (nexts_in slots) at next 0 (omega arith) ∙ is)))
 
+pub same_long : {K V : Type 0} (xs ys : List (Slot K V)) → pairs_in xs ≡ pairs_in ys → length xs ≡ length ys
+same_long {K} {V} xs ys e = sym (length-map xs (λ s. (s.key, s.value))) ∙ ap (λ z. length z) e ∙ length-map ys (λ (s : Slot K V). (s.key, s.value))
+
+-- the bucket of a number
+pub masked : (n count : ℕ) → IsPowerOfTwo count → bit_and n (count - 1) ≡ n % count
+masked n count (k, e) = ap (λ z. bit_and n (z - 1)) e ∙ and_mask n k ∙ ap (λ z. n % z) (sym e)
+
+pub power_some : (count : ℕ) → IsPowerOfTwo count → 0 < count
+power_some count (k, e) = (let some = pow_pos k in omega arith)
+
+pub power_twice : (count : ℕ) → IsPowerOfTwo count → IsPowerOfTwo (2 * count)
+power_twice count (k, e) = (k + 1, (let twice : 2 ^ (k + 1) ≡ 2 ^ k * 2 = pow-add 2 k 1 in omega arith))
+
 -- the same pairs, linked by new buckets
 pub are_linked : {K V : Type 0} (spread : K → ℕ) (slots slots' : List (Slot K V)) (heads heads' : List ℕ) → pairs_in slots' ≡ pairs_in slots → AreSlots spread slots heads → AreLinked spread (keys_in slots') heads' (nexts_in slots') (length slots')
-    → length slots' < length heads' → length heads' < 2 ^ 32 → AreSlots spread slots' heads'
-are_linked spread slots slots' heads heads' same are linked room few = record {
+    → length slots' < length heads' → IsPowerOfTwo (length heads') → length heads' < 2 ^ 32 → AreSlots spread slots' heads'
+are_linked spread slots slots' heads heads' same are linked room power few = record {
   linked = linked;
   room = omega arith;
+  power = λ some. power;
   few = few;
   once = subst (λ z. AreOnce z) (sym (keys_seen slots) ∙ ap keys_of (sym same) ∙ keys_seen slots') are.once;
 }

@@ -42,8 +42,8 @@ abbrev pub IsLiveLeft : Numbering → Alt → Type 0
 IsLiveLeft n a = IfSome (left_key a) (HasLinkageUnder n.positions n.lists)
 
 -- Of each region that begins so, and its alternatives with as many unlinked words on the left as the origin says: the starts are ones of it where
--- it has room behind their words, their left keys have a linkage, each alternative before `done` whose left key has a linkage starts as exactly one of them, and the left keys of all
--- alternatives before `done` are in the table.
+-- it has room behind their words, and their left keys have a linkage; each alternative before `done` whose left key has a linkage starts as exactly
+-- one of them; and the left keys of all alternatives before `done` are in the table.
 pub record IsOpening (n : Numbering) (entries : List (Key × List Alt)) (origin : Origin) (o : Opening) : Type 0 where
   pub behind : origin.left < o.done
   pub before : (s : Start) → Contains o.starts.items s → s.group.word < o.done

@@ -23,10 +23,14 @@ pub record AreLinked {K : Type 0} (spread : K → ℕ) (keys : List K) (heads ne
   pub head : (b : ℕ) → b < length heads → IsLast spread (length heads) keys end b (slice_index heads b)
   pub next : (n : ℕ) (k : K) → n < end → slice_get keys n ≡ Some k → IsLast spread (length heads) keys n (spread k % length heads) (slice_index nexts n)
 
+abbrev pub IsPowerOfTwo : ℕ → Type 0
+IsPowerOfTwo n = (k : ℕ) × (n ≡ 2 ^ k)
+
 -- keys, each once, that are linked, with room for them
 pub record AreSlots {K V : Type 0} (spread : K → ℕ) (slots : List (Slot K V)) (heads : List ℕ) : Type 0 where
   pub linked : AreLinked spread (keys_in slots) heads (nexts_in slots) (length slots)
   pub room : length slots ≤ length heads
+  pub power : length heads ≢ 0 → IsPowerOfTwo (length heads)
   pub few : length heads < 2 ^ 32
   pub once : AreOnce (keys_in slots)
 

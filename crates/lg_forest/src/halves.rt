@@ -12,7 +12,7 @@ use lg_region::{Gap, Group, Right};
 use std::alloc::Global;
 use std::marker::Model;
 
-// How many disjuncts there may be in all: where there would be more it is out of memory.
+// So many disjuncts may stand there before others are put behind them, and fewer may be put at once: else it is out of memory.
 const MOST_RIGHTS: usize = 1 << 31;
 
 /// A group of disjuncts of a word, and how a region ends behind that word: its right end, the number of its right list, and how many

@@ -3,7 +3,7 @@ ghost use Rattle.std.specs.Prelude.{◌≡◌, ◌≢◌, ◌<◌, ◌^◌, ◌%
 ghost use Rattle.std.specs.List.{Contains};
 ghost use Rattle.std.specs.Map.{keys_of};
 ghost use Rattle.lg_region.specs.Fronts.{AreOnce};
-ghost use Rattle.lg_forest.specs.Slots.{AreLinked, AreSlots, IsAt, keys_in, nexts_in, pairs_in};
+ghost use Rattle.lg_forest.specs.Slots.{AreLinked, AreSlots, IsAt, IsPowerOfTwo, keys_in, nexts_in, pairs_in};
 
 use crate::spread::Spread;
 use lg_base::NoMemory;
@@ -27,7 +27,7 @@ pub(crate) struct Slot<K, V> {
 /// Keys, each with a value, in the order in which they came. Contracts see the pairs.
 ///
 /// The search looks up more than anything else, and most keys have no linkage; so this table does little: it lets no key go, and has
-/// as many buckets as there is room for slots. `heads` has for each bucket the number of its last slot, from 1, or 0.
+/// as many buckets as there is room for slots, a power of two. `heads` has for each bucket the number of its last slot, from 1, or 0.
 #[derive(Drop)]
 pub(crate) struct Slots<K: Spread, V> {
     alloc: Global,
@@ -116,13 +116,13 @@ impl<K: Spread, V: Drop> Slots<K, V> {
     }
 }
 
-// The bucket of a key with this number.
+// The bucket of a key with this number. A division would take several times longer.
 fn bucket_of(spread: u64, count: usize) -> usize
-    requires { 0 < count }
+    requires { IsPowerOfTwo count }
     ensures value { result ≡ spread % count }
     ensures within { result < count }
 {
-    spread as usize % count
+    spread as usize & (count - 1)
 }
 
 // The number of the slot of a key. None where the key is not there.
@@ -181,8 +181,22 @@ fn make_room<K: Spread, V>(
     if slots.len() < heads.len() {
         return Ok(());
     }
-    *heads = linked(alloc, slots)?;
+    *heads = linked(alloc, slots, wider(heads.len()))?;
     Ok(())
+}
+
+// How many buckets a table gets that is full and has so many.
+fn wider(count: usize) -> usize
+    requires power { count ≢ 0 → IsPowerOfTwo count }
+    requires few { count < 2 ^ 32 }
+    ensures power { IsPowerOfTwo result }
+    ensures more { count < result }
+{
+    if count == 0 {
+        FEWEST_BUCKETS
+    } else {
+        2 * count
+    }
 }
 
 // Adds a slot, for which there is room. The only error is running out of memory, and then nothing has changed.
@@ -206,16 +220,20 @@ fn push<K: Spread, V: Drop>(
     Ok(())
 }
 
-// Links all slots by new buckets, with room for as many more. The only error is running out of memory, and then nothing has changed.
-fn linked<K: Spread, V>(alloc: Global, slots: &mut Vec<Slot<K, V>>) -> Result<Vec<u32>, NoMemory>
-    requires { length slots.old.items < 2 ^ 32 }
+// Links all slots by so many new buckets. The only error is running out of memory, and then nothing has changed.
+fn linked<K: Spread, V>(
+    alloc: Global,
+    slots: &mut Vec<Slot<K, V>>,
+    count: usize,
+) -> Result<Vec<u32>, NoMemory>
+    requires power { IsPowerOfTwo count }
+    requires room { length slots.old.items < count }
     ensures linked { IfOk result (λ heads. AreLinked K.spread (keys_in slots.new.items) heads.items (nexts_in slots.new.items) (length slots.new.items)) }
-    ensures room { IfOk result (λ heads. length slots.new.items < length heads.items) }
+    ensures count { IfOk result (λ heads. length heads.items ≡ count) }
     ensures few { IfOk result (λ heads. length heads.items < 2 ^ 32) }
     ensures same { pairs_in slots.new.items ≡ pairs_in slots.old.items }
     ensures unchanged { OnErr result (slots.new.items ≡ slots.old.items) }
 {
-    let count = 2 * slots.len() + FEWEST_BUCKETS;
     if count > MOST_BUCKETS {
         return Err(NoMemory);
     }

@@ -1,4 +1,4 @@
-use Rattle.std.proofs.Common.{◌+◌, ◌*◌, ◌%◌, ◌<◌, length, ap, sym, ◌∙◌, subst, arith, add-one, length-set}
+use Rattle.std.proofs.Common.{◌+◌, ◌%◌, ◌<◌, length, ap, sym, ◌∙◌, subst, arith, add-one, length-set}
 use Rattle.std.proofs.lemmas.Grind.{get_or_default_zero}
 use Rattle.lg_forest.specs.Slots.{AreLinked, keys_in, nexts_in}
 use Rattle.lg_forest.proofs.Slotting.{linked_next, pairs_same, read_at}
@@ -19,7 +19,7 @@ loop-at-preserved g c =
     let small : b < length heads = omega arith in
     let l : n < length slots = omega arith in
     let at = read_at slots n s l c.index_mut-slot.ensures.value in
-    let bucket = c.bucket_of-bucket.ensures.value ∙ ap (λ z. z % (2 * c.len.result + 16)) c.spread.ensures ∙ ap (λ z. spread s.key % z) (sym count) in
+    let bucket = c.bucket_of-bucket.ensures.value ∙ ap (λ z. z % c.args.count) c.spread.ensures ∙ ap (λ z. spread s.key % z) (sym count) in
     let next = c.index.ensures ∙ get_or_default_zero heads b c.index.result.now small in
     record {
       linked = linked_next slots n s c.index.result.now at spread heads b (n + 1) (add-one n) bucket small next c.loop-at.invariant.linked;
