@@ -1,5 +1,5 @@
 -- What is kept of lists tells their ends, and the lists of disjuncts.
-use Rattle.std.proofs.Common.{◌≡◌, ℕ, suc, ◌+◌, ◌-◌, ◌<◌, ◌≤◌, List, [], ◌∷◌, ◌++◌, length, take, get_or, map, refl, sym, ◌∙◌, ap, subst, Some, inl, inr, Contains, arith, length-append}
+use Rattle.std.proofs.Common.{◌≡◌, ℕ, suc, ◌+◌, ◌-◌, ◌<◌, ◌≤◌, List, [], ◌∷◌, ◌++◌, length, take, get_or, map, refl, sym, ◌∙◌, ap, subst, Some, inl, inr, Contains, arith, length-append, add-one}
 use Rattle.std.specs.List.{AllZip, flat_map, range_with_len, slice_get}
 use Rattle.std.proofs.lemmas.Bool.{cases_lt}
 use Rattle.std.proofs.lemmas.List.{get_or-map, take_at, get_or_past}
@@ -16,7 +16,9 @@ use Rattle.lg_region.specs.Numbered.{AreTailsOf, HasSides, AreSidesOf}
 use Rattle.lg_region.specs.Ways.{IsEndOf}
 use Rattle.lg_region.specs.declared.numbering.Tail.{Tail}
 use Rattle.lg_region.specs.declared.numbering.Sides.{Sides}
+use Rattle.lg_region.specs.declared.ways.End.{End}
 use Rattle.lg_region.proofs.Elements.{zip_at, zip_length}
+use Rattle.lg_region.proofs.Firsts.{push_cases}
 use Rattle.lg_region.proofs.Valid.{take_short}
 use Rattle.lg_base.proofs.Elements.{map_out, flat_out}
 use Rattle.lg_region.proofs.Numbers.{range_out}
@@ -53,6 +55,34 @@ end_of lists tails n m t are g e =
       is_last = subst (λ z. slice_get z (m - 1) ≡ Some t.last) (sym u) (subst (λ z. slice_get (xs ++ t.last ∷ []) z ≡ Some t.last) (sym q) s);
       rest = sym (subst (λ z. take (m - 1) z ≡ xs) (sym u) (subst (λ z. take z (xs ++ t.last ∷ []) ≡ xs) (sym q) (take_at xs (t.last ∷ []) (length xs) refl)));
     }
+
+-- a list that has a tail is not the empty one
+pub front_some : (lists : List (List Connector)) (tails : List Tail) (i : ℕ) (t : Tail) (cs : List Connector) → AreTailsOf lists tails → slice_get tails i ≡ Some t → get_or lists i [] ≡ cs → 1 ≤ length cs
+front_some lists tails i t cs are at e =
+    let last = (end_of lists tails i (length cs) t are at (ap (λ z. length z) (sym e))).at_end in
+    let same = ap (λ z. length z) e in
+    omega arith
+
+-- the ends of so many lists
+pub record EndsSoFar (lists : List (List Connector)) (ends : List End) (count : ℕ) : Type 0 where
+  pub counted : length ends ≡ count
+  pub each : (n : ℕ) (e : End) → slice_get ends n ≡ Some e → IsEndOf lists (suc n) e
+
+-- one end more
+pub ends_more : (lists : List (List Connector)) (tails : List Tail) (ends ends' : List End) (i : ℕ) (t : Tail) (cs : List Connector) → AreTailsOf lists tails → slice_get tails i ≡ Some t → get_or lists i [] ≡ cs → EndsSoFar lists ends i
+    → ends' ≡ ends ++ record { id = i + 1; place = length cs - 1; last = t.last; shorter = t.shorter } ∷ [] → EndsSoFar lists ends' (i + 1)
+ends_more lists tails ends ends' i t cs are at e so more =
+    let end : ℕ → End = λ id. record { id = id; place = length cs - 1; last = t.last; shorter = t.shorter } in
+    let is : IsEndOf lists (suc i) (end (i + 1)) = subst (λ z. IsEndOf lists (suc i) (end z)) (sym (add-one i)) (end_of lists tails i (length cs) t are at (ap (λ z. length z) (sym e))) in
+    let c = so.counted in
+    let l = length-append ends (end (i + 1) ∷ []) in
+    subst (λ z. EndsSoFar lists z (i + 1)) (sym more) (record {
+      counted = omega arith;
+      each = λ n x g. elim (push_cases ends (end (i + 1)) n x g) [
+        | inl h ↦ so.each n x h.1
+        | inr h ↦ subst (λ z. IsEndOf lists (suc z) x) (sym (h.0 ∙ c)) (subst (λ z. IsEndOf lists (suc i) z) h.1 is)
+      ];
+    })
 
 front_short : (cs x : List Connector) (n : ℕ) → length cs ≤ n → Contains (fronts cs) x → length x ≤ n
 front_short cs x n l c =

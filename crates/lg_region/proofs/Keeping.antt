@@ -2,9 +2,8 @@
 use Rattle.std.proofs.Common.{◌≡◌, ◌≢◌, ℕ, suc, ◌-◌, ◌<◌, ◌≤◌, List, [], length, get_or, map, sym, ◌∙◌, ap, subst, Some, Vec, Global, Bor, arith}
 use Rattle.std.specs.List.{AllZip, slice_get}
 use Rattle.std.proofs.lemmas.List.{length-map}
-use Rattle.std.proofs.lemmas.Option.{slice_get_within}
+use Rattle.std.proofs.lemmas.Option.{slice_get-get_or}
 use Rattle.lg_gram.specs.Connectors.{Connector}
-use Rattle.lg_gram.specs.Limits.{SIDE}
 use Rattle.lg_gram.specs.declared.disjunct.Disjunct.{Disjunct}
 use Rattle.lg_region.specs.Fronts.{Numbering}
 use Rattle.lg_region.specs.Keys.{IsDisjunctAt}
@@ -13,12 +12,12 @@ use Rattle.lg_region.specs.Numbered.{HasSides}
 use Rattle.lg_region.specs.Chains.{IsChain}
 use Rattle.lg_region.specs.Ways.{IsEndOf}
 use Rattle.lg_region.specs.declared.lists.Lists.TheInside.{Inside}
-use Rattle.lg_region.specs.declared.numbering.Tail.{Tail}
 use Rattle.lg_region.specs.declared.numbering.Sides.{Sides}
 use Rattle.lg_region.specs.declared.chains.Side.{Side}
 use Rattle.lg_region.specs.declared.chains.Chain.{Chain}
+use Rattle.lg_region.specs.declared.ways.End.{End}
 use Rattle.lg_region.proofs.Elements.{zip_at, zip_length}
-use Rattle.lg_region.proofs.Ends.{map_at, end_of, list_short, row_within, row_at, number_within, sides_at}
+use Rattle.lg_region.proofs.Ends.{map_at, row_within, row_at, number_within, sides_at}
 
 -- the rows of the numbers of disjuncts
 abbrev pub rows_in : Inside → List (List Sides)
@@ -61,30 +60,17 @@ front_is a v n f is e l t =
     let k : suc n ≤ length (lists_in a) = omega arith in
     (subst (λ z. suc n ≤ length z.lists) e k, subst (λ z. get_or z.lists n [] ≡ f.now) e (map_at {X = Bor (List Connector)} (λ f. f.now) a.fronts.items n f [] l t))
 
-pub beyond : (a : Inside) (v : Numbering) (n : ℕ) → IsKept a → numbering a ≡ v → length a.fronts.items ≤ n → length v.lists < suc n
-beyond a v n is e l =
-    let c = fronts_count a is in
-    let k : length (lists_in a) < suc n = omega arith in
-    subst (λ z. length z.lists < suc n) e k
+-- the ends of the lists
+pub ends_within : (a : Inside) (v : Numbering) (n : ℕ) → IsKept a → numbering a ≡ v → suc n ≤ length v.lists → n < length a.ends.items
+ends_within a v n is e l =
+    let h : suc n ≤ length (lists_in a) = subst (λ z. suc n ≤ length z.lists) (sym e) l in
+    let s = is.ends.same_length in
+    omega arith
 
--- the end of a list, from its tail and its front
-pub kept_end : (a : Inside) (v : Numbering) (n : ℕ) (t : Tail) (f : Bor (List Connector)) → IsKept a → numbering a ≡ v → slice_get a.tails.keys n ≡ Some t → f ≡ get_or a.fronts.items n f
-    → IsEndOf v.lists (suc n) (record { id = suc n; place = length f.now - 1; last = t.last; shorter = t.shorter }) × (1 ≤ length f.now) × (length f.now ≤ SIDE)
-kept_end a v n t f is e g r =
-    let l = slice_get_within a.tails.keys n t g in
-    let s = is.tails.same_length in
-    let c = fronts_count a is in
-    let w : n < length a.fronts.items = omega arith in
-    let m : get_or (lists_in a) n [] ≡ f.now = map_at {X = Bor (List Connector)} (λ f. f.now) a.fronts.items n f [] w r in
-    let h = end_of (lists_in a) a.tails.keys n (length f.now) t is.tails g (ap (λ z. length z) (sym m)) in
-    let at = h.at_end in
-    let b = list_short a.problem.now (lists_in a) n is.problem is.lists (omega arith) in
-    let k = ap (λ z. length z) m in
-    let x : 1 ≤ length (get_or (lists_in a) n []) = omega arith in (
-      subst (λ z. IsEndOf z.lists (suc n) (record { id = suc n; place = length f.now - 1; last = t.last; shorter = t.shorter })) e h,
-      omega arith,
-      omega arith,
-    )
+pub end_is : (a : Inside) (v : Numbering) (n : ℕ) (x : End) → IsKept a → numbering a ≡ v → suc n ≤ length v.lists → x ≡ get_or a.ends.items n x → IsEndOf v.lists (suc n) x
+end_is a v n x is e l r =
+    let at : slice_get a.ends.items n ≡ Some x = slice_get-get_or a.ends.items n x (ends_within a v n is e l) ∙ ap (λ z. Some z) (sym r) in
+    subst (λ z. IsEndOf z.lists (suc n) x) e (is.ends.each n x at)
 
 pub pred_of : (n : ℕ) → n ≢ 0 → n ≡ suc (n - 1)
 pred_of n h = omega arith

@@ -1,12 +1,15 @@
--- What is kept of each list: its last connector and the number of the rest; and the numbers of the lists of each disjunct.
+-- What is kept of each list: its last connector and the number of the rest, and how it ends; and the numbers of the lists of each disjunct.
 use Rattle.std.specs.Prelude.{◌≡◌, ℕ, suc, ◌+◌, ◌<◌, ◌≤◌, List, [], ◌∷◌, ◌++◌, length, Some, slice_get}
-use Rattle.std.specs.List.{AllZip}
+use Rattle.std.specs.List.{AllZip, Contains}
 use Rattle.std.specs.Map.{lookup}
 use Rattle.lg_gram.specs.Connectors.{Connector, connector_eq}
 use Rattle.lg_gram.specs.declared.disjunct.Disjunct.{Disjunct}
+use Rattle.lg_gram.specs.Limits.{SIDE}
 use Rattle.lg_region.specs.Fronts.{AreFirstMet, list_of}
+use Rattle.lg_region.specs.Ways.{IsEndOf}
 use Rattle.lg_region.specs.declared.numbering.Tail.{Tail}
 use Rattle.lg_region.specs.declared.numbering.Sides.{Sides}
+use Rattle.lg_region.specs.declared.ways.End.{End}
 
 -- the list of a number is that of an earlier number with one connector more
 pub record IsTailOf (lists : List (List Connector)) (id : ℕ) (t : Tail) : Type 0 where
@@ -17,28 +20,37 @@ pub record AreTailsOf (lists : List (List Connector)) (tails : List Tail) : Type
   pub same_length : length tails ≡ length lists
   pub each : (n : ℕ) (t : Tail) → slice_get tails n ≡ Some t → IsTailOf lists (suc n) t
 
--- the list of a number ends with a connector
-pub record HasLast (tails : List Tail) (id : ℕ) (c : Connector) : Type 0 where
-  pub place : ℕ
-  pub tail : Tail
-  pub number : id ≡ suc place
-  pub kept : slice_get tails place ≡ Some tail
-  pub last : tail.last ≡ c
+-- no list has more connectors than a side of a disjunct may have
+abbrev pub AreShort : List (List Connector) → Type 0
+AreShort lists = (cs : List Connector) → Contains lists cs → length cs ≤ SIDE
 
-abbrev pub HasSameLast : List Tail → Tail → ℕ → Type 0
-HasSameLast tails t id = HasLast tails id t.last
+-- the ends of the lists of the numbers from 1 on
+pub record AreEndsOf (lists : List (List Connector)) (ends : List End) : Type 0 where
+  pub same_length : length ends ≡ length lists
+  pub each : (n : ℕ) (e : End) → slice_get ends n ≡ Some e → IsEndOf lists (suc n) e
+
+-- one of the ends has this number and this connector
+pub record HasLast (ends : List End) (id : ℕ) (c : Connector) : Type 0 where
+  pub place : ℕ
+  pub end : End
+  pub kept : slice_get ends place ≡ Some end
+  pub number : end.id ≡ id
+  pub last : end.last ≡ c
+
+abbrev pub HasSameLast : List End → End → ℕ → Type 0
+HasSameLast ends e id = HasLast ends id e.last
 
 -- each list has the number of one that ends with the same connector
-abbrev pub AreLastsOf : List Tail → List ℕ → Type 0
-AreLastsOf tails lasts = AllZip (HasSameLast tails) tails lasts
+abbrev pub AreLastsOf : List End → List ℕ → Type 0
+AreLastsOf ends lasts = AllZip (HasSameLast ends) ends lasts
 
 -- connectors, each with the number of a list that ends with it
-abbrev pub AreFirsts : List Tail → List (Connector × ℕ) → Type 0
-AreFirsts tails entries = (c : Connector) (id : ℕ) → lookup (connector_eq c) entries ≡ Some id → HasLast tails id c
+abbrev pub AreFirsts : List End → List (Connector × ℕ) → Type 0
+AreFirsts ends entries = (c : Connector) (id : ℕ) → lookup (connector_eq c) entries ≡ Some id → HasLast ends id c
 
 -- the list of this number ends with the connector, and is met; so does the list of the number that is given
 abbrev pub GivesFirst : List (Connector × ℕ) → List (Connector × ℕ) → Connector → ℕ → ℕ → Type 0
-GivesFirst old new c id first = (tails : List Tail) → AreFirsts tails old → HasLast tails id c → AreFirsts tails new × HasLast tails first c
+GivesFirst old new c id first = (ends : List End) → AreFirsts ends old → HasLast ends id c → AreFirsts ends new × HasLast ends first c
 
 -- the lists and their tails, where so many lists have been met so far
 pub record AreNumbered (met : List (List Connector)) (lists : List (List Connector)) (tails : List Tail) : Type 0 where

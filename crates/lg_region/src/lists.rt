@@ -10,7 +10,7 @@ ghost use Rattle.lg_region.specs.Chains.{class_of as class_of_list, list_on, IsN
 ghost use Rattle.lg_region.specs.Ways.{IsEndOf};
 
 use crate::chains::{Chain, Side, chains, class_of};
-use crate::numbering::{Sides, Tail, lasts_of, numbered};
+use crate::numbering::{Sides, ends_of, lasts_of, numbered};
 use crate::ways::End;
 use indexmap::IndexSet;
 use lg_base::NoMemory;
@@ -27,7 +27,7 @@ use std::marker::Model;
 pub struct Lists<'a> {
     problem: &'a Problem,
     fronts: Vec<&'a [Connector]>,
-    tails: IndexSet<Tail>,
+    ends: Vec<End>,
     lasts: Vec<u32>,
     sides: Vec<Vec<Sides>>,
     lefts: Vec<Chain>,
@@ -48,7 +48,7 @@ impl<'a> Model for Lists<'a> {
 
 impl<'a> Lists<'a> {
     /// The numbers of the lists of a problem. It takes some twenty bytes for each disjunct, less than a hundred for each
-    /// list, and two thousand for each position.
+    /// list, and two thousand for each position. While they are made it takes as much again for each list.
     pub fn of(alloc: Global, problem: &'a Problem) -> Result<Lists<'a>, NoMemory>
         ensures positions { IfOk result (λ lists. lists.positions ≡ problem.now) }
         ensures lists { IfOk result (λ lists. AreListsOf problem.now lists.lists) }
@@ -57,13 +57,14 @@ impl<'a> Lists<'a> {
         let mut tails = IndexSet::new(alloc);
         let positions = problem.positions();
         let sides = numbered(alloc, &mut fronts, &mut tails, positions)?;
-        let lasts = lasts_of(alloc, &tails)?;
+        let ends = ends_of(alloc, &fronts, &tails)?;
+        let lasts = lasts_of(alloc, &ends)?;
         let lefts = chains(alloc, Side::Left, positions)?;
         let rights = chains(alloc, Side::Right, positions)?;
         Ok(Lists {
             problem,
             fronts,
-            tails,
+            ends,
             lasts,
             sides,
             lefts,
@@ -183,17 +184,10 @@ impl<'a> Lists<'a> {
         ensures value { MatchOption result (id ≡ 0) (IsEndOf self.now.lists id) }
         ensures lists { AreListsOf self.now.positions self.now.lists }
     {
-        let fronts = &self.fronts;
+        let ends = &self.ends;
         if id == 0 {
             return None;
         }
-        let index = id as usize - 1;
-        let tail = self.tails[index];
-        Some(End {
-            id,
-            place: fronts[index].len() as u32 - 1,
-            last: tail.last,
-            shorter: tail.shorter,
-        })
+        Some(ends[id as usize - 1])
     }
 }

@@ -3,8 +3,9 @@ ghost use Rattle.std.specs.Prelude.{◌≡◌, ◌+◌, ◌<◌, ◌^◌, map, l
 ghost use Rattle.std.specs.List.{flat_map};
 ghost use Rattle.lg_gram.specs.Problems.{IsProblem};
 ghost use Rattle.lg_region.specs.Fronts.{all_fronts, fronts as front_parts, fronts_of};
-ghost use Rattle.lg_region.specs.Numbered.{Admits, AreLastsOf, AreNumbered, AreSidesOf, GivesFirst, GivesNumber, GivesSides, Numbers};
+ghost use Rattle.lg_region.specs.Numbered.{Admits, AreEndsOf, AreLastsOf, AreNumbered, AreShort, AreSidesOf, AreTailsOf, GivesFirst, GivesNumber, GivesSides, Numbers};
 
+use crate::ways::End;
 use indexmap::{IndexMap, IndexSet};
 use lg_base::NoMemory;
 use lg_gram::{Connector, Disjunct, Disjuncts};
@@ -108,16 +109,38 @@ fn admit<'a>(
     Ok(index as u32 + 1)
 }
 
+/// The ends of all lists but the empty one, in the order of their numbers.
+pub(crate) fn ends_of(
+    alloc: Global,
+    fronts: &[&[Connector]],
+    tails: &IndexSet<Tail>,
+) -> Result<Vec<End>, NoMemory>
+    requires few { length tails.now.keys < 2 ^ 32 }
+    requires short { AreShort (map (λ f. f.now) fronts.now) }
+    requires tails { AreTailsOf (map (λ f. f.now) fronts.now) tails.now.keys }
+    ensures { IfOk result (λ ends. AreEndsOf (map (λ f. f.now) fronts.now) ends.items) }
+{
+    let mut ends = Vec::with_capacity(alloc, fronts.len())?;
+    for index in 0..fronts.len() {
+        let tail = tails[index];
+        ends.push(End {
+            id: index as u32 + 1,
+            place: fronts[index].len() as u32 - 1,
+            last: tail.last,
+            shorter: tail.shorter,
+        })?;
+    }
+    Ok(ends)
+}
+
 /// For each list but the empty one, the number of the first that ends with the same connector.
-pub(crate) fn lasts_of(alloc: Global, tails: &IndexSet<Tail>) -> Result<Vec<u32>, NoMemory>
-    requires { length tails.now.keys < 2 ^ 32 }
-    ensures { IfOk result (λ lasts. AreLastsOf tails.now.keys lasts.items) }
+pub(crate) fn lasts_of(alloc: Global, ends: &[End]) -> Result<Vec<u32>, NoMemory>
+    ensures { IfOk result (λ lasts. AreLastsOf ends.now lasts.items) }
 {
     let mut firsts = IndexMap::new(alloc);
-    let mut lasts = Vec::new(alloc);
-    for index in 0..tails.len() {
-        let tail = tails[index];
-        let first = first_with(&mut firsts, tail.last, index as u32 + 1)?;
+    let mut lasts = Vec::with_capacity(alloc, ends.len())?;
+    for end in ends {
+        let first = first_with(&mut firsts, end.last, end.id)?;
         lasts.push(first)?;
     }
     Ok(lasts)

@@ -3,5 +3,5 @@ use Rattle.std.specs.List.{AllZip}
 use Rattle.lg_region.specs.Numbered.{AreFirsts, HasSameLast}
 use Rattle.lg_region.proofs.numbering.lasts_of.Given as goal
 
-abbrev pub invariant-loop-index : goal.invariant-loop-index
-invariant-loop-index l = AllZip (HasSameLast l.tails.keys) (take l.index l.tails.keys) l.lasts.items × AreFirsts l.tails.keys l.firsts.entries
+abbrev pub invariant-loop-end : goal.invariant-loop-end
+invariant-loop-end l = AllZip (HasSameLast l.ends) (take l.end-index l.ends) l.lasts.items × AreFirsts l.ends l.firsts.entries
