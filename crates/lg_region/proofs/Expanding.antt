@@ -1,6 +1,5 @@
 -- The alternatives of a key, word by word.
-use Rattle.std.proofs.Common.{◌≡◌, ◌≢◌, ◌↔◌, ℕ, suc, ◌+◌, ◌-◌, ◌<◌, ◌≤◌, List, [], ◌∷◌, ◌++◌, length, get_or, refl, sym, ◌∙◌, ap, subst, Option, Some, None, ◌⊎◌, inl, inr, arith, append_assoc}
-use Rattle.std.specs.List.{flat_map, range_with_len}
+use Rattle.std.proofs.Common.{◌≡◌, ◌≢◌, ℕ, ◌+◌, ◌*◌, ◌%◌, ◌-◌, ◌<◌, ◌≤◌, List, [], ◌∷◌, ◌++◌, length, fold, slice_get, get_or, refl, sym, ◌∙◌, ap, subst, Option, Some, None, ◌⊎◌, inl, inr, arith}
 use Rattle.std.proofs.lemmas.Bool.{cases_lt}
 use Rattle.std.proofs.lemmas.Option.{slice_get_within}
 use Rattle.lg_gram.specs.Connectors.{Connector}
@@ -8,11 +7,12 @@ use Rattle.lg_gram.specs.declared.disjunct.Disjunct.{Disjunct}
 use Rattle.lg_region.specs.Parts.{Region}
 use Rattle.lg_region.specs.Whole.{First}
 use Rattle.lg_region.specs.Fronts.{AreListsOf, Numbering, list_of}
-use Rattle.lg_region.specs.Keys.{region_of_numbers, IsDisjunctAt, IsAltOfRegion, IsAltOfWhole}
+use Rattle.lg_region.specs.Keys.{region_of_numbers, IsDisjunctAt, IsAltOfRegion, IsAltOfWhole, IsValidKey}
 use Rattle.lg_region.specs.Numbered.{HasSides}
 use Rattle.lg_region.specs.Ways.{AreExactly, AddsExactly}
-use Rattle.lg_region.specs.Groups.{region_of_gap, StandsIn, StandsBefore, AddsIn, AddsFirst, HaveLeft, IsGroup, IsNextLed, Leads}
-use Rattle.lg_region.specs.Chains.{class_of, list_on, IsNext}
+use Rattle.lg_region.specs.Groups.{region_of_gap, StandsIn, AddsFirst, HaveLeft, IsGroup, IsNextLed, Leads, left_lead, right_lead}
+use Rattle.lg_region.specs.Chains.{class_at, class_of, list_on, IsNext}
+use Rattle.lg_region.specs.Openings.{IsGapOf}
 use Rattle.lg_region.specs.declared.key.Joint.{Joint}
 use Rattle.lg_region.specs.declared.key.Key.{Key}
 use Rattle.lg_region.specs.declared.key.Key.TheVariants.{Region as Between}
@@ -21,169 +21,119 @@ use Rattle.lg_region.specs.declared.alternative.Alt.TheVariants.{AllNull, Split 
 use Rattle.lg_region.specs.declared.numbering.Sides.{Sides}
 use Rattle.lg_region.specs.declared.group.Gap.{Gap}
 use Rattle.lg_region.specs.declared.group.Lead.{Lead}
-use Rattle.lg_region.specs.declared.chains.Side.TheVariants.{Left}
+use Rattle.lg_region.specs.declared.chains.Side.TheVariants.{Left, Right}
 use Rattle.lg_region.proofs.Numbers.{apart, one_key, get_contains}
-use Rattle.lg_region.proofs.Once.{exactly_as, exactly_none, exactly_one, exactly_append, adds_none}
+use Rattle.lg_region.proofs.Once.{HaveOne, Upto, exactly_as, exactly_one, adds_as, adds_none, from_none}
 use Rattle.lg_region.proofs.Splitting.{led_itself, led_next, some_number}
 use Rattle.lg_region.proofs.Chaining.{joint_class}
-
--- one more number of a range
-pub range_step : {X : Type 0} (f : ℕ → List X) (out out' all : List X) (n to : ℕ) → n < to → out' ≡ out ++ f n → out ++ flat_map f (range_with_len n (to - n)) ≡ all → out' ++ flat_map f (range_with_len (n + 1) (to - (n + 1))) ≡ all
-range_step f out out' all n to l o e =
-    let rest = flat_map f (range_with_len (n + 1) (to - (n + 1))) in
-    let z : to - n ≡ suc (to - (n + 1)) = omega arith in
-    ap (λ k. k ++ rest) o ∙ append_assoc out (f n) rest ∙ ap (λ k. out ++ flat_map f (range_with_len n k)) (sym z) ∙ e
-
-pub exactly_then : {X : Type 0} (a b : List X) (P Q R : X → Type 0) → AreExactly a P → AddsExactly a b Q → ((x : X) → P x → Q x → ⊥) → ((x : X) → (P x ⊎ Q x) ↔ R x) → AreExactly b R
-exactly_then a b P Q R p q d e = subst (λ z. AreExactly z R) (sym q.added) (exactly_as (a ++ q.more) (λ x. P x ⊎ Q x) R e (exactly_append a q.more P Q p q.exactly d))
-
-pub adds_then : {X : Type 0} (a b c : List X) (P Q R : X → Type 0) → AddsExactly a b P → AddsExactly b c Q → ((x : X) → P x → Q x → ⊥) → ((x : X) → (P x ⊎ Q x) ↔ R x) → AddsExactly a c R
-adds_then a b c P Q R p q d e = record {
-  more = p.more ++ q.more;
-  added = q.added ∙ ap (λ z. z ++ q.more) p.added ∙ append_assoc a p.more q.more;
-  exactly = exactly_as (p.more ++ q.more) (λ x. P x ⊎ Q x) R e (exactly_append p.more q.more P Q p.exactly q.exactly d);
-}
 
 pub in_split : (word n m : ℕ) (a : Alt) → StandsIn word 0 m a → StandsIn word 0 n a ⊎ StandsIn word n m a
 in_split word n m AllNull s = absurd s
 in_split word n m (At w number tl tr lk rk) s = let l = s.2 in elim (cases_lt number n) [ inl h ↦ inl (s.0, s.1, h) | inr h ↦ inr (s.0, h, s.2) ]
 
-in_first : (word n m : ℕ) (a : Alt) → n ≤ m → StandsIn word 0 n a → StandsIn word 0 m a
-in_first word n m AllNull h s = absurd s
-in_first word n m (At w number tl tr lk rk) h s = let l = s.2 in (s.0, s.1, omega arith)
+-- each alternative names a disjunct of a word before a number
+abbrev pub NamesDisjuncts : List (List Disjunct) → ℕ → (Alt → Type 0) → Type 0
+NamesDisjuncts positions end I = (w number : ℕ) (tl tr : Option Joint) (lk rk : Option Key) → I (At w number tl tr lk rk) → (w < end) × (number < length (get_or positions w []))
 
-in_second : (word n m : ℕ) (a : Alt) → StandsIn word n m a → StandsIn word 0 m a
-in_second word n m AllNull s = absurd s
-in_second word n m (At w number tl tr lk rk) s = (s.0, omega arith, s.2)
-
-in_apart : (word n m : ℕ) (a : Alt) → StandsIn word 0 n a → StandsIn word n m a → ⊥
-in_apart word n m AllNull s t = absurd s
-in_apart word n m (At w number tl tr lk rk) s t = let l = s.2 in let k = t.1 in omega arith
-
--- more disjuncts of a word
-pub adds_numbers : (I : Alt → Type 0) (word n m : ℕ) (a b c : List Alt) → n ≤ m → AddsExactly a b (λ x. I x × StandsIn word 0 n x) → AddsExactly b c (λ x. I x × StandsIn word n m x) → AddsExactly a c (λ x. I x × StandsIn word 0 m x)
-adds_numbers I word n m a b c h p q =
-    adds_then a b c (λ x. I x × StandsIn word 0 n x) (λ x. I x × StandsIn word n m x) (λ x. I x × StandsIn word 0 m x) p q (λ x s t. in_apart word n m x s.1 t.1)
-    (λ x. (
-      λ g. elim g [ inl s ↦ (s.0, in_first word n m x h s.1) | inr s ↦ (s.0, in_second word n m x s.1) ],
-      λ (i, s). elim (in_split word n m x s) [ inl t ↦ inl (i, t) | inr t ↦ inr (i, t) ],
-    ))
-
-none_in : (word : ℕ) (a : Alt) → StandsIn word 0 0 a → ⊥
-none_in word AllNull s = absurd s
-none_in word (At w number tl tr lk rk) s = let l = s.2 in omega arith
-
-pub adds_start : (I : Alt → Type 0) (word : ℕ) (out : List Alt) → AddsExactly out out (λ x. I x × StandsIn word 0 0 x)
-adds_start I word out = adds_none out (λ x. I x × StandsIn word 0 0 x) (λ x s. none_in word x s.1)
-
--- each alternative names a disjunct of its word
-abbrev pub NamesDisjuncts : List (List Disjunct) → (Alt → Type 0) → Type 0
-NamesDisjuncts positions I = (w number : ℕ) (tl tr : Option Joint) (lk rk : Option Key) → I (At w number tl tr lk rk) → number < length (get_or positions w [])
-
-pub region_names : (positions : List (List Disjunct)) (lists : List (List Connector)) (k : Region) → NamesDisjuncts positions (IsAltOfRegion positions lists k)
+pub region_names : (positions : List (List Disjunct)) (lists : List (List Connector)) (k : Region) → NamesDisjuncts positions k.right (IsAltOfRegion positions lists k)
 region_names positions lists k w number tl tr None rk i = absurd i
 region_names positions lists k w number tl tr (Some lk) None i = absurd i
-region_names positions lists k w number tl tr (Some lk) (Some rk) (c, i) = slice_get_within (get_or positions w []) number c.disjunct i.chosen
+region_names positions lists k w number tl tr (Some lk) (Some rk) (c, i) = let a = i.cut.before in let e = i.place in (omega arith, slice_get_within (get_or positions w []) number c.disjunct i.chosen)
 
-pub whole_names : (positions : List (List Disjunct)) (lists : List (List Connector)) (nulls : ℕ) → NamesDisjuncts positions (IsAltOfWhole positions lists nulls)
-whole_names positions lists nulls w number None None None (Some rk) (c, i) = slice_get_within (get_or positions w []) number c.disjunct i.chosen
+pub whole_names : (positions : List (List Disjunct)) (lists : List (List Connector)) (nulls : ℕ) → NamesDisjuncts positions (nulls + 1) (IsAltOfWhole positions lists nulls)
+whole_names positions lists nulls w number None None None (Some rk) (c, i) = let a = i.first.enough in let e = i.place in (omega arith, slice_get_within (get_or positions w []) number c.disjunct i.chosen)
 whole_names positions lists nulls w number None None None None i = absurd i
 whole_names positions lists nulls w number None None (Some lk) rk i = absurd i
 whole_names positions lists nulls w number None (Some j) lk rk i = absurd i
 whole_names positions lists nulls w number (Some j) tr lk rk i = absurd i
 
-pub before_split : (positions : List (List Disjunct)) (I : Alt → Type 0) (word : ℕ) (a : Alt) → NamesDisjuncts positions I → I a → StandsBefore (word + 1) a → StandsBefore word a ⊎ StandsIn word 0 (length (get_or positions word [])) a
-before_split positions I word AllNull names i s = inl tt
-before_split positions I word (At w number tl tr lk rk) names i s =
-    elim (cases_lt w word) [
-      | inl h ↦ inl h
-      | inr h ↦ (let e : w ≡ word = omega arith in inr (e, omega arith, subst (λ z. number < length (get_or positions z [])) e (names w number tl tr lk rk i)))
-    ]
+-- an alternative of a word
+abbrev pub OfWord : List (List Disjunct) → (Alt → Type 0) → ℕ → Alt → Type 0
+OfWord positions I word a = I a × StandsIn word 0 (length (get_or positions word [])) a
 
-before_later : (word : ℕ) (a : Alt) → StandsBefore word a → StandsBefore (word + 1) a
-before_later word AllNull s = tt
-before_later word (At w number tl tr lk rk) s = omega arith
+pub words_apart : (positions : List (List Disjunct)) (I : Alt → Type 0) → HaveOne (OfWord positions I)
+words_apart positions I v w AllNull (i, s) t = absurd s
+words_apart positions I v w (At u number tl tr lk rk) (i, s) (j, t) = sym s.0 ∙ t.0
 
-before_here : (word n : ℕ) (a : Alt) → StandsIn word 0 n a → StandsBefore (word + 1) a
-before_here word n AllNull s = tt
-before_here word n (At w number tl tr lk rk) s = let e = s.0 in omega arith
+-- all words, where some word is linked
+module _ (positions : List (List Disjunct)) (end : ℕ) (I : Alt → Type 0) (names : NamesDisjuncts positions end I) (some : I AllNull → ⊥) (word : ℕ) (past : end ≤ word) where
+  met : (a : Alt) → I a → Upto (OfWord positions I) word a
+  met AllNull i = absurd (some i)
+  met (At w number tl tr lk rk) i = let r = names w number tl tr lk rk i in let b = r.0 in (w, omega arith, (i, (refl, omega arith, r.1)))
 
-before_apart : (word n : ℕ) (a : Alt) → StandsBefore word a → StandsIn word 0 n a → ⊥
-before_apart word n AllNull s t = absurd t
-before_apart word n (At w number tl tr lk rk) s t = let e = t.0 in omega arith
-
--- one more word
-pub exactly_word : (positions : List (List Disjunct)) (I : Alt → Type 0) (word : ℕ) (a b : List Alt) → NamesDisjuncts positions I → AreExactly a (λ x. I x × StandsBefore word x) → AddsExactly a b (λ x. I x × StandsIn word 0 (length (get_or positions word [])) x)
-    → AreExactly b (λ x. I x × StandsBefore (word + 1) x)
-exactly_word positions I word a b names p q =
-    let n = length (get_or positions word []) in
-    exactly_then a b (λ x. I x × StandsBefore word x) (λ x. I x × StandsIn word 0 n x) (λ x. I x × StandsBefore (word + 1) x) p q (λ x s t. before_apart word n x s.1 t.1)
-    (λ x. (
-      λ h. elim h [ inl s ↦ (s.0, before_later word x s.1) | inr s ↦ (s.0, before_here word n x s.1) ],
-      λ (i, s). elim (before_split positions I word x names i s) [ inl t ↦ inl (i, t) | inr t ↦ inr (i, t) ],
-    ))
-
--- alternatives lie between two words
-abbrev pub LiesIn : ℕ → ℕ → (Alt → Type 0) → Type 0
-LiesIn from to I = (w number : ℕ) (tl tr : Option Joint) (lk rk : Option Key) → I (At w number tl tr lk rk) → (from ≤ w) × (w < to)
-
-pub region_lies : (positions : List (List Disjunct)) (lists : List (List Connector)) (k : Region) → LiesIn (k.left + 1) k.right (IsAltOfRegion positions lists k)
-region_lies positions lists k w number tl tr None rk i = absurd i
-region_lies positions lists k w number tl tr (Some lk) None i = absurd i
-region_lies positions lists k w number tl tr (Some lk) (Some rk) (c, i) = let a = i.cut.after in let b = i.cut.before in let e = i.place in (omega arith, omega arith)
-
-pub whole_lies : (positions : List (List Disjunct)) (lists : List (List Connector)) (nulls : ℕ) → LiesIn 0 (nulls + 1) (IsAltOfWhole positions lists nulls)
-whole_lies positions lists nulls w number None None None (Some rk) (c, i) = let a = i.first.enough in let e = i.place in (omega arith, omega arith)
-whole_lies positions lists nulls w number None None None None i = absurd i
-whole_lies positions lists nulls w number None None (Some lk) rk i = absurd i
-whole_lies positions lists nulls w number None (Some j) lk rk i = absurd i
-whole_lies positions lists nulls w number (Some j) tr lk rk i = absurd i
-
-pub before_all : (from to word : ℕ) (I : Alt → Type 0) → LiesIn from to I → to ≤ word → (a : Alt) → I a → StandsBefore word a
-before_all from to word I lies l AllNull i = tt
-before_all from to word I lies l (At w number tl tr lk rk) i = let b = lies w number tl tr lk rk i in let c = b.1 in omega arith
-
-pub all_words : (from to word : ℕ) (I : Alt → Type 0) (out : List Alt) → LiesIn from to I → to ≤ word → AreExactly out (λ x. I x × StandsBefore word x) → AreExactly out I
-all_words from to word I out lies l are = exactly_as out (λ x. I x × StandsBefore word x) I (λ x. (λ h. h.0, λ i. (i, before_all from to word I lies l x i))) are
-
-first_words : (from to : ℕ) (I : Alt → Type 0) → LiesIn from to I → (a : Alt) → I a → StandsBefore from a → AllNull ≡ a
-first_words from to I lies AllNull i s = refl
-first_words from to I lies (At w number tl tr lk rk) i s = let b = (lies w number tl tr lk rk i).0 in absurd (omega arith)
-
-pub start_none : (from to : ℕ) (I : Alt → Type 0) (out : List Alt) → LiesIn from to I → (I AllNull → ⊥) → out ≡ [] → AreExactly out (λ x. I x × StandsBefore from x)
-start_none from to I out lies n e =
-    let P : Alt → Type 0 = λ x. I x × StandsBefore from x in
-    subst (λ z. AreExactly z P) (sym e) (exactly_none P (λ x (i, s). n (subst I (sym (first_words from to I lies x i s)) i)))
+  pub words_all : (out : List Alt) → AddsExactly [] out (Upto (OfWord positions I) word) → AreExactly out I
+  words_all out x = exactly_as out (Upto (OfWord positions I) word) I (λ a. (λ (w, l, (i, s)). i, met a)) (from_none out (Upto (OfWord positions I) word) x)
 
 cases_eq : (m n : ℕ) → (m ≡ n) ⊎ (m ≢ n)
 cases_eq m n = elim (cases_lt m n) [ inl h ↦ inr (omega arith) | inr h ↦ elim (cases_lt n m) [ inl k ↦ inr (omega arith) | inr k ↦ inl (omega arith) ] ]
 
--- where a list is left to be joined, some word is linked
-pub gap_start : (positions : List (List Disjunct)) (lists : List (List Connector)) (gap : Gap) (out : List Alt) → AreListsOf positions lists → gap.llist ≤ length lists → gap.rlist ≤ length lists
-    → ((gap.llist ≡ 0) × (gap.rlist ≡ 0) → ⊥) → out ≡ [] → AreExactly out (λ a. IsAltOfRegion positions lists (region_of_gap lists gap) a × StandsBefore (gap.left + 1) a)
-gap_start positions lists gap out are l r some e =
-    let k = region_of_gap lists gap in
-    start_none (gap.left + 1) gap.right (IsAltOfRegion positions lists k) out (region_lies positions lists k)
-    (λ (a, b, c). some (apart positions lists are gap.llist 0 l (omega arith) a, apart positions lists are gap.rlist 0 r (omega arith) b)) e
+fold_small : (caps : List ℕ) (m : ℕ) → m < 256 → fold (λ n c. (n * 31 + c) % 256) m caps < 256
+fold_small [] m l = l
+fold_small (c ∷ caps) m l = fold_small caps ((m * 31 + c) % 256) (omega arith)
 
--- which disjuncts cut a region with a left list, and with none
+class_small : (cs : List Connector) → class_of cs < 256
+class_small cs = by (slice_get cs (length cs - 1))
+  where
+    by : (o : Option Connector) → class_at o < 256
+    by None = omega arith
+    by (Some c) = fold_small c.caps 0 (omega arith)
+
+-- which disjuncts cut a region with a left list
 pub led_left : (positions : List (List Disjunct)) (lists : List (List Connector)) (llist class : ℕ) (k : Region) → AreListsOf positions lists → llist ≤ length lists → llist ≢ 0 → class ≡ class_of (list_of lists llist) → k.llist ≡ list_of lists llist
     → Leads (record { side = Left; class = class }) positions k
 led_left positions lists llist class k are known some e l c cut =
     let n : k.llist ≢ [] = λ x. some (apart positions lists are llist 0 known (omega arith) (sym l ∙ x)) in
     sym (joint_class c.to_left k.llist c.disjunct.left c.lkey.llist c.lkey.rlist cut.at_left (cut.by_llist n)) ∙ ap class_of l ∙ sym e
 
--- up to the next disjunct of the class there is no alternative
-pub adds_skip : (positions : List (List Disjunct)) (lists : List (List Connector)) (gap : Gap) (word start next : ℕ) (out : List Alt) → Leads gap.lead positions (region_of_gap lists gap) → IsNextLed (record { positions = positions; lists = lists }) gap.lead word start next
-    → AddsIn (record { positions = positions; lists = lists }) gap word start next out out
-adds_skip positions lists gap word start next out led is =
-    adds_none out (λ a. IsAltOfRegion positions lists (region_of_gap lists gap) a × StandsIn word start next a) (λ a (i, s). none_at a i s)
+-- and with none
+led_right : (positions : List (List Disjunct)) (class : ℕ) (k : Region) → k.llist ≡ [] → class ≡ class_of k.rlist → Leads (record { side = Right; class = class }) positions k
+led_right positions class k none e c cut = joint_class c.to_right c.disjunct.right k.rlist c.rkey.llist c.rkey.rlist cut.at_right (cut.by_rlist none) ∙ sym e
+
+-- a valid key of a region that has no gap has two empty lists
+pub no_gap : (n : Numbering) (left right llist rlist nulls : ℕ) → AreListsOf n.positions n.lists → IsValidKey n.positions n.lists (Between left right llist rlist nulls)
+    → ((gap : Gap) → IsGapOf n (Between left right llist rlist nulls) gap → ⊥) → (llist ≡ 0) × (rlist ≡ 0)
+no_gap n left right llist rlist nulls are v none =
+    elim (cases_eq llist 0) [
+      | inr some ↦ absurd (none (with (left_lead n llist)) (is (left_lead n llist) (class_small (list_of n.lists llist))
+          (led_left n.positions n.lists llist (class_of (list_of n.lists llist)) k are v.0 some refl refl) (λ h. some h.0) (λ h. refl) (λ z. absurd (some z))))
+      | inl z ↦ elim (cases_eq rlist 0) [
+        | inl y ↦ (z, y)
+        | inr some ↦ absurd (none (with (right_lead n rlist)) (is (right_lead n rlist) (class_small (list_of n.lists rlist))
+            (led_right n.positions (class_of (list_of n.lists rlist)) k (ap (list_of n.lists) z) refl) (λ h. some h.1) (λ h. absurd (h z)) (λ h. refl)))
+      ]
+    ]
   where
-    none_at : (a : Alt) → IsAltOfRegion positions lists (region_of_gap lists gap) a → StandsIn word start next a → ⊥
-    none_at AllNull i s = absurd s
-    none_at (At w number tl tr None rk) i s = absurd i
-    none_at (At w number tl tr (Some lk) None) i s = absurd i
-    none_at (At w number tl tr (Some lk) (Some rk)) (c, i) s = is.others number c.disjunct s.1 s.2 (subst (λ z. IsDisjunctAt positions z number c.disjunct) s.0 i.chosen) (led c i.cut)
+    k : Region
+    k = region_of_numbers n.lists left right llist rlist nulls
+
+    with : Lead → Gap
+    with lead = record { left = left; right = right; llist = llist; rlist = rlist; nulls = nulls; lead = lead }
+
+    is : (lead : Lead) → lead.class < 256 → Leads lead n.positions k → ((llist ≡ 0) × (rlist ≡ 0) → ⊥) → (llist ≢ 0 → lead ≡ left_lead n llist) → (llist ≡ 0 → lead ≡ right_lead n rlist) → IsGapOf n (Between left right llist rlist nulls) (with lead)
+    is lead small led some l r = record {
+      key_is = refl;
+      known = record { llist = v.0; rlist = v.1; small = small; led = led };
+      ends = v.2.ends;
+      within = v.2.within;
+      some = some;
+      few = v.2.few;
+      lead = l;
+      rlead = r;
+    }
+
+-- a region with a list links some word
+pub gap_links : (n : Numbering) (key : Key) (gap : Gap) → AreListsOf n.positions n.lists → IsGapOf n key gap → IsAltOfRegion n.positions n.lists (region_of_gap n.lists gap) AllNull → ⊥
+gap_links n key gap are is (a, b, c) =
+    is.some (apart n.positions n.lists are gap.llist 0 is.known.llist (omega arith) a, apart n.positions n.lists are gap.rlist 0 is.known.rlist (omega arith) b)
+
+-- up to the next disjunct of the class there is no alternative
+pub none_led : (numbers : Numbering) (gap : Gap) (word start next : ℕ) (a : Alt) → Leads gap.lead numbers.positions (region_of_gap numbers.lists gap) → IsNextLed numbers gap.lead word start next
+    → IsAltOfRegion numbers.positions numbers.lists (region_of_gap numbers.lists gap) a → StandsIn word start next a → ⊥
+none_led numbers gap word start next AllNull led is i s = absurd s
+none_led numbers gap word start next (At w number tl tr None rk) led is i s = absurd i
+none_led numbers gap word start next (At w number tl tr (Some lk) None) led is i s = absurd i
+none_led numbers gap word start next (At w number tl tr (Some lk) (Some rk)) led is (c, i) s =
+    is.others number c.disjunct s.1 s.2 (subst (λ z. IsDisjunctAt numbers.positions z number c.disjunct) s.0 i.chosen) (led c i.cut)
 
 -- the first disjunct of a run, and one more
 pub left_first : (numbers : Numbering) (lead : Lead) (word number : ℕ) (s : Sides) → ((d : Disjunct) → IsDisjunctAt numbers.positions word number d → HasSides numbers.lists d s) → HaveLeft numbers lead word s.left number (number + 1)
@@ -228,14 +178,27 @@ run_group numbers gap word from to s after before l first listed sides same =
     let d = some_number numbers.positions word from l in
     record { after = after; before = before; listed = listed.within; known = (sides d.0 d.1).left.known; left = same; first = first }
 
--- the whole sentence with all words unlinked
-all_unlinked : (positions : List (List Disjunct)) (lists : List (List Connector)) (nulls : ℕ) → nulls ≡ length positions → (a : Alt) → IsAltOfWhole positions lists nulls a → AllNull ≡ a
-all_unlinked positions lists nulls e AllNull i = refl
-all_unlinked positions lists nulls e (At w number None None None (Some rk)) (c, i) = let a = i.first.before in let b = i.first.few in absurd (omega arith)
-all_unlinked positions lists nulls e (At w number None None None None) i = absurd i
-all_unlinked positions lists nulls e (At w number None None (Some lk) rk) i = absurd i
-all_unlinked positions lists nulls e (At w number None (Some j) lk rk) i = absurd i
-all_unlinked positions lists nulls e (At w number (Some j) tr lk rk) i = absurd i
+-- an alternative of the whole sentence that begins with a disjunct of a word
+abbrev pub OfFirst : Numbering → ℕ → ℕ → ℕ → Alt → Type 0
+OfFirst numbers nulls word number a = IsAltOfWhole numbers.positions numbers.lists nulls a × StandsIn word number (number + 1) a
+
+pub firsts_apart : (numbers : Numbering) (nulls word : ℕ) → HaveOne (OfFirst numbers nulls word)
+firsts_apart numbers nulls word i j AllNull (is, s) t = absurd s
+firsts_apart numbers nulls word i j (At w number tl tr lk rk) (is, s) (is', t) = let a = s.1 in let b = s.2 in let c = t.1 in let d = t.2 in omega arith
+
+pub firsts_all : (numbers : Numbering) (nulls word number : ℕ) (old new : List Alt) → length (get_or numbers.positions word []) ≡ number → AddsExactly old new (Upto (OfFirst numbers nulls word) number)
+    → AddsFirst numbers nulls word 0 (length (get_or numbers.positions word [])) old new
+firsts_all numbers nulls word number old new e x =
+    let count = length (get_or numbers.positions word []) in
+    adds_as old new (Upto (OfFirst numbers nulls word) number) (λ a. IsAltOfWhole numbers.positions numbers.lists nulls a × StandsIn word 0 count a) (λ a. (there a, back a)) x
+  where
+    there : (a : Alt) → Upto (OfFirst numbers nulls word) number a → IsAltOfWhole numbers.positions numbers.lists nulls a × StandsIn word 0 (length (get_or numbers.positions word [])) a
+    there AllNull (j, l, (is, s)) = absurd s
+    there (At w i tl tr lk rk) (j, l, (is, s)) = let b = s.2 in (is, (s.0, omega arith, omega arith))
+
+    back : (a : Alt) → IsAltOfWhole numbers.positions numbers.lists nulls a × StandsIn word 0 (length (get_or numbers.positions word [])) a → Upto (OfFirst numbers nulls word) number a
+    back AllNull (is, s) = absurd s
+    back (At w i tl tr lk rk) (is, s) = let b = s.2 in (i, omega arith, (is, (s.0, omega arith, omega arith)))
 
 abbrev pub first_of : ℕ → ℕ → ℕ → ℕ → ℕ → Alt
 first_of word number words right nulls = At word number None None None (Some (Between word words right 0 nulls))

@@ -1,12 +1,13 @@
 -- Lists that have the values of a predicate, each once.
-use Rattle.std.proofs.Common.{◌≡◌, ◌↔◌, ℕ, zero, suc, ◌+◌, ◌<◌, ◌≤◌, List, [], ◌∷◌, ◌++◌, length, map, refl, sym, ◌∙◌, subst, Some, ◌⊎◌, inl, inr, Contains, arith, append-nil, Result, Ok, Err, OnOk, IfOk, Bool, cond}
-use Rattle.std.specs.List.{flat_map, range_with_len, slice_get}
+use Rattle.std.proofs.Common.{◌≡◌, ◌↔◌, ℕ, zero, suc, ◌+◌, ◌<◌, ◌≤◌, List, [], ◌∷◌, ◌++◌, length, map, get_or, refl, sym, ◌∙◌, ap, subst, Some, ◌⊎◌, inl, inr, Contains, arith, append_assoc, append-nil, Result, Ok, Err, OnOk, IfOk, Bool, cond}
+use Rattle.std.specs.List.{flat_map, slice_get}
+use Rattle.std.proofs.lemmas.Bool.{cases_lt}
 use Rattle.std.proofs.lemmas.List.Elements.{Contains-append_left, Contains-append_right, Contains-append_cases}
-use Rattle.std.proofs.lemmas.Option.{slice_get_within}
+use Rattle.std.proofs.lemmas.Option.{same_Some, slice_get_within, slice_get-get_or}
 use Rattle.lg_region.specs.Fronts.{AreOnce}
 use Rattle.lg_region.specs.Ways.{AreExactly, AddsExactly}
 use Rattle.lg_base.proofs.Elements.{contains_here, contains_none, contains_cases, flat_in, flat_out, map_in, map_out}
-use Rattle.lg_region.proofs.Numbers.{contains_get, get_contains, range_in, range_out}
+use Rattle.lg_region.proofs.Numbers.{contains_get, get_contains}
 
 pub append_cases : {X : Type 0} (xs ys : List X) (i : ℕ) (x : X) → slice_get (xs ++ ys) i ≡ Some x → (slice_get xs i ≡ Some x) ⊎ ((j : ℕ) × (i ≡ length xs + j) × (slice_get ys j ≡ Some x))
 append_cases [] ys i x e = inr (i, omega arith, e)
@@ -55,10 +56,6 @@ once_flat g (x ∷ xs) o each apart =
     once_append (g x) (flat_map g xs) (each x) (once_flat g xs (once_tail x xs o) each apart)
     (λ z c d. let r = flat_out g xs z d in once_head x xs o (subst (λ v. Contains xs v) (sym (apart x r.0 z c r.2)) r.1))
 
-pub once_range : (a n : ℕ) → AreOnce (range_with_len a n)
-once_range a zero = once_none
-once_range a (suc n) = once_cons a (range_with_len (a + 1) n) (once_range (a + 1) n) (λ c. let r = range_out (a + 1) n a c in let b = r.0 in omega arith)
-
 pub exactly_same : {X : Type 0} {P : X → Type 0} (xs ys : List X) → xs ≡ ys → AreExactly ys P → AreExactly xs P
 exactly_same {X} {P} xs ys e h = subst (λ z. AreExactly z P) (sym e) h
 
@@ -95,11 +92,62 @@ exactly_product f xs ys P Q a b inj = record {
       (λ x x' z c d. let r = map_out (f x) ys z c in let s = map_out (f x') ys z d in (inj x x' r.0 s.0 (r.2 ∙ sym s.2)).0);
 }
 
-pub exactly_range : (a n : ℕ) → AreExactly (range_with_len a n) (λ i. (a ≤ i) × (i < a + n))
-exactly_range a n = record { each = λ i. (range_out a n i, λ h. range_in a n i h.0 h.1); once = once_range a n }
-
 pub adds_none : {X : Type 0} (xs : List X) (P : X → Type 0) → ((x : X) → P x → ⊥) → AddsExactly xs xs P
 adds_none xs P n = record { more = []; added = sym (append-nil xs); exactly = exactly_none P n }
+
+pub adds_as : {X : Type 0} (a b : List X) (P Q : X → Type 0) → ((x : X) → P x ↔ Q x) → AddsExactly a b P → AddsExactly a b Q
+adds_as a b P Q e p = record { more = p.more; added = p.added; exactly = exactly_as p.more P Q e p.exactly }
+
+adds_then : {X : Type 0} (a b c : List X) (P Q R : X → Type 0) → AddsExactly a b P → AddsExactly b c Q → ((x : X) → P x → Q x → ⊥) → ((x : X) → (P x ⊎ Q x) ↔ R x) → AddsExactly a c R
+adds_then a b c P Q R p q d e = record {
+  more = p.more ++ q.more;
+  added = q.added ∙ ap (λ z. z ++ q.more) p.added ∙ append_assoc a p.more q.more;
+  exactly = exactly_as (p.more ++ q.more) (λ x. P x ⊎ Q x) R e (exactly_append p.more q.more P Q p.exactly q.exactly d);
+}
+
+-- what was added to nothing
+pub from_none : {X : Type 0} (xs : List X) (P : X → Type 0) → AddsExactly [] xs P → AreExactly xs P
+from_none xs P x = subst (λ z. AreExactly z P) (sym x.added) x.exactly
+
+-- a value has one of the first predicates
+abbrev pub Upto : {X : Type 0} → (ℕ → X → Type 0) → ℕ → X → Type 0
+Upto R i x = (j : ℕ) × (j < i) × R j x
+
+-- no value has two predicates
+abbrev pub HaveOne : {X : Type 0} → (ℕ → X → Type 0) → Type 0
+HaveOne {X} R = (i j : ℕ) (x : X) → R i x → R j x → i ≡ j
+
+-- the values of one predicate more
+module _ {X : Type 0} (R : ℕ → X → Type 0) where
+  pub adds_next : (i : ℕ) (a b c : List X) → HaveOne R → AddsExactly a b (Upto R i) → AddsExactly b c (R i) → AddsExactly a c (Upto R (i + 1))
+  adds_next i a b c one p q =
+      adds_then a b c (Upto R i) (R i) (Upto R (i + 1)) p q
+      (λ x (j, l, r) s. let e = one j i x r s in omega arith)
+      (λ x. (
+        λ h. elim h [ inl (j, l, r) ↦ (j, omega arith, r) | inr s ↦ (i, omega arith, s) ],
+        λ (j, l, r). elim (cases_lt j i) [ inl h ↦ inl (j, h, r) | inr h ↦ (let e : j ≡ i = omega arith in inr (subst (λ z. R z x) e r)) ],
+      ))
+
+-- what the value at a place of a list has
+abbrev pub OfPlace : {X Y : Type 0} → (X → Y → Type 0) → List X → ℕ → Y → Type 0
+OfPlace {X} R xs i y = (x : X) × (slice_get xs i ≡ Some x) × R x y
+
+-- the values of one element more, and of all
+module _ {X Y : Type 0} (R : X → Y → Type 0) (xs : List X) where
+  pub adds_at : (none : X) (i : ℕ) (a b c : List Y) → HaveOne (OfPlace R xs) → i < length xs → AddsExactly a b (Upto (OfPlace R xs) i) → AddsExactly b c (R (get_or xs i none)) → AddsExactly a c (Upto (OfPlace R xs) (i + 1))
+  adds_at none i a b c one l p q =
+      let x = get_or xs i none in
+      let at = slice_get-get_or xs i none l in
+      adds_next (OfPlace R xs) i a b c one p
+      (adds_as b c (R x) (OfPlace R xs i) (λ y. (λ r. (x, at, r), λ (z, at', r). subst (λ v. R v y) (same_Some z x (sym at' ∙ at)) r)) q)
+
+  pub adds_all : (i : ℕ) (a b : List Y) (P : Y → Type 0) → length xs ≤ i → ((y : Y) → ((x : X) × Contains xs x × R x y) ↔ P y) → AddsExactly a b (Upto (OfPlace R xs) i) → AddsExactly a b P
+  adds_all i a b P l e p =
+      adds_as a b (Upto (OfPlace R xs) i) P
+      (λ y. (
+        λ (j, m, (x, at, r)). (e y).0 (x, get_contains xs j x at, r),
+        λ h. let (x, c, r) = (e y).1 h in let g = contains_get xs x c in let k = g.1 in (g.0, omega arith, (x, g.2, r)),
+      )) p
 
 pub on_ok : {T E : Type 0} (r : Result T E) {P Q : Type 0} → OnOk r P → (P → Q) → OnOk r Q
 on_ok (Ok x) p f = f p

@@ -1,6 +1,6 @@
 -- The alternatives of a region at one word, from the ways on of both sides.
-use Rattle.std.proofs.Common.{◌≡◌, ◌≢◌, ℕ, zero, suc, ◌+◌, ◌-◌, ◌<◌, ◌≤◌, min, Bool, false, not, ◌==◌, List, [], ◌∷◌, ◌++◌, length, map, get_or, refl, sym, ◌∙◌, ap, subst, Option, Some, None, IsSome, ◌⊎◌, inl, inr, Contains, arith, append-nil}
-use Rattle.std.specs.List.{flat_map, range_with_len, slice_get}
+use Rattle.std.proofs.Common.{◌≡◌, ◌≢◌, ℕ, zero, suc, ◌+◌, ◌-◌, ◌<◌, ◌≤◌, Bool, false, not, ◌==◌, List, [], ◌∷◌, ◌++◌, length, map, get_or, refl, sym, ◌∙◌, ap, subst, Option, Some, None, IsSome, ◌⊎◌, inl, inr, Contains, arith}
+use Rattle.std.specs.List.{slice_get}
 use Rattle.std.proofs.lemmas.Bool.{cases_lt}
 use Rattle.std.proofs.lemmas.Bool.Decides.{nat_tests}
 use Rattle.std.proofs.lemmas.Option.{same_Some}
@@ -11,7 +11,7 @@ use Rattle.lg_region.specs.Fronts.{AreListsOf, Numbering, list_of}
 use Rattle.lg_region.specs.Keys.{region_of_numbers, IsDisjunctAt, IsSplitOf, IsAltOfRegion}
 use Rattle.lg_region.specs.Numbered.{HasSides}
 use Rattle.lg_region.specs.Ways.{AreExactly, HasWay, IsWayOf}
-use Rattle.lg_region.specs.Groups.{region_of_gap, IsLed, Leads, IsNextLed, IsGroup, IsRightOf, right_of, split_of, splits_with, StandsIn, AddsIn}
+use Rattle.lg_region.specs.Groups.{region_of_gap, IsLed, Leads, IsNextLed, IsGroup, IsRightOf, right_of, split_of, StandsIn}
 use Rattle.lg_region.specs.Chains.{class_of, list_on, IsNext}
 use Rattle.lg_region.specs.Openings.{HasRight}
 use Rattle.lg_region.specs.declared.group.Lead.{Lead}
@@ -24,9 +24,9 @@ use Rattle.lg_region.specs.declared.ways.Way.{Way}
 use Rattle.lg_region.specs.declared.group.Gap.{Gap}
 use Rattle.lg_region.specs.declared.group.Group.{Group}
 use Rattle.lg_region.specs.declared.group.Right.{Right}
-use Rattle.lg_base.proofs.Elements.{contains_none, map_in, map_out, flat_in, flat_out}
+use Rattle.lg_base.proofs.Elements.{contains_none, map_in, map_out}
 use Rattle.lg_region.proofs.Numbers.{apart, get_contains}
-use Rattle.lg_region.proofs.Once.{once_map, once_flat, exactly_as, exactly_none, exactly_append, exactly_product, exactly_range, adds_none}
+use Rattle.lg_region.proofs.Once.{once_map, exactly_as, exactly_none, exactly_append}
 
 -- a joint of lists that are the same
 cut_as : (o o' : Option Joint) (a a' b b' c c' d d' : List Connector) → o ≡ o' → a ≡ a' → b ≡ b' → c ≡ c' → d ≡ d' → IsCutAt o a b c d → IsCutAt o' a' b' c' d'
@@ -163,17 +163,6 @@ none_all numbers gap group number l none (r, is) = contains_none r (((rights_all
 
 pub right_known : (numbers : Numbering) (word number : ℕ) (s : Sides) → number < length (get_or numbers.positions word []) → ((d : Disjunct) → IsDisjunctAt numbers.positions word number d → HasSides numbers.lists d s) → s.right ≤ length numbers.lists
 right_known numbers word number s l sides = let d = some_number numbers.positions word number l in (sides d.0 d.1).right.known
-
--- the values that a list of lists gives, each from one place
-exactly_flat : {X Y : Type 0} (g : X → List Y) (xs : List X) (P : X → Type 0) (Q : X → Y → Type 0) → AreExactly xs P → ((x : X) → AreExactly (g x) (Q x)) → ((x x' : X) (y : Y) → Q x y → Q x' y → x ≡ x')
-    → AreExactly (flat_map g xs) (λ y. (x : X) × P x × Q x y)
-exactly_flat g xs P Q a b one = record {
-  each = λ y. (
-    λ c. let r = flat_out g xs y c in (r.0, (a.each r.0).0 r.1, ((b r.0).each y).0 r.2),
-    λ (x, p, q). flat_in g xs x y ((a.each x).1 p) (((b x).each y).1 q),
-  );
-  once = once_flat g xs a.once (λ x. (b x).once) (λ x x' y c d. one x x' y (((b x).each y).0 c) (((b x').each y).0 d));
-}
 
 -- what an alternative tells of how it was made
 pub way_same : (w w' : Way) → w.joint ≡ w'.joint → w.near ≡ w'.near → w.far ≡ w'.far → w ≡ w'
@@ -312,39 +301,3 @@ alt_made positions lists gap group may (At w number tl tr (Some (Between l' r' l
 alt_made positions lists gap group may (At w number tl tr (Some (Between l' r' ll rl n)) (Some (Between l2 r2 ll2 rl2 n2))) is m are known led (c, i) s =
     let x = made_of positions lists gap group may l' r' ll rl n l2 r2 ll2 rl2 n2 w number tl tr c is m are known led i s.0 s.1 s.2 in
     (n, x.0, x.1)
-
--- exactly the alternatives of a region that stand in a group
-pub group_is : (positions : List (List Disjunct)) (lists : List (List Connector)) (gap : Gap) (group : Group) (may : Bool) (lefts : List Way) (rights : List Right) (least most : ℕ) → IsGroup (record { positions = positions; lists = lists }) gap group → may ≡ (gap.llist == 0) → AreListsOf positions lists
-    → gap.llist ≤ length lists → Leads gap.lead positions (region_of_gap lists gap) → AreExactly lefts (IsWayOf lists gap.llist group.left may) → AreExactly rights (IsRightOf (record { positions = positions; lists = lists }) gap group)
-    → least ≡ gap.nulls - (gap.right - group.word - 1) → most ≡ min gap.nulls (group.word - gap.left - 1)
-    → AreExactly (flat_map (splits_with gap group.word lefts rights) (range_with_len least (most + 1 - least))) (λ a. IsAltOfRegion positions lists (region_of_gap lists gap) a × StandsIn group.word group.from group.to a)
-group_is positions lists gap group may lefts rights least most is m are known led x y el em =
-    let word = group.word in
-    let numbers : Numbering = record { positions = positions; lists = lists } in
-    let count = most + 1 - least in
-    let after = is.after in
-    let before = is.before in
-    let P : ℕ → Type 0 = λ i. (least ≤ i) × (i < least + count) in
-    let Q : ℕ → Alt → Type 0 = λ n a. Made numbers gap group may n a in
-    let each = λ (n : ℕ). exactly_product (split_of gap word n) lefts rights (IsWayOf lists gap.llist group.left may) (IsRightOf numbers gap group) x y (λ l l' r r' e. let p = split_parts gap word n n l l' r r' e in (p.1, p.2)) in
-    exactly_as (flat_map (splits_with gap word lefts rights) (range_with_len least count)) (λ a. (n : ℕ) × P n × Q n a) (λ a. IsAltOfRegion positions lists (region_of_gap lists gap) a × StandsIn word group.from group.to a)
-    (λ a. (
-      λ (n, p, (l, r, il, ir, e)). subst (λ z. IsAltOfRegion positions lists (region_of_gap lists gap) z × StandsIn word group.from group.to z) e
-          (let b = p.0 in let t = p.1 in made_is positions lists gap group may n l r is m are known (omega arith, omega arith, omega arith) il ir),
-      λ (i, s). let q = alt_made positions lists gap group may a is m are known led i s in let h = q.1 in let u = h.0 in let v = h.1 in let w = h.2 in (q.0, (omega arith, omega arith), q.2),
-    ))
-    (exactly_flat (splits_with gap word lefts rights) (range_with_len least count) P Q (exactly_range least count) each
-    (λ n n' a (l, r, il, ir, e) (l', r', il', ir', e'). (split_parts gap word n n' l l' r r' (e ∙ sym e')).0))
-
--- where the left list has no way on there is none
-pub group_none : (positions : List (List Disjunct)) (lists : List (List Connector)) (gap : Gap) (group : Group) (may : Bool) (lefts : List Way) (out : List Alt) → IsGroup (record { positions = positions; lists = lists }) gap group → may ≡ (gap.llist == 0) → AreListsOf positions lists
-    → gap.llist ≤ length lists → Leads gap.lead positions (region_of_gap lists gap) → AreExactly lefts (IsWayOf lists gap.llist group.left may) → lefts ≡ [] → AddsIn (record { positions = positions; lists = lists }) gap group.word group.from group.to out out
-group_none positions lists gap group may lefts out is m are known led x e =
-    adds_none out (λ a. IsAltOfRegion positions lists (region_of_gap lists gap) a × StandsIn group.word group.from group.to a)
-    (λ a (i, s). let q = alt_made positions lists gap group may a is m are known led i s in let c = (x.each q.2.0).1 q.2.2 in contains_none q.2.0 (subst (λ z. Contains z q.2.0) e c))
-
--- nothing is left of a range
-pub range_done : {X : Type 0} (f : ℕ → List X) (out all : List X) (n to : ℕ) → to ≤ n → out ++ flat_map f (range_with_len n (to - n)) ≡ all → out ≡ all
-range_done f out all n to l e =
-    let z : to - n ≡ 0 = omega arith in
-    sym (append-nil out) ∙ ap (λ k. out ++ flat_map f (range_with_len n k)) (sym z) ∙ e

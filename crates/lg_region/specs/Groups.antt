@@ -1,6 +1,5 @@
 -- Alternatives of a region by groups of disjuncts of one word that have the same left list.
-use Rattle.std.specs.Prelude.{◌≡◌, ℕ, ◌-◌, ◌<◌, ◌≤◌, List, [], length, map, Some, IsSome, slice_index_or}
-use Rattle.std.specs.List.{flat_map}
+use Rattle.std.specs.Prelude.{◌≡◌, ℕ, ◌-◌, ◌<◌, ◌≤◌, List, [], length, Some, IsSome, slice_index_or}
 use Rattle.lg_gram.specs.Connectors.{Connector}
 use Rattle.lg_gram.specs.declared.disjunct.Disjunct.{Disjunct}
 use Rattle.lg_region.specs.Parts.{Region}
@@ -87,9 +86,6 @@ abbrev pub split_of : Gap → ℕ → ℕ → Way → OnRight → Alt
 split_of gap word nulls left right =
     At word right.disjunct left.joint right.way.joint
     (Some (Between gap.left word left.near left.far nulls)) (Some (Between word gap.right right.way.near right.way.far (gap.nulls - nulls)))
-
-abbrev pub splits_with : Gap → ℕ → List Way → List OnRight → ℕ → List Alt
-splits_with gap word lefts rights nulls = flat_map (λ left. map (split_of gap word nulls left) rights) lefts
 
 -- where an alternative stands: at this word, with one of these disjuncts
 abbrev pub StandsIn : ℕ → ℕ → ℕ → Alt → Type 0

@@ -1,17 +1,19 @@
 //! The alternatives of a key.
-ghost use Rattle.std.specs.Prelude.{◌≡◌, ◌≢◌, ◌↔◌, ◌∷◌, ◌+◌, ◌-◌, ◌<◌, ◌≤◌, ◌^◌, suc, [], length, slice_index_or, IfOk, IsTrue, OnOk, Contains};
-ghost use Rattle.lg_region.specs.Fronts.{AreOnce, list_of};
-ghost use Rattle.lg_region.specs.Keys.{IsValidKey, IsAltOf, IsAltOfRegion, IsAltOfWhole};
+ghost use Rattle.std.specs.Prelude.{◌≡◌, ◌↔◌, ◌+◌, ◌<◌, ◌≤◌, ◌^◌, List, [], length, slice_index_or, IfOk, OnOk, Contains};
+ghost use Rattle.lg_gram.specs.Connectors.{Connector};
+ghost use Rattle.lg_gram.specs.declared.disjunct.Disjunct.{Disjunct};
+ghost use Rattle.lg_region.specs.Fronts.{AreOnce};
+ghost use Rattle.lg_region.specs.Keys.{IsValidKey, IsAltOf, IsAltOfRegion, IsAltOfWhole, region_of_numbers};
 ghost use Rattle.lg_region.specs.Ways.{AreExactly, AddsExactly};
-ghost use Rattle.lg_region.specs.Groups.{AddsIn, AddsFirst, HaveLeft, IsGroup, IsKnownGap, IsNextLed, Leads, left_lead, region_of_gap, right_lead};
-ghost use Rattle.lg_region.specs.Parts.{Region};
+ghost use Rattle.lg_region.specs.Groups.{AddsIn, AddsFirst, IsGroup, IsKnownGap, IsRightOf, region_of_gap};
+ghost use Rattle.lg_region.specs.Openings.{IsGapOf, IsIn, LeavesLeft};
 ghost use Rattle.lg_region.specs.declared.alternative.Alt.{Alt};
 
 use crate::alternative::{Alt, Alts};
-use crate::chains::Side;
-use crate::group::{Gap, Group, Lead, push_group};
+use crate::group::{Gap, Group, Right, rights};
 use crate::key::Key;
 use crate::lists::Lists;
+use crate::opening::{beginnings, gap_of, groups_at, push_ended};
 use lg_base::{NoMemory, Steps};
 use std::alloc::Global;
 
@@ -41,86 +43,30 @@ fn alternatives(alloc: Global, lists: &Lists<'_>, key: Key) -> Result<Vec<Alt>, 
     requires { IsValidKey lists.now.positions lists.now.lists key }
     ensures { IfOk result (λ items. AreExactly items.items (IsAltOf lists.entry.now.positions lists.entry.now.lists key)) }
 {
+    lists.are_numbered();
+    if let Some(gap) = gap_of(lists, key) {
+        return of_gap(alloc, lists, &gap);
+    }
     match key {
         Key::Whole { nulls } => of_whole(alloc, lists, nulls),
         Key::Region {
             left,
             right,
-            llist,
-            rlist,
             nulls,
-        } => {
-            let gap = Gap {
-                left,
-                right,
-                llist,
-                rlist,
-                nulls,
-                lead: lead_of(lists, llist, rlist),
-            };
-            of_gap(alloc, lists, &gap)
-        }
+            ..
+        } => of_empty_gap(alloc, left, right, nulls),
     }
 }
 
-// Which disjuncts can cut a region with these lists: those that can be joined with its left list, or, where that is empty,
-// with its right one.
-pub(crate) fn lead_of(lists: &Lists<'_>, llist: u32, rlist: u32) -> Lead
-    requires llist { llist ≤ length lists.now.lists }
-    requires rlist { rlist ≤ length lists.now.lists }
-    ensures small { result.class < 256 }
-    ensures led { (k : Region) → k.llist ≡ list_of lists.entry.now.lists llist → k.rlist ≡ list_of lists.entry.now.lists rlist → Leads result lists.entry.now.positions k }
-    ensures left { llist ≢ 0 → result ≡ left_lead lists.entry.now llist }
-    ensures right { llist ≡ 0 → result ≡ right_lead lists.entry.now rlist }
-{
-    lists.are_numbered();
-    if llist == 0 {
-        Lead {
-            side: Side::Right,
-            class: lists.class(rlist),
-        }
-    } else {
-        Lead {
-            side: Side::Left,
-            class: lists.class(llist),
-        }
-    }
-}
-
-// The alternatives of a region.
+// The alternatives of a region with a list.
 fn of_gap(alloc: Global, lists: &Lists<'_>, gap: &Gap) -> Result<Vec<Alt>, NoMemory>
-    requires known { IsKnownGap lists.now gap.now }
-    requires ends { gap.now.left < gap.now.right }
-    requires within { gap.now.right ≤ length lists.now.positions }
+    requires { (key : _) × IsGapOf lists.now key gap.now }
     ensures { IfOk result (λ items. AreExactly items.items (IsAltOfRegion lists.entry.now.positions lists.entry.now.lists (region_of_gap lists.entry.now.lists gap.now))) }
 {
     lists.are_numbered();
-    if has_no_list(gap) {
-        return of_empty_gap(alloc, gap);
-    }
     let mut out = Vec::new(alloc);
     for word in gap.left + 1..gap.right {
         push_word(alloc, lists, gap, word, &mut out)?;
-    }
-    Ok(out)
-}
-
-// Whether nothing is left to be joined at either end.
-fn has_no_list(gap: &Gap) -> bool
-    ensures { IsTrue result ↔ ((gap.now.llist ≡ 0) × (gap.now.rlist ≡ 0)) }
-{
-    gap.llist == 0 && gap.rlist == 0
-}
-
-// Between two empty lists nothing is linked.
-fn of_empty_gap(alloc: Global, gap: &Gap) -> Result<Vec<Alt>, NoMemory>
-    requires { gap.now.left < gap.now.right }
-    ensures full { IfOk result (λ items. gap.now.nulls ≡ gap.now.right - suc gap.now.left → items.items ≡ Alt.AllNull ∷ []) }
-    ensures short { IfOk result (λ items. gap.now.nulls ≢ gap.now.right - suc gap.now.left → items.items ≡ []) }
-{
-    let mut out = Vec::new(alloc);
-    if gap.nulls == gap.right - gap.left - 1 {
-        out.push(Alt::AllNull)?;
     }
     Ok(out)
 }
@@ -133,65 +79,74 @@ fn push_word(
     word: u32,
     out: &mut Vec<Alt>,
 ) -> Result<(), NoMemory>
-    requires known { IsKnownGap lists.now gap.now }
+    requires gap { (key : _) × IsGapOf lists.now key gap.now }
     requires after { gap.now.left < word }
     requires before { word < gap.now.right }
-    requires within { gap.now.right ≤ length lists.now.positions }
     ensures { OnOk result (AddsIn lists.entry.now gap.now word 0 (length (slice_index_or lists.entry.now.positions word [])) out.old.items out.new.items) }
 {
-    let count = lists.count(word);
-    let mut from = lists.first(gap.lead.side, gap.lead.class, word);
-    while from < count {
-        let group = group_at(lists, gap, word, from);
-        push_group(alloc, lists, gap, &group, out)?;
-        from = group.to;
+    let found = groups_at(alloc, lists, gap, word)?;
+    let groups = found.as_slice();
+    for group in groups {
+        push_group(alloc, lists, gap, group, out)?;
     }
     Ok(())
 }
 
-// The disjuncts of a word from this one on that have its left list where they have the class.
-pub(crate) fn group_at(lists: &Lists<'_>, gap: &Gap, word: u32, from: u32) -> Group
-    requires after { gap.now.left < word }
-    requires before { word < gap.now.right }
-    requires within { word < length lists.now.positions }
-    requires listed { from < length (slice_index_or lists.now.positions word []) }
-    requires led { IsNextLed lists.now gap.now.lead word from from }
-    ensures word { result.word ≡ word }
-    ensures from { result.from ≡ from }
-    ensures later { from < result.to }
-    ensures group { IsGroup lists.entry.now gap.now result }
-    ensures led { IsNextLed lists.entry.now gap.now.lead word result.to result.to }
+// Adds those of a group.
+fn push_group(
+    alloc: Global,
+    lists: &Lists<'_>,
+    gap: &Gap,
+    group: &Group,
+    out: &mut Vec<Alt>,
+) -> Result<(), NoMemory>
+    requires gap { (key : _) × IsGapOf lists.now key gap.now }
+    requires group { IsGroup lists.now gap.now group.now }
+    ensures { OnOk result (AddsIn lists.entry.now gap.now group.now.word group.now.from group.now.to out.old.items out.new.items) }
 {
-    let left = lists.sides(word, from).left;
-    let to = run_end(lists, gap.lead, word, from, left);
-    Group {
-        word,
-        left,
-        from,
-        to,
+    lists.are_numbered();
+    let found = rights(alloc, lists, gap, group)?;
+    let rights = found.as_slice();
+    for nulls in 0..gap.nulls + 1 {
+        push_level(alloc, lists, gap, group, nulls, rights, out)?;
     }
+    Ok(())
 }
 
-// Up to which number the disjuncts of a word that have the class have the left list of this one: the next one of the class
-// that has another, or how many disjuncts there are.
-fn run_end(lists: &Lists<'_>, lead: Lead, word: u32, from: u32, left: u32) -> u32
-    requires within { word < length lists.now.positions }
-    requires listed { from < length (slice_index_or lists.now.positions word []) }
-    requires led { IsNextLed lists.now lead word from from }
-    requires first { HaveLeft lists.now lead word left from (from + 1) }
-    ensures later { from < result }
-    ensures led { IsNextLed lists.entry.now lead word result result }
-    ensures same { HaveLeft lists.entry.now lead word left from result }
+// Adds those of a group that leave so many words unlinked on the left.
+fn push_level(
+    alloc: Global,
+    lists: &Lists<'_>,
+    gap: &Gap,
+    group: &Group,
+    nulls: u32,
+    rights: &[Right],
+    out: &mut Vec<Alt>,
+) -> Result<(), NoMemory>
+    requires gap { IsKnownGap lists.now gap.now }
+    requires group { IsGroup lists.now gap.now group.now }
+    requires rights { AreExactly rights.now (IsRightOf lists.now gap.now group.now) }
+    ensures { OnOk result (AddsExactly out.old.items out.new.items (λ a. IsIn lists.entry.now gap.now group.now a × LeavesLeft nulls a)) }
 {
-    let count = lists.count(word);
-    let mut to = lists.next(lead.side, word, from);
-    while to < count {
-        if lists.sides(word, to).left != left {
-            return to;
-        }
-        to = lists.next(lead.side, word, to);
+    lists.are_numbered();
+    let found = beginnings(alloc, lists, gap, group, nulls)?;
+    let begins = found.as_slice();
+    for begin in begins {
+        push_ended(gap, group, begin, rights, out)?;
     }
-    to
+    Ok(())
+}
+
+// Between two empty lists nothing is linked.
+fn of_empty_gap(alloc: Global, left: u32, right: u32, nulls: u32) -> Result<Vec<Alt>, NoMemory>
+    requires { left < right }
+    ensures { (positions : List (List Disjunct)) (lists : List (List Connector)) → IfOk result (λ items. AreExactly items.items (IsAltOfRegion positions lists (region_of_numbers lists left right 0 0 nulls))) }
+{
+    let mut out = Vec::new(alloc);
+    if nulls == right - left - 1 {
+        out.push(Alt::AllNull)?;
+    }
+    Ok(out)
 }
 
 // The alternatives of the whole sentence.

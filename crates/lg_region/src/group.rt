@@ -1,13 +1,14 @@
-//! The alternatives of a region that cut it at one word, by disjuncts with the same left list.
-ghost use Rattle.std.specs.Prelude.{◌≡◌, ◌≤◌, ◌++◌, map, IfOk, OnOk};
-ghost use Rattle.lg_region.specs.Ways.{AreExactly, KeepsFront};
-ghost use Rattle.lg_region.specs.Groups.{key_behind, AddsIn, IsGroup, IsKnownGap, IsRightOf, right_of, split_of, splits_with};
+//! The disjuncts of a word that can cut a region, by groups with the same left list.
+ghost use Rattle.std.specs.Prelude.{◌≡◌, ◌≢◌, ◌+◌, ◌<◌, ◌≤◌, ◌++◌, [], length, map, slice_index_or, IfOk, OnOk};
+ghost use Rattle.lg_region.specs.Fronts.{list_of};
+ghost use Rattle.lg_region.specs.Parts.{Region};
+ghost use Rattle.lg_region.specs.Ways.{AreExactly};
+ghost use Rattle.lg_region.specs.Groups.{key_behind, HaveLeft, IsGroup, IsKnownGap, IsNextLed, IsRightOf, Leads, left_lead, right_lead, right_of};
 
-use crate::alternative::Alt;
 use crate::chains::Side;
 use crate::key::Key;
 use crate::lists::Lists;
-use crate::ways::{Way, Ways, set_ways, ways_between};
+use crate::ways::{Way, Ways, set_ways};
 use lg_base::NoMemory;
 use smallvec::SmallVec;
 use std::alloc::Global;
@@ -66,33 +67,73 @@ impl Right {
     }
 }
 
-/// Adds the alternatives of a region that cut it at the word of a group with one of its disjuncts. Those with the same left
-/// key stand together.
-pub(crate) fn push_group(
-    alloc: Global,
-    lists: &Lists<'_>,
-    gap: &Gap,
-    group: &Group,
-    out: &mut Vec<Alt>,
-) -> Result<(), NoMemory>
-    requires gap { IsKnownGap lists.now gap.now }
-    requires group { IsGroup lists.now gap.now group.now }
-    ensures { OnOk result (AddsIn lists.entry.now gap.now group.now.word group.now.from group.now.to out.old.items out.new.items) }
+// Which disjuncts can cut a region with these lists: those that can be joined with its left list, or, where that is empty,
+// with its right one.
+pub(crate) fn lead_of(lists: &Lists<'_>, llist: u32, rlist: u32) -> Lead
+    requires llist { llist ≤ length lists.now.lists }
+    requires rlist { rlist ≤ length lists.now.lists }
+    ensures small { result.class < 256 }
+    ensures led { (k : Region) → k.llist ≡ list_of lists.entry.now.lists llist → k.rlist ≡ list_of lists.entry.now.lists rlist → Leads result lists.entry.now.positions k }
+    ensures left { llist ≢ 0 → result ≡ left_lead lists.entry.now llist }
+    ensures right { llist ≡ 0 → result ≡ right_lead lists.entry.now rlist }
 {
     lists.are_numbered();
-    let ways = ways_between(alloc, lists, gap.llist, group.left, gap.llist == 0)?;
-    let lefts = ways.as_slice();
-    if lefts.is_empty() {
-        return Ok(());
+    if llist == 0 {
+        Lead {
+            side: Side::Right,
+            class: lists.class(rlist),
+        }
+    } else {
+        Lead {
+            side: Side::Left,
+            class: lists.class(llist),
+        }
     }
-    let found = rights(alloc, lists, gap, group)?;
-    let rights = found.as_slice();
-    let least = gap.nulls.saturating_sub(gap.right - group.word - 1);
-    let most = gap.nulls.min(group.word - gap.left - 1);
-    for nulls in least..most + 1 {
-        push_splits(gap, group.word, nulls, lefts, rights, out)?;
+}
+
+// The disjuncts of a word from this one on that have its left list where they have the class.
+pub(crate) fn group_at(lists: &Lists<'_>, gap: &Gap, word: u32, from: u32) -> Group
+    requires after { gap.now.left < word }
+    requires before { word < gap.now.right }
+    requires within { word < length lists.now.positions }
+    requires listed { from < length (slice_index_or lists.now.positions word []) }
+    requires led { IsNextLed lists.now gap.now.lead word from from }
+    ensures word { result.word ≡ word }
+    ensures from { result.from ≡ from }
+    ensures later { from < result.to }
+    ensures group { IsGroup lists.entry.now gap.now result }
+    ensures led { IsNextLed lists.entry.now gap.now.lead word result.to result.to }
+{
+    let left = lists.sides(word, from).left;
+    let to = run_end(lists, gap.lead, word, from, left);
+    Group {
+        word,
+        left,
+        from,
+        to,
     }
-    Ok(())
+}
+
+// Up to which number the disjuncts of a word that have the class have the left list of this one: the next one of the class
+// that has another, or how many disjuncts there are.
+fn run_end(lists: &Lists<'_>, lead: Lead, word: u32, from: u32, left: u32) -> u32
+    requires within { word < length lists.now.positions }
+    requires listed { from < length (slice_index_or lists.now.positions word []) }
+    requires led { IsNextLed lists.now lead word from from }
+    requires first { HaveLeft lists.now lead word left from (from + 1) }
+    ensures later { from < result }
+    ensures led { IsNextLed lists.entry.now lead word result result }
+    ensures same { HaveLeft lists.entry.now lead word left from result }
+{
+    let count = lists.count(word);
+    let mut to = lists.next(lead.side, word, from);
+    while to < count {
+        if lists.sides(word, to).left != left {
+            return to;
+        }
+        to = lists.next(lead.side, word, to);
+    }
+    to
 }
 
 /// The disjuncts of the group that can cut the region, with each way on of their right lists. They are the same for each region that
@@ -134,63 +175,6 @@ fn push_rights(number: u32, ways: &[Way], rights: &mut Rights) -> Result<(), NoM
         rights.push(Right {
             disjunct: number,
             way: *way,
-        })?;
-    }
-    Ok(())
-}
-
-// The alternatives with so many unlinked words on the left.
-fn push_splits(
-    gap: &Gap,
-    word: u32,
-    nulls: u32,
-    lefts: &[Way],
-    rights: &[Right],
-    out: &mut Vec<Alt>,
-) -> Result<(), NoMemory>
-    requires { nulls ≤ gap.now.nulls }
-    ensures { OnOk result (out.new.items ≡ out.old.items ++ splits_with gap.now word lefts.now rights.now nulls) }
-{
-    for left in lefts {
-        push_with_left(gap, word, nulls, left, rights, out)?;
-    }
-    Ok(())
-}
-
-pub(crate) fn push_with_left(
-    gap: &Gap,
-    word: u32,
-    nulls: u32,
-    left: &Way,
-    rights: &[Right],
-    out: &mut Vec<Alt>,
-) -> Result<(), NoMemory>
-    requires { nulls ≤ gap.now.nulls }
-    ensures kept { KeepsFront out.old.items out.new.items }
-    ensures added { OnOk result (out.new.items ≡ out.old.items ++ map (split_of gap.now word nulls left.now) rights.now) }
-{
-    let lkey = Key::Region {
-        left: gap.left,
-        right: word,
-        llist: left.near,
-        rlist: left.far,
-        nulls,
-    };
-    for right in rights {
-        let rkey = Key::Region {
-            left: word,
-            right: gap.right,
-            llist: right.way.near,
-            rlist: right.way.far,
-            nulls: gap.nulls - nulls,
-        };
-        out.push(Alt::Split {
-            word,
-            disjunct: right.disjunct,
-            to_left: left.joint,
-            to_right: right.way.joint,
-            lkey: Some(lkey),
-            rkey: Some(rkey),
         })?;
     }
     Ok(())

@@ -9,8 +9,7 @@ ghost use Rattle.lg_region.specs.declared.group.Gap.{Gap as SeenGap};
 ghost use Rattle.lg_region.specs.Ways.{AddsExactly, KeepsFront};
 
 use crate::alternative::Alt;
-use crate::expand::{group_at, lead_of};
-use crate::group::{Gap, Group, Right, push_with_left, rights};
+use crate::group::{Gap, Group, Right, group_at, lead_of, rights};
 use crate::key::Key;
 use crate::lists::Lists;
 use crate::ways::{Way, has_way, ways_between};
@@ -240,14 +239,7 @@ pub fn push_endings(
 {
     lists.are_numbered();
     let rights = rights(alloc, lists, gap, group)?;
-    push_with_left(
-        gap,
-        group.word,
-        begin.nulls,
-        &begin.way,
-        rights.as_slice(),
-        out,
-    )
+    push_ended(gap, group, begin, rights.as_slice(), out)
 }
 
 /// Adds the alternatives of a group that begin so and go on with these disjuncts. The only error is running out of memory: what the
@@ -263,5 +255,17 @@ pub fn push_ended(
     ensures kept { KeepsFront out.old.items out.new.items }
     ensures added { OnOk result (out.new.items ≡ out.old.items ++ map (ended gap.now group.now begin.now) rights.now) }
 {
-    push_with_left(gap, group.word, begin.nulls, &begin.way, rights, out)
+    let lkey = begin.key(gap, group);
+    for right in rights {
+        let rkey = right.key(gap, group, gap.nulls - begin.nulls);
+        out.push(Alt::Split {
+            word: group.word,
+            disjunct: right.disjunct,
+            to_left: begin.way.joint,
+            to_right: right.way.joint,
+            lkey: Some(lkey),
+            rkey: Some(rkey),
+        })?;
+    }
+    Ok(())
 }

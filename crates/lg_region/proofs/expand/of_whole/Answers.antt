@@ -1,19 +1,16 @@
-use Rattle.std.proofs.Common.{◌+◌, ◌∙◌, sym}
+use Rattle.std.proofs.Common.{◌+◌, ◌∙◌, [], sym}
 use Rattle.lg_region.specs.Keys.{IsAltOfWhole}
-use Rattle.lg_region.proofs.Expanding.{all_words, exactly_word, start_none, whole_lies, whole_names}
+use Rattle.lg_region.proofs.Expanding.{OfWord, whole_names, words_all, words_apart}
+use Rattle.lg_region.proofs.Once.{adds_next}
 use Rattle.lg_region.proofs.expand.of_whole.Goals as goal
-
-pub loop-word-init : goal.loop-word-init
-loop-word-init c =
-    let positions = c.args.lists.now.positions in let lists = c.args.lists.now.lists in
-    start_none 0 (c.args.nulls + 1) (IsAltOfWhole positions lists c.args.nulls) c.new-out.result.items (whole_lies positions lists c.args.nulls) (λ i. c.if-nulls-words.false (i ∙ sym c.words.ensures)) c.new-out.ensures.items
 
 pub loop-word-preserved : goal.loop-word-preserved
 loop-word-preserved c =
-    let positions = c.args.lists.now.positions in let lists = c.args.lists.now.lists in
-    exactly_word positions (IsAltOfWhole positions lists c.args.nulls) c.loop-word.word c.loop-word.out.items c.push_firsts.new.out.items (whole_names positions lists c.args.nulls) c.loop-word.invariant c.in_ok-push_firsts.ensures
+    let positions = c.args.lists.now.positions in let I = IsAltOfWhole positions c.args.lists.now.lists c.args.nulls in
+    adds_next (OfWord positions I) c.loop-word.word [] c.loop-word.out.items c.push_firsts.new.out.items (words_apart positions I) c.loop-word.invariant c.in_ok-push_firsts.ensures
 
 pub returns : goal.returns
 returns c =
     let positions = c.args.lists.now.positions in let lists = c.args.lists.now.lists in
-    all_words 0 (c.args.nulls + 1) c.loop-word.word (IsAltOfWhole positions lists c.args.nulls) c.loop-word.out.items (whole_lies positions lists c.args.nulls) c.loop-word-test.false c.loop-word.invariant
+    words_all positions (c.args.nulls + 1) (IsAltOfWhole positions lists c.args.nulls) (whole_names positions lists c.args.nulls)
+    (λ i. c.if-nulls-words.false (i ∙ sym c.words.ensures)) c.loop-word.word c.loop-word-test.false c.loop-word.out.items c.loop-word.invariant

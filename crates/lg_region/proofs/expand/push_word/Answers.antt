@@ -1,31 +1,21 @@
-use Rattle.std.proofs.Common.{◌≡◌, ℕ, length, get_or, [], subst, arith}
-use Rattle.lg_region.specs.Groups.{AddsIn, region_of_gap}
-use Rattle.lg_region.specs.Keys.{IsAltOfRegion}
-use Rattle.lg_region.proofs.Expanding.{adds_numbers, adds_skip}
-use Rattle.lg_region.proofs.Splitting.{led_itself}
+use Rattle.lg_region.specs.Openings.{IsIn}
+use Rattle.lg_region.proofs.Grouped.{group_at, groups_all, groups_apart, no_group, same_groups}
+use Rattle.lg_region.proofs.Once.{adds_at}
 use Rattle.lg_region.proofs.expand.push_word.Goals as goal
 
-pub loop-from-init : goal.loop-from-init
-loop-from-init c = record {
-  led = led_itself c.args.lists.now c.args.gap.now.lead c.args.word 0 c.first-from.result c.first-from.ensures;
-  added = adds_skip c.args.lists.now.positions c.args.lists.now.lists c.args.gap.now c.args.word 0 c.first-from.result c.args.out.now.items c.requires.known.led c.first-from.ensures;
-}
+pub push_group-requires-clause-group : goal.push_group-requires-clause-group
+push_group-requires-clause-group c =
+    let n = c.args.lists.now in let gap = c.args.gap.now in let gs = c.as_slice-groups.result.now in
+    group_at n gap c.args.word gs (same_groups n gap c.args.word gs c.in_ok-found.found.items c.as_slice-groups.ensures c.in_ok-found.ensures) c.loop-group.group-index c.loop-group-test.true
 
-pub loop-from-preserved : goal.loop-from-preserved
-loop-from-preserved c =
-    let n = c.group_at-group.ensures.later in
-    let g = c.group_at-group.result in
-    let here : AddsIn c.args.lists.now c.args.gap.now c.args.word c.loop-from.from g.to c.loop-from.out.items c.push_group.new.out.items =
-    subst (λ (z : ℕ × ℕ). AddsIn c.args.lists.now c.args.gap.now z.0 z.1 g.to c.loop-from.out.items c.push_group.new.out.items) (λ i. (c.group_at-group.ensures.word i, c.group_at-group.ensures.from i)) c.in_ok-push_group.ensures in
-    record {
-      led = c.group_at-group.ensures.led;
-      added = adds_numbers (IsAltOfRegion c.args.lists.now.positions c.args.lists.now.lists (region_of_gap c.args.lists.now.lists c.args.gap.now)) c.args.word c.loop-from.from g.to c.args.out.now.items c.loop-from.out.items c.push_group.new.out.items (omega arith) c.loop-from.invariant.added here;
-    }
+pub loop-group-preserved : goal.loop-group-preserved
+loop-group-preserved c =
+    let n = c.args.lists.now in let gap = c.args.gap.now in let gs = c.as_slice-groups.result.now in
+    let of = same_groups n gap c.args.word gs c.in_ok-found.found.items c.as_slice-groups.ensures c.in_ok-found.ensures in
+    adds_at (IsIn n gap) gs no_group c.loop-group.group-index c.args.out.now.items c.loop-group.out.items c.push_group.new.out.items (groups_apart n gap c.args.word gs of) c.loop-group-test.true c.loop-group.invariant c.in_ok-push_group.ensures
 
 pub returns : goal.returns
 returns c =
-    let e = c.count-count.ensures in
-    let l = c.loop-from-test.false in
-    let w = c.loop-from.invariant.led.within in
-    let all : c.loop-from.from ≡ length (get_or c.args.lists.now.positions c.args.word []) = omega arith in
-    subst (λ z. AddsIn c.args.lists.now c.args.gap.now c.args.word 0 z c.args.out.now.items c.loop-from.out.items) all c.loop-from.invariant.added
+    let n = c.args.lists.now in let gap = c.args.gap.now in let gs = c.as_slice-groups.result.now in
+    let of = same_groups n gap c.args.word gs c.in_ok-found.found.items c.as_slice-groups.ensures c.in_ok-found.ensures in
+    groups_all n gap c.args.word gs of c.loop-group.group-index c.args.out.now.items c.loop-group.out.items c.loop-group-test.false c.loop-group.invariant

@@ -1,6 +1,6 @@
 use Rattle.lg_region.specs.declared.chains.Side.TheVariants.{Left, Right}
 use Rattle.lg_region.proofs.Expanding.{led_left}
-use Rattle.lg_region.proofs.expand.lead_of.Goals as goal
+use Rattle.lg_region.proofs.group.lead_of.Goals as goal
 
 pub returns-else-llist-eq0-clause-led : goal.returns-else-llist-eq0-clause-led
 returns-else-llist-eq0-clause-led c = λ k l r.

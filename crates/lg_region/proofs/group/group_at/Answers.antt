@@ -1,5 +1,5 @@
 use Rattle.lg_region.proofs.Expanding.{left_first, run_group}
-use Rattle.lg_region.proofs.expand.group_at.Goals as goal
+use Rattle.lg_region.proofs.group.group_at.Goals as goal
 
 pub run_end-to-requires-clause-first : goal.run_end-to-requires-clause-first
 run_end-to-requires-clause-first c = left_first c.args.lists.now c.args.gap.now.lead c.args.word c.args.from c.sides-left.result c.sides-left.ensures

@@ -1,6 +1,6 @@
 use Rattle.std.proofs.Common.{◌<◌, [], length, get_or, arith}
 use Rattle.lg_region.proofs.Expanding.{run_first, run_more}
-use Rattle.lg_region.proofs.expand.run_end.Goals as goal
+use Rattle.lg_region.proofs.group.run_end.Goals as goal
 
 pub loop-to-init : goal.loop-to-init
 loop-to-init c = run_first c.args.lists.now c.args.lead c.args.word c.args.left c.args.from c.next-to.result c.requires.listed c.requires.led c.requires.first c.next-to.ensures

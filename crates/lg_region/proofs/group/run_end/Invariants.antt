@@ -1,6 +1,6 @@
 use Rattle.std.proofs.Common.{◌-◌}
 use Rattle.lg_region.proofs.Expanding.{IsRun}
-use Rattle.lg_region.proofs.expand.run_end.Given as goal
+use Rattle.lg_region.proofs.group.run_end.Given as goal
 
 abbrev pub invariant-loop-to : goal.invariant-loop-to
 invariant-loop-to l = IsRun l.lists l.lead l.word l.left l.from l.to
