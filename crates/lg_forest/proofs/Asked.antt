@@ -1,6 +1,6 @@
 -- The table grows by what is asked for.
 use Rattle.std.proofs.Common.{◌≡◌, ◌≢◌, ◌↔◌, ℕ, suc, ◌<◌, ◌≤◌, ◌⊎◌, inl, inr, refl, sym, ap, ◌∙◌, subst, List, [], ◌∷◌, ◌++◌, Option, Some, None, IfSome, IfOk, OnErr, OnOk, Contains, slice_get, take, length, Bool, true, false, not, true≢false, IsTrue, arith}
-use Rattle.std.proofs.lemmas.List.{map-append, take_all}
+use Rattle.std.proofs.lemmas.List.{take_all}
 use Rattle.std.proofs.lemmas.Option.{slice_get_within, get_or_from_slice_get}
 use Rattle.std.proofs.Math.Seq.{take-suc}
 use Rattle.std.specs.declared.result.Result.{Result}
@@ -15,10 +15,11 @@ use Rattle.lg_forest.specs.Demands.{HasLinkageUnder, AsksNext, Reaches, left_key
 use Rattle.lg_forest.specs.Demands.AsksNext.{left, right}
 use Rattle.lg_forest.specs.Demands.Reaches.{itself, onward}
 use Rattle.lg_forest.specs.declared.search.alternatives.Last.{Last}
+use Rattle.lg_forest.specs.Entries.{IsEntered}
 use Rattle.lg_forest.specs.Forests.{AreLive}
 use Rattle.lg_forest.specs.Search.{KeysAreDecided, IsTable, IsLast, Asked, AsksOf, key_width, part_bound}
 use Rattle.lg_forest.specs.Search.AsksOf.{left as asks_left, right as asks_right}
-use Rattle.lg_forest.proofs.Once.{contains_here, contains_none, contains_at}
+use Rattle.lg_forest.proofs.Once.{contains_at, contains_here, contains_key, contains_map, contains_none}
 
 abbrev Entries : Type 0
 Entries = List (Key × List Alt)
@@ -88,32 +89,32 @@ asked_as n P Q a b from to x = record {
 }
 
 -- the keys after one is added
-keys_cases : (es : Entries) (k : Key) (alts : List Alt) (x : Key) → Contains (keys_of (es ++ (k, alts) ∷ [])) x → Contains (keys_of es) x ⊎ (k ≡ x)
-keys_cases es k alts x has = Contains-push_cases (keys_of es) k x (subst (λ z. Contains z x) (map-append (λ e. e.0) es ((k, alts) ∷ [])) has)
+keys_cases : (es new : Entries) (k : Key) (alts : List Alt) (x : Key) → IsEntered es k alts new → Contains (keys_of new) x → Contains (keys_of es) x ⊎ (k ≡ x)
+keys_cases es new k alts x is has = (let v = contains_key new x has in elim ((is.entries x v.0).0 v.1) [ inl was ↦ inl (contains_map (λ (e : Key × List Alt). e.0) es (x, v.0) was) | inr e ↦ inr (sym e.0) ])
 
-pub keys_later : (es : Entries) (k : Key) (alts : List Alt) (x : Key) → Contains (keys_of es) x → Contains (keys_of (es ++ (k, alts) ∷ [])) x
-keys_later es k alts x has = subst (λ z. Contains z x) (sym (map-append (λ e. e.0) es ((k, alts) ∷ []))) (Contains-append_left (keys_of es) (k ∷ []) x has)
+pub keys_later : (es new : Entries) (k : Key) (alts : List Alt) (x : Key) → IsEntered es k alts new → Contains (keys_of es) x → Contains (keys_of new) x
+keys_later es new k alts x is has = (let v = contains_key es x has in contains_map (λ (e : Key × List Alt). e.0) new (x, v.0) ((is.entries x v.0).1 (inl v.1)))
 
-keys_last : (es : Entries) (k : Key) (alts : List Alt) → Contains (keys_of (es ++ (k, alts) ∷ [])) k
-keys_last es k alts = subst (λ z. Contains z k) (sym (map-append (λ e. e.0) es ((k, alts) ∷ []))) (Contains-push (keys_of es) k)
+keys_last : (es new : Entries) (k : Key) (alts : List Alt) → IsEntered es k alts new → Contains (keys_of new) k
+keys_last es new k alts is = contains_map (λ (e : Key × List Alt). e.0) new (k, alts) ((is.entries k alts).1 (inr (refl, refl)))
 
 -- a key is added when all that it asks for is in the table
-pub asked_added : (n : Numbering) (k : Key) (alts : List Alt) (old new : Entries) → IsValidKey n.positions n.lists k → AreLive n.positions n.lists k alts → Asked n (AsksNext n.positions n.lists k) old new → Asked n (λ m. m ≡ k) old (new ++ (k, alts) ∷ [])
-asked_added n k alts old new v live x = record {
+pub asked_added : (n : Numbering) (k : Key) (alts : List Alt) (old mid new : Entries) → IsValidKey n.positions n.lists k → AreLive n.positions n.lists k alts → Asked n (AsksNext n.positions n.lists k) old mid → IsEntered mid k alts new → Asked n (λ m. m ≡ k) old new
+asked_added n k alts old mid new v live x is = record {
   is_table = record {
-    valid = λ m h. elim (keys_cases new k alts m h) [ inl g ↦ x.is_table.valid m g | inr e ↦ subst (λ z. IsValidKey n.positions n.lists z) e v ];
-    live = λ m ms h. elim (Contains-push_cases new (k, alts) (m, ms) h) [
+    valid = λ m h. elim (keys_cases mid new k alts m is h) [ inl g ↦ x.is_table.valid m g | inr e ↦ subst (λ z. IsValidKey n.positions n.lists z) e v ];
+    live = λ m ms h. elim ((is.entries m ms).0 h) [
       | inl g ↦ x.is_table.live m ms g
-      | inr e ↦ (let f = ap (λ (z : Key × List Alt). z.1) e in let g = ap (λ (z : Key × List Alt). z.0) e in subst (λ z. AreLive n.positions n.lists z ms) g (subst (λ z. AreLive n.positions n.lists k z) f live))
+      | inr e ↦ subst (λ z. AreLive n.positions n.lists z ms) (sym e.0) (subst (λ z. AreLive n.positions n.lists k z) (sym e.1) live)
     ];
-    closed = λ m p h a. keys_later new k alts p (elim (keys_cases new k alts m h) [
+    closed = λ m p h a. keys_later mid new k alts p is (elim (keys_cases mid new k alts m is h) [
       | inl g ↦ x.is_table.closed m p g a
       | inr e ↦ x.there p (subst (λ z. AsksNext n.positions n.lists z p) (sym e) a)
     ]);
   };
-  kept = λ m h. keys_later new k alts m (x.kept m h);
-  there = λ m e. subst (λ z. Contains (keys_of (new ++ (k, alts) ∷ [])) z) (sym e) (keys_last new k alts);
-  fresh = λ m h. elim (keys_cases new k alts m h) [
+  kept = λ m h. keys_later mid new k alts m is (x.kept m h);
+  there = λ m e. subst (λ z. Contains (keys_of new) z) (sym e) (keys_last mid new k alts is);
+  fresh = λ m h. elim (keys_cases mid new k alts m is h) [
     | inl g ↦ elim (x.fresh m g) [ inl f ↦ inl f | inr r ↦ inr (k, refl, reach_first n k r.0 m r.1 r.2) ]
     | inr e ↦ inr (k, refl, subst (λ z. Reaches n.positions n.lists k z) e (itself k))
   ];

@@ -1,5 +1,5 @@
 -- The search goes on, one step after another.
-use Rattle.std.proofs.Common.{◌≡◌, ℕ, suc, ◌+◌, ◌≤◌, List, [], ◌∷◌, ◌++◌, length, OnOk, sym, ap, ◌∙◌, subst, arith, length-append}
+use Rattle.std.proofs.Common.{◌≡◌, ℕ, suc, ◌+◌, ◌≤◌, List, [], length, OnOk, sym, ap, subst, arith}
 use Rattle.std.specs.declared.result.Result.{Result}
 use Rattle.std.specs.declared.result.Result.TheVariants.{Ok, Err}
 use Rattle.lg_region.specs.Fronts.{Numbering}
@@ -8,6 +8,7 @@ use Rattle.lg_region.specs.Openings.{IsGapOf}
 use Rattle.lg_region.specs.declared.alternative.Alt.{Alt}
 use Rattle.lg_region.specs.declared.group.Gap.{Gap}
 use Rattle.lg_region.specs.declared.key.Key.{Key}
+use Rattle.lg_forest.specs.Entries.{IsEntered}
 use Rattle.lg_forest.specs.Demands.{AsksNext}
 use Rattle.lg_forest.specs.Forests.{AreLive}
 use Rattle.lg_forest.specs.Goes.{Goes, IsReady, IsValidGap, gap_width, key_of}
@@ -77,16 +78,16 @@ goes_as x asked = record { asked = asked; left = x.left; steps = x.steps; later 
 
 -- the key itself is added
 pub goes_added : {n : Numbering} {key : Key} {alts : List Alt} {i j : ℕ} {a b c : Search} → IsValidKey n.positions n.lists key → AreLive n.positions n.lists key alts → Goes n (AsksNext n.positions n.lists key) 1 a i b j
-    → c.table ≡ b.table ++ (key, alts) ∷ [] → c.memory ≡ b.memory → Goes n (λ k. k ≡ key) 0 a i c j
+    → IsEntered b.table key alts c.table → c.memory ≡ b.memory → Goes n (λ k. k ≡ key) 0 a i c j
 goes_added {n} {key} {alts} {i} {j} {a} {b} {c} valid live x added same =
-    let long : length c.table ≡ length b.table + 1 = ap length added ∙ length-append b.table ((key, alts) ∷ []) in
+    let long = added.longer in
     let left : length c.memory.known ≡ length b.memory.known = ap (λ (m : Memory). length m.known) same in
     let steps = x.steps in
     let fewer = x.left.fewer in
     record {
-      asked = subst (λ z. Asked n (λ k. k ≡ key) a.table z) (sym added) (asked_added n key alts a.table b.table valid live x.asked);
+      asked = asked_added n key alts a.table b.table c.table valid live x.asked added;
       left = record {
-        known = subst (λ z. IsMemory n z c.memory) (sym added) (subst (λ z. IsMemory n (b.table ++ (key, alts) ∷ []) z) (sym same) (memory_added n b.table key alts b.memory x.left.known));
+        known = subst (λ z. IsMemory n c.table z) (sym same) (memory_added n b.table c.table key alts b.memory added x.left.known);
         fewer = omega arith;
       };
       steps = omega arith;

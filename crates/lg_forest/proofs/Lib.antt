@@ -19,7 +19,7 @@ pub mod Opening
 pub mod Shutting
 pub mod Ending
 pub mod Slotting
-pub mod Living
+pub mod KeySets
 pub mod Entering
 pub mod Running
 pub mod Starting

@@ -38,6 +38,10 @@ map_at f (x ∷ xs) (suc i) y e = map_at f xs i y e
 pub map_once : {X Y : Type 0} (f : X → Y) (xs : List X) → ((x y : X) → f x ≡ f y → x ≡ y) → AreOnce xs → AreOnce (map f xs)
 map_once f xs inj once i j y p q = let a = map_at f xs i y p in let b = map_at f xs j y q in once i j a.0 a.1 (b.1 ∙ ap Some (inj b.0 a.0 (b.2 ∙ sym a.2)))
 
+pub in_append_right : {X : Type 0} (xs ys : List X) (x : X) → Contains ys x → Contains (xs ++ ys) x
+in_append_right [] ys x has = has
+in_append_right (y ∷ xs) ys x has = contains_later y (xs ++ ys) x (in_append_right xs ys x has)
+
 -- a key of a table stands beside a value
 pub contains_key : {X Y : Type 0} (es : List (X × Y)) (k : X) → Contains (map (λ (e : X × Y). e.0) es) k → (v : Y) × Contains es (k, v)
 contains_key [] k h = absurd (contains_none k h)

@@ -1,5 +1,5 @@
 -- Openings: how they begin, grow and are kept, and what they tell of a region.
-use Rattle.std.proofs.Common.{◌≡◌, ◌↔◌, ℕ, ◌+◌, ◌<◌, ◌≤◌, ◌⊎◌, inl, inr, refl, sym, ap, ◌∙◌, subst, List, [], ◌∷◌, ◌++◌, Some, None, Option, IfSome, Contains, slice_get, arith, length, get_or}
+use Rattle.std.proofs.Common.{◌≡◌, ◌↔◌, ℕ, ◌+◌, ◌<◌, ◌≤◌, ◌⊎◌, inl, inr, refl, sym, ap, ◌∙◌, subst, List, [], Some, None, Option, IfSome, Contains, slice_get, arith, length, get_or}
 use Rattle.std.proofs.lemmas.Bool.{cases_lt}
 use Rattle.std.proofs.lemmas.List.Elements.{Contains-append_left, Contains-append_right, Contains-append_cases}
 use Rattle.std.specs.Map.{keys_of}
@@ -19,6 +19,7 @@ use Rattle.lg_region.specs.declared.group.Gap.{Gap}
 use Rattle.lg_region.specs.declared.group.Lead.{Lead}
 use Rattle.lg_region.specs.declared.group.Group.{Group}
 use Rattle.lg_region.specs.declared.opening.Beginning.{Beginning}
+use Rattle.lg_forest.specs.Entries.{IsEntered}
 use Rattle.lg_forest.specs.Demands.{HasLinkageUnder, left_key}
 use Rattle.lg_forest.specs.Known.{AreKnown}
 use Rattle.lg_forest.specs.Opened.{AsksLeft, IsAltWith, IsAny, IsLiveLeft, IsMemory, IsOpening, IsStart, OpensWord, StandsAt, StartsSo}
@@ -59,8 +60,8 @@ module _ (n : Numbering) (old new : Entries) (kept : (k : Key) → Contains (key
   pub memory_kept : (m : Memory) → IsMemory n old m → IsMemory n new m
   memory_kept m x = record { known = x.known; opened = λ origin o has. opening_kept origin o (x.opened origin o has); ended = λ half ends has. ends_kept n old new kept half ends (x.ended half ends has) }
 
-pub memory_added : (n : Numbering) (es : Entries) (k : Key) (alts : List Alt) (m : Memory) → IsMemory n es m → IsMemory n (es ++ (k, alts) ∷ []) m
-memory_added n es k alts m x = memory_kept n es (es ++ (k, alts) ∷ []) (λ q h. keys_later es k alts q h) m x
+pub memory_added : (n : Numbering) (es new : Entries) (k : Key) (alts : List Alt) (m : Memory) → IsEntered es k alts new → IsMemory n es m → IsMemory n new m
+memory_added n es new k alts m is x = memory_kept n es new (λ q h. keys_later es new k alts q is h) m x
 
 -- before the search
 pub memory_first : (n : Numbering) (es : Entries) (m : Memory) (known : List (Key × List Alt)) → m.known ≡ known → m.openings ≡ [] → m.halves ≡ [] → AreKnown n known → IsMemory n es m

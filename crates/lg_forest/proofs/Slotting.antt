@@ -1,5 +1,5 @@
 -- How the keys of a table are linked by buckets, and found.
-use Rattle.std.proofs.Common.{◌≡◌, ◌≢◌, ℕ, zero, suc, ◌+◌, ◌-◌, ◌*◌, ◌%◌, ◌^◌, ◌<◌, ◌≤◌, ◌⊎◌, List, [], ◌∷◌, ◌++◌, length, get_or, set, refl, sym, ◌∙◌, ap, subst, Some, inl, inr, Contains, arith, length-append, length-set}
+use Rattle.std.proofs.Common.{◌≡◌, ◌≢◌, bit_or, ℕ, zero, suc, ◌+◌, ◌-◌, ◌*◌, ◌%◌, ◌^◌, ◌<◌, ◌≤◌, ◌⊎◌, List, [], ◌∷◌, ◌++◌, length, get_or, set, refl, sym, ◌∙◌, ap, subst, Some, inl, inr, Contains, arith, length-append, length-set}
 use Rattle.std.specs.List.{slice_get}
 use Rattle.std.proofs.lemmas.Bool.{cases_lt}
 use Rattle.std.proofs.lemmas.Nat.{and_mask, pow-add, pow_pos}
@@ -10,13 +10,13 @@ use Rattle.std.proofs.lemmas.Option.{get_or_from_slice_get, same_Some, slice_get
 use Rattle.std.specs.Map.{keys_of}
 use Rattle.std.specs.Option.{option_map}
 use Rattle.std.proofs.lemmas.List.{length-map, map-append}
-use Rattle.std.proofs.lemmas.List.Elements.{Contains-push_cases}
+use Rattle.std.proofs.lemmas.List.Elements.{Contains-append_left, Contains-push, Contains-push_cases}
 use Rattle.lg_region.specs.Fronts.{AreOnce}
-use Rattle.lg_forest.specs.Slots.{AreLinked, AreSlots, IsAt, IsLast, IsPowerOfTwo, keys_in, nexts_in, pairs_in}
+use Rattle.lg_forest.specs.Slots.{AreLinked, AreSlots, IsAt, IsLast, IsPowerOfTwo, SetsBit, keys_in, nexts_in, pairs_in}
 use Rattle.lg_forest.specs.declared.slots.Slot.{Slot}
 use Rattle.lg_region.proofs.Firsts.{get_end, get_left, push_cases}
 use Rattle.lg_region.proofs.Once.{once_append, once_one}
-use Rattle.lg_forest.proofs.Once.{contains_at, contains_cases, contains_here, contains_later, contains_none, map_at, place_of}
+use Rattle.lg_forest.proofs.Once.{contains_at, contains_cases, contains_here, contains_later, contains_map, contains_none, map_at, place_of}
 
 -- the keys from `next` on are others, and the one before it has the bucket of the key
 pub record IsSeeking {K : Type 0} (spread : K → ℕ) (count : ℕ) (keys : List K) (key : K) (next : ℕ) : Type 0 where
@@ -343,3 +343,16 @@ only_at {K} {V} slots at key value v once is has other =
     let ky = slice_get-map (λ (s : Slot K V). s.key) slots b.0 ∙ ap (option_map (λ (s : Slot K V). s.key)) y.1 ∙ ap (λ (p : K × V). Some p.0) y.2 in
     let same : b.0 ≡ a.0 = once b.0 a.0 key ky kx in
     ap (λ (p : K × V). p.1) (same_Some (key, v) (key, value) (sym b.1 ∙ ap (λ z. slice_get (pairs_in slots) z) same ∙ a.1))
+
+-- a key is added with one bit
+pub bit_added : {K : Type 0} (old : List (K × ℕ)) (key : K) (place value : ℕ) (new : List (K × ℕ)) → value ≡ bit_or 0 (2 ^ place) → (Contains (keys_of old) key → ⊥) → new ≡ old ++ (key, value) ∷ [] → SetsBit old key place new
+bit_added {K} old key place value new is fresh added = record {
+  bits = 0;
+  had = record { only = λ b h. absurd (fresh (contains_map (λ (e : K × ℕ). e.0) old (key, b) h)); there = λ some. absurd (some refl) };
+  there = subst (λ z. Contains z (key, bit_or 0 (2 ^ place))) (sym added) (subst (λ z. Contains (old ++ (key, value) ∷ []) (key, z)) is (Contains-push old (key, value)));
+  put = λ k b h. elim (Contains-push_cases old (key, value) (k, b) (subst (λ z. Contains z (k, b)) added h)) [
+    | inl was ↦ inl was
+    | inr e ↦ inr (sym (ap (λ (p : K × ℕ). p.0) e), sym (ap (λ (p : K × ℕ). p.1) e) ∙ is)
+  ];
+  kept = λ k b other h. subst (λ z. Contains z (k, b)) (sym added) (Contains-append_left old ((key, value) ∷ []) (k, b) h);
+}

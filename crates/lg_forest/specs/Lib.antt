@@ -6,7 +6,7 @@ pub mod Drafts
 pub mod Halves
 pub mod Runs
 pub mod Ends
-pub mod Small
+pub mod KeySets
 pub mod Entries
 pub mod Slots
 pub mod Spread

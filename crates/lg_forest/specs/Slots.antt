@@ -1,5 +1,6 @@
 -- Tables that find a key by buckets: each bucket tells the last of its keys, and each key the one of its bucket before it.
-use Rattle.std.specs.Prelude.{◌≡◌, ◌≢◌, ℕ, suc, ◌%◌, ◌^◌, ◌<◌, ◌≤◌, List, length, map, Some, slice_get, slice_index}
+use Rattle.std.specs.Prelude.{◌≡◌, ◌≢◌, ◌⊎◌, bit_or, ℕ, suc, ◌%◌, ◌^◌, ◌<◌, ◌≤◌, List, length, map, Some, slice_get, slice_index}
+use Rattle.std.specs.List.{Contains}
 use Rattle.lg_region.specs.Fronts.{AreOnce}
 use Rattle.lg_forest.specs.declared.slots.Slot.{Slot}
 
@@ -37,3 +38,16 @@ pub record AreSlots {K V : Type 0} (spread : K → ℕ) (slots : List (Slot K V)
 -- the slot of this number has the key
 abbrev pub IsAt : {K V : Type 0} → List (Slot K V) → K → ℕ → Type 0
 IsAt {K} {V} slots key at = (s : Slot K V) × (slice_get slots at ≡ Some s) × (s.key ≡ key)
+
+-- the bits of a key: 0 where it is not there
+pub record HasBits {K : Type 0} (pairs : List (K × ℕ)) (key : K) (bits : ℕ) : Type 0 where
+  pub only : (b : ℕ) → Contains pairs (key, b) → b ≡ bits
+  pub there : bits ≢ 0 → Contains pairs (key, bits)
+
+-- one bit more of a key, and the same of the others
+pub record SetsBit {K : Type 0} (old : List (K × ℕ)) (key : K) (place : ℕ) (new : List (K × ℕ)) : Type 0 where
+  pub bits : ℕ
+  pub had : HasBits old key bits
+  pub there : Contains new (key, bit_or bits (2 ^ place))
+  pub put : (k : K) (b : ℕ) → Contains new (k, b) → Contains old (k, b) ⊎ ((k ≡ key) × (b ≡ bit_or bits (2 ^ place)))
+  pub kept : (k : K) (b : ℕ) → k ≢ key → Contains old (k, b) → Contains new (k, b)

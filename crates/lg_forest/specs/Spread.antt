@@ -4,9 +4,9 @@ use Rattle.lg_region.specs.Hashed.{raised}
 use Rattle.lg_region.specs.declared.key.Key.{Key}
 use Rattle.lg_region.specs.declared.key.Key.TheVariants.{Whole, Region}
 use Rattle.lg_region.specs.declared.opening.Origin.{Origin}
-use Rattle.lg_forest.specs.Small.{full}
 use Rattle.lg_forest.specs.declared.halves.Half.{Half}
-use Rattle.lg_forest.specs.declared.small.SmallKey.{SmallKey}
+use Rattle.lg_forest.specs.declared.key_set.Row.{Row}
+use Rattle.lg_forest.specs.declared.key_set.Row.TheVariants as row
 
 abbrev pub golden : ℕ
 golden = 11400714819323198485
@@ -24,8 +24,9 @@ abbrev pub of_key : Key → ℕ
 of_key (Whole nulls) = nulls
 of_key (Region left right llist rlist nulls) = from_mixed (bit_or (raised left 16) (bit_or (raised right 8) nulls)) rlist llist
 
-abbrev pub of_small : SmallKey → ℕ
-of_small k = of_key (full k)
+abbrev pub of_row : Row → ℕ
+of_row (row.Whole block) = block
+of_row (row.Region left right nulls block rlist) = from_mixed (bit_or (raised left 16) (bit_or (raised right 8) nulls)) rlist block
 
 -- the numbers of unlinked words of one origin
 abbrev pub of_origin : Origin → ℕ

@@ -14,6 +14,7 @@ ghost use Rattle.lg_forest.specs.Known.{AreKnown};
 use crate::known::Known;
 use crate::law::keys_are_decided;
 use crate::search::Search;
+use crate::slots::Slots;
 use crate::table::Table;
 use crate::worker::Levels;
 use crate::workers::known_of;
@@ -31,7 +32,7 @@ use std::thread::Threads;
 #[derive(Drop)]
 pub struct Forest {
     unused: u32,
-    live: Table,
+    live: Slots<Key, Alts>,
 }
 
 impl Model for Forest {
@@ -44,17 +45,17 @@ impl Model for Forest {
 
 impl Forest {
     // The forest of the keys that were asked for. Those without a linkage are let go.
-    fn of(alloc: Global, unused: u32, table: Table) -> Result<Forest, NoMemory>
-        ensures unused { IfOk result (λ forest. forest.unused ≡ unused) }
-        ensures live { IfOk result (λ forest. (k : Key) (alts : List Alt) → Contains forest.entries (k, alts) ↔ (Contains table (k, alts) × (alts ≢ []))) }
-        ensures once { IfOk result (λ forest. AreOnce (keys_of forest.entries)) }
+    fn of(unused: u32, table: Table) -> Forest
+        ensures unused { result.unused ≡ unused }
+        ensures live { (k : Key) (alts : List Alt) → Contains result.entries (k, alts) ↔ (Contains table (k, alts) × (alts ≢ [])) }
+        ensures once { AreOnce (keys_of result.entries) }
         ensures were_once { AreOnce (keys_of table) }
     {
-        // the calls tell that the keys differ
-        let _count = table.len();
-        let live = table.into_live(alloc)?;
-        let _live_count = live.len();
-        Ok(Forest { unused, live })
+        table.is_short();
+        let live = table.into_live();
+        // the call tells that the keys differ
+        let _count = live.len();
+        Forest { unused, live }
     }
 
     /// How many words the linkages of the whole sentence leave unlinked.
@@ -107,8 +108,7 @@ pub fn solve<R: Threads + Sync, L>(
     let known = known_of(rt, alloc, problem, &lists, levels, workers)?;
     let mut search = Search::of(alloc, known);
     let unused = search.fewest(&lists, last, steps)?;
-    let forest = Forest::of(alloc, unused, search.into_table())?;
-    Ok(forest)
+    Ok(Forest::of(unused, search.into_table()))
 }
 
 /// The forest of a problem with exactly so many unlinked words. Each demanded key is one step. The only error is running out of
@@ -188,6 +188,5 @@ fn forest_at<L>(
     let _positions = problem.positions();
     let mut search = Search::of(alloc, known);
     search.visit(lists, Key::Whole { nulls }, steps)?;
-    let forest = Forest::of(alloc, nulls, search.into_table())?;
-    Ok(forest)
+    Ok(Forest::of(nulls, search.into_table()))
 }

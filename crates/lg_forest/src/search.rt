@@ -112,8 +112,7 @@ impl Search {
         ensures goes { let n = lists.entry.now in OnOk result (Goes n (AsksNext n.positions n.lists key) 1 self.old steps.old self.new steps.new) }
         ensures later { steps.old ≤ steps.new }
     {
-        // the call tells that the table is short
-        let _size = self.table.len();
+        self.table.is_short();
         if self.memory.known.has(&key) {
             return self.explore_all(lists, key, steps);
         }

@@ -1,9 +1,9 @@
 //! A hash table for keys of a few numbers.
-ghost use Rattle.std.specs.Prelude.{◌≡◌, ◌≢◌, ◌<◌, ◌^◌, ◌%◌, ◌++◌, ◌∷◌, ◌⊎◌, [], length, IfOk, IfSome, MatchOption, OnErr, OnOk};
+ghost use Rattle.std.specs.Prelude.{◌≡◌, ◌≢◌, ◌<◌, ◌^◌, ◌%◌, ◌++◌, ◌∷◌, ◌⊎◌, [], bit_or, length, IfOk, IfSome, MatchOption, OnErr, OnOk};
 ghost use Rattle.std.specs.List.{Contains};
 ghost use Rattle.std.specs.Map.{keys_of};
 ghost use Rattle.lg_region.specs.Fronts.{AreOnce};
-ghost use Rattle.lg_forest.specs.Slots.{AreLinked, AreSlots, IsAt, IsPowerOfTwo, keys_in, nexts_in, pairs_in};
+ghost use Rattle.lg_forest.specs.Slots.{AreLinked, AreSlots, IsAt, IsPowerOfTwo, SetsBit, keys_in, nexts_in, pairs_in};
 
 use crate::spread::Spread;
 use lg_base::NoMemory;
@@ -18,9 +18,9 @@ const MOST_BUCKETS: usize = 1 << 31;
 
 /// A key and its value, and the number of the slot of the same bucket before it, from 1, or 0 where there is none.
 #[derive(Drop)]
-pub(crate) struct Slot<K, V> {
-    pub(crate) key: K,
-    pub(crate) value: V,
+struct Slot<K, V> {
+    key: K,
+    value: V,
     next: u32,
 }
 
@@ -105,15 +105,33 @@ impl<K: Spread, V: Drop> Slots<K, V> {
             }
         }
     }
+}
 
-    /// The keys and their values. No memory.
-    pub(crate) fn into_slots(self) -> Vec<Slot<K, V>>
-        ensures pairs { pairs_in result.items ≡ self }
-        ensures once { AreOnce (keys_in result.items) }
+impl<K: Spread> Slots<K, u64> {
+    /// Sets a bit, below 64, of the value of a key, which is put in with that bit alone where it is not there. The only error is running
+    /// out of memory, and then nothing has changed.
+    pub(crate) fn set_bit(&mut self, key: K, place: u32) -> Result<(), NoMemory>
+        requires { place < 64 }
+        ensures set { OnOk result (SetsBit self.old key place self.new) }
+        ensures unchanged { OnErr result (self.new ≡ self.old) }
     {
-        let Slots { slots, .. } = self;
-        slots
+        match seek(&self.slots, &self.heads, &key) {
+            Some(at) => {
+                let bits = with_bit(self.slots[at].value, place);
+                replace_at(&mut self.slots, at, bits);
+                Ok(())
+            }
+            None => self.add(key, with_bit(0, place)),
+        }
     }
+}
+
+// A number with one bit set.
+fn with_bit(bits: u64, place: u32) -> u64
+    requires { place < 64 }
+    ensures { result ≡ bit_or bits (2 ^ place) }
+{
+    bits | 1 << place
 }
 
 // The bucket of a key with this number. A division would take several times longer.

@@ -3,7 +3,7 @@ ghost use Rattle.std.specs.Prelude.{◌≡◌, ◌↔◌, ℕ, IsTrue};
 ghost use Rattle.lg_forest.specs.Spread.{mixed_of};
 
 use crate::halves::Half;
-use crate::small::SmallKey;
+use crate::key_set::Row;
 use lg_region::{Key, Origin};
 
 // 2^64 by the golden ratio, an odd number whose products spread well.
@@ -61,13 +61,25 @@ impl Spread for Key {
     }
 }
 
-impl Spread for SmallKey {
-    ghost use Rattle.lg_forest.specs.Spread.{of_small};
+impl Spread for Row {
+    ghost use Rattle.lg_forest.specs.Spread.{of_row};
 
-    ghost spread = { of_small };
+    ghost spread = { of_row };
 
     fn spread(&self) -> u64 {
-        self.full().spread()
+        match *self {
+            Row::Whole { block } => block as u64,
+            Row::Region {
+                left,
+                right,
+                nulls,
+                block,
+                rlist,
+            } => {
+                let ends = (left as u64) << 16 | ((right as u64) << 8 | nulls as u64);
+                mixed(ends, rlist as u64).wrapping_add(block as u64)
+            }
+        }
     }
 
     fn is(&self, other: &Self) -> bool {

@@ -46,15 +46,6 @@ impl Model for Alts {
 }
 
 impl Alts {
-    /// No alternative. No memory.
-    pub fn none(alloc: Global) -> Alts
-        ensures { result ≡ [] }
-    {
-        Alts {
-            items: Vec::new(alloc),
-        }
-    }
-
     /// The list of these alternatives.
     pub fn of(alloc: Global, alts: &[Alt]) -> Result<Alts, NoMemory>
         requires { (a : Alt) → Contains alts.now a → IsSmall a }

@@ -35,8 +35,7 @@ impl Search {
         ensures goes { let n = lists.entry.now in OnOk result (Goes n (AsksNext n.positions n.lists key) 1 self.old steps.old self.new steps.new) }
         ensures later { steps.old ≤ steps.new }
     {
-        // the call tells that the table is short
-        let _size = self.table.len();
+        self.table.is_short();
         let alts = alts_of(self.alloc, lists, &mut self.memory.known, key, steps)?;
         let mut flags = Vec::new(self.alloc);
         let mut last = Last {

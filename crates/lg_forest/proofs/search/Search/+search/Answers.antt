@@ -32,7 +32,7 @@ use Rattle.lg_region.proofs.Once.{exactly_same}
 use Rattle.lg_forest.proofs.Once.{contains_at}
 use Rattle.lg_forest.proofs.search.Search.+search.Goals as goal
 use Rattle.lg_forest.proofs.search.Search.+search.Goals.{explore_rights-then-branch+in_ok-push, explore_rights-else-branch, open_group-then-branch+in_ok-push, open_group-else-branch, open-in-Some, open-in-None}
-use Rattle.lg_forest.proofs.Entering.{valid_small}
+use Rattle.lg_forest.proofs.KeySets.{valid_small}
 use Rattle.lg_forest.proofs.Opening.{no_beginning, no_group, none_starts, opening_kept, opening_new, opening_some, start_there, same_begins, same_groups, word_opened, words_all, words_first, words_next}
 use Rattle.lg_forest.proofs.Ending.{no_right, all_asked, all_live, ended_asked, ended_live, ends_asked, ends_here, ends_known, first_asked, next_asked, right_valid}
 use Rattle.lg_forest.proofs.Levels.{LeavesFewer, fewer_apart, fewer_next, fewer_none, levels_asked, levels_live}
@@ -129,7 +129,7 @@ visit-returns-clause-found g t c =
     live_decides c.args.lists.now c.args.key c.in_ok-live.live c.is_empty-found.result c.requires.ready.decided c.requires.key c.in_ok-live.ensures.live c.is_empty-found.ensures
 
 pub visit-returns-clause-goes : goal.visit-returns-clause-goes
-visit-returns-clause-goes g t c = goes_added c.requires.key c.in_ok-live.ensures.live c.in_ok-live.ensures.goes c.in_ok-add.ensures.added refl
+visit-returns-clause-goes g t c = goes_added c.requires.key c.in_ok-live.ensures.live c.in_ok-live.ensures.goes c.in_ok-add.ensures.entered refl
 
 pub visit_part-returns-in-Some-clause-found : goal.visit_part-returns-in-Some-clause-found
 visit_part-returns-in-Some-clause-found g t c =
@@ -144,9 +144,7 @@ visit_part-returns-in-Some-clause-goes g t c =
 pub explore-tick-requires : goal.explore-tick-requires
 explore-tick-requires g t c =
     let room = c.requires.ready.room in
-    let size = c.len-size.ensures.value in
-    let few = c.len-size.ensures.small in
-    let fits = c.len-size.type_inv in
+    let few = c.is_short.ensures.few in
     omega arith
 
 pub explore-explore_gap-requires : goal.explore-explore_gap-requires
