@@ -3,69 +3,33 @@
 
     bench/english.py FOLDER [LIMIT [WORD]]
 
-FOLDER has `en.dict`, a dictionary of this program's format; `lp`, the same dictionary as a language directory of link-parser; and
-files `sentences-N.txt` with a sentence of N words a line. The program is the one that `bin/lgparse --build` builds. For each file
+FOLDER has files `sentences-N.txt` with a sentence of about N words a line, and the dictionary: `en.dict` for this program and `lp` for link-parser.
+Where there is no `en.dict` yet and link-parser's English is installed, both are made of that by `tools/from-link-parser`, in three seconds.
+The program is the one that `bin/lgparse --build` builds. For each file
 it prints, for each sentence, the numbers of disjuncts before and after pruning (by a run that counts them, which is not timed), and the
 processor milliseconds and the megabytes of both programs beyond those that they take for the dictionary alone; and then the medians. Each
 figure is the least of three runs, and that of the dictionary alone, which is taken from all others, the least of fifteen. A run ends after LIMIT
 seconds (60). With WORD, as `of`, that word is put into the middle of each sentence, so that most of them have a word that stays unlinked. Behind the
-medians it prints how many millions of instructions the first sentence of the file takes without idioms and with them, by callgrind, with the dictionary.
+medians it prints the means: what all sentences of the file take in one run beyond the dictionary, over their number, in processor milliseconds and in
+millions of instructions by callgrind; and how many millions the first sentence takes without idioms and with them, with the dictionary.
 """
 import glob
 import os
 import re
-import shutil
 import statistics
-import subprocess
 import sys
-import threading
 
-TOP = os.path.dirname(os.path.dirname(os.path.realpath(__file__)))
-PROGRAM = os.path.join(TOP, "crates/lgparse/out/lgparse")
-PARSER = ["-cost-max=1000", "-short=254", "-limit=1000", "-postscript=0", "-graphics=0", "-links=1", "-timeout=600", "-islands-ok=0", "-null=1"]
-
-
-RUNS = 3
-BASE_RUNS = 15
-
-
-def one_run(folder, command, words, limit):
-    """Processor seconds and megabytes of a run in the folder, and its output; nothing where it does not end in time."""
-    run = subprocess.Popen(command, cwd=folder, stdin=subprocess.PIPE, stdout=subprocess.PIPE, stderr=subprocess.DEVNULL)
-    timer = threading.Timer(limit, run.kill)
-    timer.start()
-    run.stdin.write(words.encode())
-    run.stdin.close()
-    shown = run.stdout.read().decode(errors="replace")
-    _, status, used = os.wait4(run.pid, 0)
-    timer.cancel()
-    run.stdout.close()
-    run.returncode = os.waitstatus_to_exitcode(status)
-    if run.returncode != 0:
-        return None
-    return used.ru_utime + used.ru_stime, used.ru_maxrss / 1024, shown
-
-
-def measured(folder, command, words, limit, runs=RUNS):
-    """The least of some runs."""
-    all_runs = [one_run(folder, command, words, limit) for _ in range(runs)]
-    if None in all_runs:
-        return None
-    return min(run[0] for run in all_runs), min(run[1] for run in all_runs), all_runs[0][2]
+from beside import BASE_RUNS, PROGRAM, RUNS, instructions, lines_of, make_english, measured, our_command, ours_of, script_of, their_command, theirs_of
 
 
 def ours(folder, sentence, limit, *options, runs=RUNS):
     return measured(folder, [PROGRAM, "one", "--want", "10", *options, "en.dict", sentence], "", limit, runs)
 
 
-def theirs(folder, sentence, limit, runs=RUNS):
-    if shutil.which("link-parser") is None:
-        return None
-    return measured(folder, ["link-parser", f"{folder}/lp", *PARSER], sentence + "\n", limit, runs)
-
-
 def beyond(run, base):
-    return None if run is None or base is None else (max(run[0] - base[0], 0.0), max(run[1] - base[1], 0.0))
+    if run is None or base is None:
+        return None
+    return max(run.seconds - base.seconds, 0.0), max(run.megabytes - base.megabytes, 0.0)
 
 
 def shown(pair):
@@ -84,37 +48,56 @@ def with_word(sentence, word):
     return " ".join(words[:len(words) // 2] + [word] + words[len(words) // 2:])
 
 
-def instructions(folder, sentence, idioms):
-    """Millions of instructions of a run, or nothing where callgrind is not there."""
-    if shutil.which("valgrind") is None:
-        return None
-    counted = ["valgrind", "--tool=callgrind", "--callgrind-out-file=/dev/null", PROGRAM]
-    run = subprocess.run([*counted, "one", "--idioms", idioms, "en.dict", sentence], cwd=folder, capture_output=True, text=True, check=True)
-    return int(re.search(r"Collected : (\d+)", run.stderr).group(1)) / 1e6
-
-
 def with_idioms(folder, sentence):
-    off, on = instructions(folder, sentence, "off"), instructions(folder, sentence, "on")
+    off, on = (instructions(folder, [PROGRAM, "one", "--idioms", idioms, "en.dict", sentence]) for idioms in ("off", "on"))
     return "-" if off is None or on is None else f"{off:.0f} and {on:.0f} Minsn, {on / off:.2f} times"
+
+
+def counted(folder, sentences):
+    """Millions of instructions of both programs for all sentences in one run."""
+    with script_of(sentences) as script:
+        here = instructions(folder, our_command(script.name))
+    return here, instructions(folder, their_command(folder), "".join(f"{it}\n" for it in sentences))
+
+
+def mean(all_of_them, base, number, unit):
+    return f"{'-':>7} {unit}" if all_of_them is None or base is None else f"{max(all_of_them - base, 0.0) / number:7.0f} {unit}"
+
+
+def means(folder, sentences, limit, bases, base_counts):
+    """What a sentence takes beyond the dictionary, in a run of all of them: processor milliseconds and instructions of both programs."""
+    runs = ours_of(folder, sentences, limit * len(sentences), RUNS), theirs_of(folder, sentences, limit * len(sentences), RUNS)
+    told = []
+    for run, count, base, base_count in zip(runs, counted(folder, sentences), bases, base_counts):
+        milliseconds = mean(run and 1000 * run.seconds, base and 1000 * base.seconds, len(sentences), "ms")
+        told.append(f"{milliseconds} {mean(count, base_count, len(sentences), 'Minsn')}")
+    return "   ".join(told)
+
+
+def beside(folder, sentence, limit, bases):
+    """Prints what a sentence takes in both programs, and gives it."""
+    run = ours(folder, sentence, limit)
+    with_stats = ours(folder, sentence, limit, "--stats", "on", runs=1)
+    found = re.match(r"stats disjuncts (\d+) kept (\d+)", with_stats.shown) if with_stats else None
+    counts = found.groups() if found else ("-", "-")
+    both = beyond(run, bases[0]), beyond(theirs_of(folder, [sentence], limit, RUNS), bases[1])
+    print(f"{len(sentence.split()):3d} words {counts[0]:>8} {counts[1]:>7}", shown(both[0]), shown(both[1]), flush=True)
+    return both
 
 
 def main():
     folder, limit = os.path.abspath(sys.argv[1]), float(sys.argv[2]) if len(sys.argv) > 2 else 60.0
     word = sys.argv[3] if len(sys.argv) > 3 else None
-    base = ours(folder, "", limit, runs=BASE_RUNS), theirs(folder, "", limit, runs=BASE_RUNS)
-    print("dictionary alone:   lgparse", shown(base[0] and base[0][:2]), "  link-parser", shown(base[1] and base[1][:2]))
+    make_english(folder)
+    bases = ours(folder, "", limit, runs=BASE_RUNS), theirs_of(folder, [""], limit, BASE_RUNS)
+    base_counts = counted(folder, [])
+    alone = [shown(base and (base.seconds, base.megabytes)) for base in bases]
+    print("dictionary alone:   lgparse", alone[0], "  link-parser", alone[1], flush=True)
     for path in sorted(glob.glob(f"{folder}/sentences-*.txt")):
-        both = []
-        sentences = open(path, encoding="utf-8").read().splitlines()
-        for sentence in sentences:
-            sentence = with_word(sentence, word) if word else sentence
-            run = ours(folder, sentence, limit)
-            counted = ours(folder, sentence, limit, "--stats", "on", runs=1)
-            found = re.match(r"stats disjuncts (\d+) kept (\d+)", counted[2]) if counted else None
-            counts = found.groups() if found else ("-", "-")
-            both.append((beyond(run, base[0]), beyond(theirs(folder, sentence, limit), base[1])))
-            print(f"{len(sentence.split()):3d} words {counts[0]:>8} {counts[1]:>7}", shown(both[-1][0]), shown(both[-1][1]), flush=True)
+        sentences = [with_word(it, word) if word else it for it in lines_of(path)]
+        both = [beside(folder, sentence, limit, bases) for sentence in sentences]
         print("     medians              ", shown(middle([b[0] for b in both])), shown(middle([b[1] for b in both])), flush=True)
+        print("     means                ", means(folder, sentences, limit, bases, base_counts), flush=True)
         print("     without idioms and with", with_idioms(folder, sentences[0]), flush=True)
 
 
