@@ -3,15 +3,15 @@
 
     bench/english.py FOLDER [LIMIT [WORD]]
 
-FOLDER has files `sentences-N.txt` with a sentence of about N words a line, and the dictionary: `en.dict` for this program and `lp` for link-parser.
-Where there is no `en.dict` yet and link-parser's English is installed, both are made of that by `tools/from-link-parser`, in three seconds.
-The program is the one that `bin/lgparse --build` builds. For each file
-it prints, for each sentence, the numbers of disjuncts before and after pruning (by a run that counts them, which is not timed), and the
-processor milliseconds and the megabytes of both programs beyond those that they take for the dictionary alone; and then the medians. Each
-figure is the least of three runs, and that of the dictionary alone, which is taken from all others, the least of fifteen. A run ends after LIMIT
-seconds (60). With WORD, as `of`, that word is put into the middle of each sentence, so that most of them have a word that stays unlinked. Behind the
-medians it prints the means: what all sentences of the file take in one run beyond the dictionary, over their number, in processor milliseconds and in
-millions of instructions by callgrind; and how many millions the first sentence takes without idioms and with them, with the dictionary.
+FOLDER may have files `sentences-N.txt` with a sentence of about N words a line; `thirty.txt`, which stands beside this script, comes behind them. It
+has the dictionary: `en.dict` for this program and `lp` for link-parser. Where there is no `en.dict` yet and link-parser's English is installed, both
+are made of that by `tools/from-link-parser`, in three seconds. The program is the one that `bin/lgparse --build` builds. For each file it prints, for
+each sentence, the numbers of disjuncts before and after pruning (by a run that counts them, which is not timed), and the processor milliseconds and
+the megabytes of both programs beyond those that they take for the dictionary alone; and then the medians. Each figure is the least of three runs, and
+that of the dictionary alone, which is taken from all others, the least of fifteen. A run ends after LIMIT seconds (60). With WORD, as `of`, that word
+is put into the middle of each sentence, so that most of them have a word that stays unlinked. Behind the medians it prints the means: what all
+sentences of the file take in one run beyond the dictionary, over their number, in processor milliseconds and in millions of instructions by
+callgrind; and how many millions the first sentence takes without idioms and with them, with the dictionary.
 """
 import glob
 import os
@@ -19,7 +19,10 @@ import re
 import statistics
 import sys
 
-from beside import BASE_RUNS, PROGRAM, RUNS, instructions, lines_of, make_english, measured, our_command, ours_of, script_of, their_command, theirs_of
+sys.dont_write_bytecode = True
+
+from beside import BASE_RUNS, PROGRAM, RUNS, TOP, instructions, lines_of, make_english, measured  # noqa: E402
+from beside import our_command, ours_of, script_of, their_command, theirs_of  # noqa: E402
 
 
 def ours(folder, sentence, limit, *options, runs=RUNS):
@@ -93,7 +96,8 @@ def main():
     base_counts = counted(folder, [])
     alone = [shown(base and (base.seconds, base.megabytes)) for base in bases]
     print("dictionary alone:   lgparse", alone[0], "  link-parser", alone[1], flush=True)
-    for path in sorted(glob.glob(f"{folder}/sentences-*.txt")):
+    for path in [*sorted(glob.glob(f"{folder}/sentences-*.txt")), TOP / "bench/thirty.txt"]:
+        print(os.path.basename(path))
         sentences = [with_word(it, word) if word else it for it in lines_of(path)]
         both = [beside(folder, sentence, limit, bases) for sentence in sentences]
         print("     medians              ", shown(middle([b[0] for b in both])), shown(middle([b[1] for b in both])), flush=True)

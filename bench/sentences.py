@@ -11,6 +11,7 @@ Writes FOLDER/d, a dictionary, FOLDER/s, the sentence alone, and FOLDER/lp/4.0.*
     made       words of the made dictionary, drawn by its own generator from the number 5
     unlinked   the same phrases; each third word has a connector that nothing matches
     rich       words with some 500 disjuncts each
+    loose      each word may be joined to any other one, by one link, so that all but two stay unlinked
 """
 import os
 import sys
@@ -66,6 +67,8 @@ def problem(kind, words):
         text = PHRASES + "z: Z+;\n"
         linked = iter(phrases(words))
         return text, ["z" if i % 3 == 2 else next(linked) for i in range(words)]
+    if kind == "loose":
+        return "x: () or X+ or X-;\n", ["x"] * words
     return {"made": made, "rich": rich}[kind](words)
 
 
