@@ -19,7 +19,7 @@ ENGLISH = Path("/usr/share/link-grammar/en")
 PARSER = ["-cost-max=1000", "-short=254", "-limit=1000", "-postscript=0", "-graphics=0", "-links=1", "-timeout=600", "-islands-ok=0", "-null=1"]
 HEAD = "#define dictionary-version-number 5.12.0;\n#define dictionary-locale C;\n\n"
 
-# the kinds of words that this program knows by their form, in the order in which it asks for them
+# the kinds of words that this program knows by their form, as patterns of link-parser
 KINDS = r"""NUMBERS: /^[0-9]([0-9.,]*[0-9])?$/
 CAPITALIZED-WORDS: /^[A-Z]/
 HYPHENATED-WORDS: /[^-].*-.*[^-]/
@@ -32,7 +32,9 @@ BASE_RUNS = 15
 
 
 class Run(NamedTuple):
-    """Processor seconds of a run, how many of them are the program's own and not the system's, megabytes, and what it wrote."""
+    """Processor seconds of a run, how many of them are the program's own and not the system's, megabytes, and what it wrote.
+
+    A process counts the memory of the one that it was made from, so megabytes are never below those of Python, some 15."""
 
     seconds: float
     user: float
