@@ -173,7 +173,7 @@ fresh_ready node is = λ i. map value_of (is.made i) ++ least_part (is.waiting i
 fresh_table : (positions : List (List Disjunct)) (subjects : ℕ → Subject) (count : ℕ) (z : Value) (nodes : List Node) → AreNodesOf positions subjects count nodes → IsTable z nodes
 fresh_table positions subjects count z nodes is k node at = record {
   ways = sym (node_ways nodes k node at);
-  idle = λ e. fresh_ready node (is.fresh k node at);
+  idle = λ e. ap (map value_of) (is.fresh k node at).made;
   busy = λ e. absurd (true≢false (sym e ∙ (is.fresh k node at).idle));
   queue = λ e. absurd (true≢false (sym e ∙ (is.fresh k node at).idle));
   front = empty_front (Has z (forest_of nodes) (Some k)) (ready_of node) (fresh_ready node (is.fresh k node at));

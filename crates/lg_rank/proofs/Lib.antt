@@ -19,6 +19,7 @@ pub mod Queued
 pub mod Forests
 pub mod Reading
 pub mod Steps
+pub mod Peeking
 pub mod Packing
 pub mod Gluing
 pub mod Sizes

@@ -1,12 +1,12 @@
 -- The steps of the table: what each function's parts come to.
-use Rattle.std.proofs.Common.{◌≡◌, ℕ, suc, ◌+◌, ◌<◌, ◌≤◌, nat_lt, Bool, true, false, List, [], ◌∷◌, ◌++◌, length, set, get_or, map, Option, Some, None, slice_get, inl, inr, Result, Ok, Err, refl, sym, ap, ◌∙◌, subst, arith}
+use Rattle.std.proofs.Common.{◌≡◌, ℕ, zero, suc, ◌+◌, ◌<◌, ◌≤◌, nat_lt, Bool, true, false, List, [], ◌∷◌, ◌++◌, length, set, get_or, map, Option, Some, None, slice_get, ◌⊎◌, inl, inr, Less, Result, Ok, Err, refl, sym, ap, ◌∙◌, subst, arith}
 use Rattle.std.specs.Result.{OnOk, OnErr}
 use Rattle.std.proofs.lemmas.Bool.Decides.{nat_tests}
 use Rattle.std.proofs.lemmas.Option.{slice_get_within, slice_get-get_or, get_or_from_slice_get}
 use Rattle.lg_rank.specs.Fronts.{IsIn, IsAll, IsFront, AtMost, Extends}
 use Rattle.lg_rank.specs.Merges.{Turn, Begins, Following, held}
 use Rattle.lg_base.specs.declared.memory.NoMemory.{NoMemory}
-use Rattle.lg_rank.specs.Queues.{waiting_list, least_part, IsQueue, IsFirstAt, IsWaiting, IsOpened}
+use Rattle.lg_rank.specs.Queues.{waiting_list, least_part, IsLeastOf, IsQueue, IsFirstAt, IsWaiting, IsOpened}
 use Rattle.lg_rank.specs.declared.queue.Waiting.{Waiting}
 use Rattle.std.specs.BinaryHeap.{heap_items}
 use Rattle.std.specs.Cmp.{IsTotalOrder}
@@ -20,7 +20,7 @@ use Rattle.lg_rank.specs.declared.node.Choice.{Choice}
 use Rattle.lg_rank.specs.declared.node.Node.{Node}
 use Rattle.lg_rank.specs.declared.node.Row.{Row}
 use Rattle.lg_rank.proofs.Covering.{front_more, finished}
-use Rattle.lg_rank.proofs.Elements.{append_old, append_none, none_first}
+use Rattle.lg_rank.proofs.Elements.{append_old, append_none, less_not}
 use Rattle.lg_rank.proofs.Forests.{makes_front, rows_more, parts_front, parts_are, has_makes, table_set, grown_set, more_parts, begun_more}
 use Rattle.lg_rank.proofs.Growing.{merged_begun, merged_passed}
 use Rattle.lg_rank.proofs.Places.{set_here}
@@ -100,17 +100,25 @@ begin_slices z n slice k rows few e f h =
 pub queue_slices : (z : Value) (n slice : List Node) (k : ℕ) (rows few : List Row) (queue : List Waiting) → slice ≡ n → few ≡ rows → IsQueue (held_by z slice k) few queue → IsQueue (held_by z n k) rows queue
 queue_slices z n slice k rows few queue e f h = subst (λ (l : List Row). IsQueue (held_by z n k) l queue) f (subst (λ (m : List Node). IsQueue (held_by z m k) few queue) e h)
 
--- the values that were made and the least that waits are the first of the node
-ready_front : (z : Value) (n : List Node) (k : ℕ) (taken : List Value) (rows : List Row) (q : List Waiting) → IsForest z (forest_of n) → IsTable z n → RowsOf z (forest_of n) (parts z n) k (length (ways_of (forest_of n) k)) taken rows → IsQueue (held_by z n k) rows q
-    → IsFront value_cmp (Has z (forest_of n) (Some k)) (taken ++ least_part q)
-ready_front z n k taken rows [] forest table all waits = subst (λ (l : List Value). IsFront value_cmp (Has z (forest_of n) (Some k)) l) (sym (append_none taken)) (makes_front z (forest_of n) k taken all.front)
-ready_front z n k taken rows (w ∷ rest) forest table all waits =
+-- the values that were made and the least that the rows make are the first of the node
+pub least_front : (z : Value) (n : List Node) (k : ℕ) (taken : List Value) (rows : List Row) (o : Option Waiting) → IsForest z (forest_of n) → IsTable z n → RowsOf z (forest_of n) (parts z n) k (length (ways_of (forest_of n) k)) taken rows → IsLeastOf (held_by z n k) rows o
+    → IsFront value_cmp (Has z (forest_of n) (Some k)) (taken ++ least_part (waiting_list o))
+least_front z n k taken rows None forest table all least = subst (λ (l : List Value). IsFront value_cmp (Has z (forest_of n) (Some k)) l) (sym (append_none taken)) (makes_front z (forest_of n) k taken all.front)
+least_front z n k taken rows (Some w) forest table all least =
     let size = length (ways_of (forest_of n) k) in
-    let first : IsFirstAt (w ∷ rest) w.place = record { first = w; here = refl; place = refl } in
-    let a = first_makes (held_by z n k) rows (w ∷ rest) w.place waits.waits first in
+    let a = least.0 in
     makes_front z (forest_of n) k (taken ++ value_of w.part ∷ [])
     (front_more (setting z (forest_of n) k) (seen z (forest_of n) (parts z n) k) size (forest.laws k) (λ p. parts z n (way_at (forest_of n) k p).left) (λ p. parts z n (way_at (forest_of n) k p).right) taken rows all (parts_are z n table k size) w.place a.row (value_of w.part)
-    (record { here = a.here; live = a.value; least = first_least (held_by z n k) rows (w ∷ rest) w.place (forest.laws k).total waits first }))
+    (record { here = a.here; live = a.value; least = least.1 }))
+
+-- the same of the least that waits
+ready_front : (z : Value) (n : List Node) (k : ℕ) (taken : List Value) (rows : List Row) (q : List Waiting) → IsForest z (forest_of n) → IsTable z n → RowsOf z (forest_of n) (parts z n) k (length (ways_of (forest_of n) k)) taken rows → IsQueue (held_by z n k) rows q
+    → IsFront value_cmp (Has z (forest_of n) (Some k)) (taken ++ least_part q)
+ready_front z n k taken rows [] forest table all waits = least_front z n k taken rows None forest table all (none_made (held_by z n k) rows [] refl waits.waits)
+ready_front z n k taken rows (w ∷ rest) forest table all waits =
+    let first : IsFirstAt (w ∷ rest) w.place = record { first = w; here = refl; place = refl } in
+    least_front z n k taken rows (Some w) forest table all
+    (first_makes (held_by z n k) rows (w ∷ rest) w.place waits.waits first, first_least (held_by z n k) rows (w ∷ rest) w.place (forest.laws k).total waits first)
 
 -- a node whose parts and queue have not changed
 same_ready : (old new : Node) → new.made.items ≡ old.made.items → heap_items new.queue ≡ heap_items old.queue → ready_of new ≡ ready_of old
@@ -119,8 +127,39 @@ same_ready old new e f = λ i. map value_of (e i) ++ least_part (f i)
 extends_same : (xs ys : List Value) → ys ≡ xs → Extends xs ys
 extends_same xs ys e = λ i v p. (λ j. slice_get (e j) i) ∙ p
 
-extends_none : (xs ys : List Value) → xs ≡ [] → Extends xs ys
+pub extends_none : (xs ys : List Value) → xs ≡ [] → Extends xs ys
 extends_none xs ys e = λ i v p. absurd (let q : slice_get [] i ≡ Some v = (λ j. slice_get (sym e j) i) ∙ p in cc)
+
+-- two firsts are the same
+same_first : (z : Value) (n : List Node) (k : ℕ) (a b : Value) → IsTotalOrder value_cmp → IsFront value_cmp (Has z (forest_of n) (Some k)) (a ∷ []) → IsFront value_cmp (Has z (forest_of n) (Some k)) (b ∷ []) → a ≡ b
+same_first z n k a b total fa fb =
+    elim (first_before a fa b (fb.sound 0 b refl)) [
+      | inr e ↦ e
+      | inl less ↦ elim (first_before b fb a (fa.sound 0 a refl)) [
+        | inr e ↦ sym e
+        | inl more ↦ absurd (less_not total a a (total.trans a b a less more) refl)
+      ]
+    ]
+  where
+    only : (x v : Value) → IsIn (x ∷ []) v → x ≡ v
+    only x v (zero, e) = cc
+    only x v (suc i, e) = absurd cc
+
+    first_before : (x : Value) → IsFront value_cmp (Has z (forest_of n) (Some k)) (x ∷ []) → (v : Value) → Has z (forest_of n) (Some k) v → (value_cmp x v ≡ Less) ⊎ (x ≡ v)
+    first_before x f v h = elim (f.below v h) [ inl i ↦ inr (only x v i) | inr before ↦ inl (before 0 x refl) ]
+
+-- what could be read before the node began can be read at its place then
+again_least : (z : Value) (n : List Node) (k : ℕ) (rows : List Row) (queue old : List Waiting) → IsForest z (forest_of n) → IsTable z n → RowsOf z (forest_of n) (parts z n) k (length (ways_of (forest_of n) k)) [] rows → IsQueue (held_by z n k) rows queue
+    → IsFront value_cmp (Has z (forest_of n) (Some k)) (least_part old) → Extends (least_part old) (least_part queue)
+again_least z n k rows queue [] forest table all waits front i v p = absurd cc
+again_least z n k rows [] (w ∷ old) forest table all waits front i v p =
+    let size = length (ways_of (forest_of n) k) in
+    let none = none_made (held_by z n k) rows [] refl waits.waits in
+    let x = finished (setting z (forest_of n) k) (seen z (forest_of n) (parts z n) k) size (forest.laws k) (λ p. parts z n (way_at (forest_of n) k p).left) (λ p. parts z n (way_at (forest_of n) k p).right) [] rows all (parts_are z n table k size) none (value_of w.part) (has_makes z (forest_of n) (Some k) (value_of w.part) k (front.sound 0 (value_of w.part) refl) refl) in
+    absurd (let q = x.1 in cc)
+again_least z n k rows (u ∷ queue) (w ∷ old) forest table all waits front i v p =
+    let same = same_first z n k (value_of u.part) (value_of w.part) (forest.laws k).total (ready_front z n k [] rows (u ∷ queue) forest table all waits) front in
+    subst (λ (x : Value). slice_get (x ∷ []) i ≡ Some v) (sym same) p
 
 pub started : (z : Value) (n : List Node) (k : ℕ) (node new : Node) (rows : List Row) (queue : List Waiting) → IsForest z (forest_of n) → IsTable z n → (b : IsIdle n k) → node ≡ get_or n k node → Starts node rows queue new → RowsOf z (forest_of n) (parts z n) k (length (ways_of (forest_of n) k)) [] rows → IsQueue (held_by z n k) rows queue
     → Stepped z n (set n k new) k
@@ -128,10 +167,12 @@ started z n k node new rows queue forest table b at starts' all waits =
     let e : node ≡ b.node = at ∙ get_or_from_slice_get n k b.node node b.here in
     let starts : Starts b.node rows queue new = subst (λ (t : Node). Starts t rows queue new) e starts' in
     let is = table k b.node b.here in
-    let empty : values_of new ≡ [] = (λ i. map value_of (starts.made i)) ∙ none_first (values_of b.node) (least_part (heap_items b.node.queue)) (is.idle b.idle) in
-    let more = extends_none (ready_of b.node) (ready_of new) (is.idle b.idle) in
+    let empty : values_of new ≡ [] = (λ i. map value_of (starts.made i)) ∙ is.idle b.idle in
     let ready : ready_of new ≡ least_part queue = λ i. empty i ++ least_part (starts.queue_is i) in
     let size = length (ways_of (forest_of n) k) in
+    let old_ready : ready_of b.node ≡ least_part (heap_items b.node.queue) = λ i. is.idle b.idle i ++ least_part (heap_items b.node.queue) in
+    let more : Extends (ready_of b.node) (ready_of new) = λ i v p. (λ j. slice_get (ready j) i)
+    ∙ again_least z n k rows queue (heap_items b.node.queue) forest table all waits (subst (λ (l : List Value). IsFront value_cmp (Has z (forest_of n) (Some k)) l) old_ready is.front) i v ((λ j. slice_get (sym old_ready j) i) ∙ p) in
     let new_is : IsNode z (forest_of n) (parts z n) k new = record {
       ways = starts.ways ∙ is.ways;
       idle = λ f. absurd (true_false new.begun starts.begun f);

@@ -1,10 +1,11 @@
 -- The rows of a node that still make a part: each waits with that part, the least part first.
-use Rattle.std.specs.Prelude.{◌≡◌, ℕ, ◌==◌, Bool, List, [], ◌∷◌, ◌++◌, Option, Some, None, slice_get}
+use Rattle.std.specs.Prelude.{◌≡◌, ℕ, ◌==◌, Bool, List, [], ◌∷◌, ◌++◌, ◌⊎◌, Option, Some, None, slice_get}
 use Rattle.std.specs.BinaryHeap.{IsHeap, KeepsHeap}
 use Rattle.std.specs.List.{Contains, IsDistinct}
 use Rattle.std.specs.List.Sorted.{IsPermutation}
 use Rattle.std.specs.Ordering.{on, flip_args}
 use Rattle.std.specs.declared.cmp.Ordering.{Ordering}
+use Rattle.lg_rank.specs.Fronts.{AtMost}
 use Rattle.lg_rank.specs.Values.{Value, value_of, value_cmp}
 use Rattle.lg_rank.specs.declared.part.Part.{Part}
 use Rattle.lg_rank.specs.declared.queue.Waiting.{Waiting}
@@ -67,3 +68,14 @@ pub record Requeued (old : List Waiting) (again opened : Option Waiting) (part :
   pub taken : IsPermutation old (first ∷ rest)
   pub put : IsPermutation (waiting_list opened ++ (waiting_list again ++ rest)) new
   pub heap : KeepsHeap waiting_cmp old new
+
+-- w is the least that the rows make, or they make none
+abbrev pub IsLeastOf : {R : Type 0} → (R → Option Value) → List R → Option Waiting → Type 0
+IsLeastOf {R} held rows None = (m : ℕ) (r : R) → slice_get rows m ≡ Some r → held r ≡ None
+IsLeastOf {R} held rows (Some w) = MakesAt held rows w.place (value_of w.part) × ((m : ℕ) (r : R) (v : Value) → slice_get rows m ≡ Some r → held r ≡ Some v → AtMost value_cmp (value_of w.part) v)
+
+-- the lesser of w and of what the row r makes, which stands at m
+pub record IsLesser {R : Type 0} (held : R → Option Value) (m : ℕ) (r : R) (w next : Waiting) : Type 0 where
+  pub either : (next ≡ w) ⊎ ((next.place ≡ m) × (held r ≡ Some (value_of next.part)))
+  pub first : AtMost value_cmp (value_of next.part) (value_of w.part)
+  pub other : (v : Value) → held r ≡ Some v → AtMost value_cmp (value_of next.part) v

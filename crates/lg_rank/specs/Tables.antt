@@ -4,7 +4,7 @@ use Rattle.std.specs.BinaryHeap.{heap_items, heap_len, heap_capacity}
 use Rattle.std.specs.Vec.{vec_len, vec_capacity}
 use Rattle.lg_rank.specs.Fronts.{IsAll, IsFront, Extends, AtMost}
 use Rattle.lg_rank.specs.Merges.{Merged, Advanced, PlaceRow, Row as Seen, seen_by}
-use Rattle.lg_rank.specs.Queues.{least_part, IsQueue, IsFirstAt, Requeued}
+use Rattle.lg_rank.specs.Queues.{least_part, waiting_list, IsLeastOf, IsQueue, IsFirstAt, Requeued}
 use Rattle.lg_rank.specs.Values.{Value, value_of, value_cmp, combine}
 use Rattle.lg_rank.specs.Nodes.{Has, ways_of, way_at, setting}
 use Rattle.lg_rank.specs.declared.part.Part.{Part}
@@ -62,7 +62,7 @@ held_in z forest lists k r = (seen z forest lists k r).value
 
 pub record IsNode (z : Value) (forest : List (List Way)) (lists : Option ℕ → List Value) (k : ℕ) (node : Node) : Type 0 where
   pub ways : node.ways.items ≡ ways_of forest k
-  pub idle : node.begun ≡ false → ready_of node ≡ []
+  pub idle : node.begun ≡ false → values_of node ≡ []
   pub busy : node.begun ≡ true → RowsOf z forest lists k (length (ways_of forest k)) (values_of node) node.rows.items
   pub queue : node.begun ≡ true → IsQueue (held_in z forest lists k) node.rows.items (heap_items node.queue)
   pub front : IsFront value_cmp (Has z forest (Some k)) (ready_of node)
@@ -205,6 +205,22 @@ pub record Starts (old : Node) (rows : List Row) (queue : List Waiting) (new : N
   pub queue_is : heap_items new.queue ≡ queue
   pub ways : new.ways.items ≡ old.ways.items
   pub begun : new.begun ≡ true
+
+-- another queue, and the same node
+pub record Shows (old : Node) (queue : List Waiting) (new : Node) : Type 0 where
+  pub made : new.made.items ≡ old.made.items
+  pub rows : new.rows.items ≡ old.rows.items
+  pub queue_is : heap_items new.queue ≡ queue
+  pub ways : new.ways.items ≡ old.ways.items
+  pub begun : new.begun ≡ old.begun
+
+-- the least part that the rows make with which node k would begin waits alone, or none where they make none
+pub record IsPeeked (z : Value) (nodes : List Node) (k : ℕ) (queue : List Waiting) : Type 0 where
+  pub rows : List Row
+  pub all : RowsOf z (forest_of nodes) (parts z nodes) k (length (ways_of (forest_of nodes) k)) [] rows
+  pub least : Option Waiting
+  pub is_least : IsLeastOf (held_by z nodes k) rows least
+  pub queue_is : queue ≡ waiting_list least
 
 -- node k has changed, and is begun
 pub record Stepped (z : Value) (old new : List Node) (k : ℕ) : Type 0 where

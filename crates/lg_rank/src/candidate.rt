@@ -1,6 +1,7 @@
 //! What a way makes of two parts.
-ghost use Rattle.std.specs.Prelude.{◌≡◌, ◌<◌, IfOk};
-ghost use Rattle.lg_rank.specs.Values.{value_of};
+ghost use Rattle.std.specs.Prelude.{◌≡◌, ◌<◌, IfOk, IsTrue};
+ghost use Rattle.std.specs.declared.cmp.Ordering.TheVariants.{Less};
+ghost use Rattle.lg_rank.specs.Values.{value_cmp, value_of};
 ghost use Rattle.lg_rank.specs.Candidates.{made_by, IsSound};
 ghost use Rattle.lg_rank.specs.Sources.{part_in};
 ghost use Rattle.lg_rank.specs.Trees.{choices_from, links_of};
@@ -110,6 +111,15 @@ impl Candidate<'_> {
         self.left.push_links(self.way.near, &mut links)?;
         self.right.push_links(self.way.far, &mut links)?;
         Ok(links)
+    }
+
+    /// Whether it costs more than a part, or as much and spans more: then it comes behind, and need not be spelled to tell that.
+    pub fn is_behind(&self, part: &Part) -> bool
+        requires { IsSound self.now }
+        ensures { IsTrue result → value_cmp (value_of part.now) (made_by self.now) ≡ Less }
+    {
+        let cost = self.cost();
+        part.cost < cost || part.cost == cost && part.span < self.span()
     }
 
     /// The part, spelled.

@@ -1,14 +1,15 @@
 //! The nodes of a table: the ways of a node, the parts that were made, and the rows from which the next comes.
-ghost use Rattle.std.specs.Prelude.{◌≡◌, ◌+◌, ◌<◌, ◌++◌, ◌∷◌, [], length, slice_get, OnErr, OnOk, IfOk, MatchOption, Some, true, false};
+ghost use Rattle.std.specs.Prelude.{◌≡◌, ◌+◌, ◌<◌, ◌++◌, ◌∷◌, [], List, length, slice_get, suc, OnErr, OnOk, IfOk, IsTrue, MatchOption, Some, true, false};
 ghost use Rattle.std.specs.BinaryHeap.{heap_items};
 ghost use Rattle.std.specs.Vec.{vec_len, vec_capacity};
 ghost use Rattle.lg_rank.specs.Fronts.{IsAll};
 ghost use Rattle.lg_rank.specs.Merges.{Advanced};
-ghost use Rattle.lg_rank.specs.Values.{value_of};
+ghost use Rattle.std.specs.declared.cmp.Ordering.TheVariants.{Less};
+ghost use Rattle.lg_rank.specs.Values.{value_cmp, value_of};
 ghost use Rattle.lg_rank.specs.Nodes.{Has, ways_of, IsForest};
 ghost use Rattle.lg_rank.specs.Sources.{value_in};
-ghost use Rattle.lg_rank.specs.Queues.{IsQueue, IsFirstAt, IsWaiting, IsOpened};
-ghost use Rattle.lg_rank.specs.Tables.{forest_of, parts, made_at, ready_at, IsTable, IsBegun, IsIdle, rows_at, queue_at, held_by, IsWayOf, Holds, value_at, Chosen, GoesOn, Begin, HasRoom, Puts, IsSameNode, Starts, Stepped, RowsOf, row_list};
+ghost use Rattle.lg_rank.specs.Queues.{least_part, IsFirstAt, IsLeastOf, IsLesser, IsOpened, IsQueue, IsWaiting};
+ghost use Rattle.lg_rank.specs.Tables.{forest_of, parts, made_at, ready_at, IsTable, IsBegun, IsIdle, rows_at, queue_at, held_by, IsWayOf, Holds, value_at, Chosen, GoesOn, Begin, HasRoom, Puts, Grown, IsPeeked, IsSameNode, Shows, Starts, Stepped, RowsOf, row_list};
 
 use crate::candidate::Candidate;
 use crate::part::{Part, Way};
@@ -18,6 +19,7 @@ use crate::small::SmallWay;
 use crate::source::Source;
 use lg_base::NoMemory;
 use std::alloc::Global;
+use std::cmp::Ordering;
 use std::collections::BinaryHeap;
 
 /// The parts that one way makes with one right part, one after another: those with the left parts from `next` on are not taken
@@ -32,6 +34,8 @@ pub struct Row {
 
 /// A node, with the parts that were made. A live row waits in the queue with the part that it makes next. The first of the queue
 /// is the part behind those that were made: it can be read there, so that no part is made before the one behind it is asked for.
+///
+/// Of most nodes the least part alone is asked for. Such a node is not begun: it has no rows, and its least part waits alone.
 #[derive(Debug, Drop)]
 pub struct Node {
     pub ways: Vec<SmallWay>,
@@ -192,6 +196,21 @@ fn row_part(
     Ok(part)
 }
 
+// Whether the part that a row of the node makes comes behind another, as its cost or its span tells.
+fn row_is_behind(nothing: &Part, nodes: &[Node], k: usize, row: Row, part: &Part) -> bool
+    requires within { k < length nodes.now }
+    requires forest { IsForest (value_of nothing.now) (forest_of nodes.now) }
+    requires table { IsTable (value_of nothing.now) nodes.now }
+    requires holds { Holds (value_of nothing.now) nodes.now k row }
+    ensures { IsTrue result → value_cmp (value_of part.now) (value_at (value_of nothing.now) nodes.now k row) ≡ Less }
+{
+    let way = way_of(nothing, nodes, k, row.way);
+    let left = part_of(nothing, nodes, way.left, row.next);
+    let right = part_of(nothing, nodes, way.right, row.at);
+    let candidate = Candidate { way, left, right };
+    candidate.is_behind(part)
+}
+
 // The place of the live row with the least part, or none where no row is live.
 fn first_of(nodes: &[Node], k: usize) -> Option<usize>
     requires { k < length nodes.now }
@@ -238,6 +257,81 @@ fn with_part(
     }
     let part = row_part(alloc, nothing, nodes, k, row)?;
     Ok(Some(Waiting { place, part }))
+}
+
+// The lesser of a part and of what a row makes. What is told by cost or span alone is not spelled.
+fn lesser(
+    alloc: Global,
+    nothing: &Part,
+    nodes: &[Node],
+    k: usize,
+    place: usize,
+    row: Row,
+    least: Waiting,
+) -> Result<Waiting, NoMemory>
+    requires within { k < length nodes.now }
+    requires forest { IsForest (value_of nothing.now) (forest_of nodes.now) }
+    requires table { IsTable (value_of nothing.now) nodes.now }
+    requires holds { row.live ≡ true → Holds (value_of nothing.now) nodes.now k row }
+    ensures { IfOk result (IsLesser (held_by (value_of nothing.now) nodes.now k) place row least) }
+{
+    if !row.live {
+        return Ok(least);
+    }
+    if row_is_behind(nothing, nodes, k, row, least.part.part()) {
+        return Ok(least);
+    }
+    let part = row_part(alloc, nothing, nodes, k, row)?;
+    if part.compare(&least.part) == Ordering::Less {
+        return Ok(Waiting { place, part });
+    }
+    Ok(least)
+}
+
+// The least of some rows and of one more.
+fn least_with(
+    alloc: Global,
+    nothing: &Part,
+    nodes: &[Node],
+    k: usize,
+    place: usize,
+    row: Row,
+    least: Option<Waiting>,
+) -> Result<Option<Waiting>, NoMemory>
+    requires within { k < length nodes.now }
+    requires forest { IsForest (value_of nothing.now) (forest_of nodes.now) }
+    requires table { IsTable (value_of nothing.now) nodes.now }
+    requires holds { row.live ≡ true → Holds (value_of nothing.now) nodes.now k row }
+    ensures { IfOk result (λ next. (rows : List Row) → place ≡ length rows → IsLeastOf (held_by (value_of nothing.now) nodes.now k) rows least → IsLeastOf (held_by (value_of nothing.now) nodes.now k) (rows ++ row ∷ []) next) }
+{
+    match least {
+        None => with_part(alloc, nothing, nodes, k, place, row),
+        Some(first) => {
+            let least = lesser(alloc, nothing, nodes, k, place, row, first)?;
+            Ok(Some(least))
+        }
+    }
+}
+
+/// The least part that the rows with which the node begins make, or none where there is none.
+pub fn least_of_rows(
+    alloc: Global,
+    nothing: &Part,
+    nodes: &[Node],
+    k: usize,
+    rows: &[Row],
+) -> Result<Option<Waiting>, NoMemory>
+    requires within { k < length nodes.now }
+    requires forest { IsForest (value_of nothing.now) (forest_of nodes.now) }
+    requires table { IsTable (value_of nothing.now) nodes.now }
+    requires all { RowsOf (value_of nothing.now) (forest_of nodes.now) (parts (value_of nothing.now) nodes.now) k (length (ways_of (forest_of nodes.now) k)) [] rows.now }
+    ensures { IfOk result (IsLeastOf (held_by (value_of nothing.now) nodes.now k) rows.now) }
+{
+    let mut least = None;
+    for i in 0..rows.len() {
+        least = least_with(alloc, nothing, nodes, k, i, rows[i], least)?;
+    }
+    Ok(least)
 }
 
 // The same of a row that is to come behind the others, if there is one.
@@ -387,4 +481,25 @@ pub fn start_node(
     ensures { Stepped (value_of nothing.now) nodes.old.items nodes.new.items k }
 {
     start(&mut nodes[k], rows, queue);
+}
+
+fn show(node: &mut Node, queue: BinaryHeap<Waiting>)
+    ensures { Shows node.old (heap_items queue) node.new }
+{
+    node.queue = queue;
+}
+
+/// The least part of the node can be read now, and no other one is made for that: it waits alone.
+pub fn show_least(nothing: &Part, nodes: &mut Vec<Node>, k: usize, queue: BinaryHeap<Waiting>)
+    requires forest { IsForest (value_of nothing.now) (forest_of nodes.old.items) }
+    requires table { IsTable (value_of nothing.now) nodes.old.items }
+    requires idle { IsIdle nodes.old.items k }
+    requires unread { ready_at nodes.old.items k ≡ [] }
+    requires least { IsPeeked (value_of nothing.now) nodes.old.items k (heap_items queue) }
+    ensures table { IsTable (value_of nothing.now) nodes.new.items }
+    ensures grown { Grown (suc k) nodes.old.items nodes.new.items }
+    ensures ready { ready_at nodes.new.items k ≡ least_part (heap_items queue) }
+    ensures none { heap_items queue ≡ [] → IsAll (Has (value_of nothing.now) (forest_of nodes.new.items) (Some k)) [] }
+{
+    show(&mut nodes[k], queue);
 }

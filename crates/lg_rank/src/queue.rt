@@ -1,5 +1,5 @@
 //! The rows of a node that still make a part: each waits with that part, and the least part comes first.
-ghost use Rattle.std.specs.Prelude.{◌≡◌, ◌≢◌, ◌+◌, ◌<◌, ◌≤◌, ◌++◌, ◌∷◌, [], length, IsOk, OnOk, MatchOption};
+ghost use Rattle.std.specs.Prelude.{◌≡◌, ◌≢◌, ◌+◌, ◌<◌, ◌≤◌, ◌++◌, ◌∷◌, [], length, IfOk, IsOk, OnOk, MatchOption};
 ghost use Rattle.std.specs.BinaryHeap.{heap_items, heap_len, heap_capacity, KeepsHeap};
 ghost use Rattle.std.specs.Cmp.{partial_order_from_own_ties};
 ghost use Rattle.std.specs.Cmp.Rules.{comparing};
@@ -12,6 +12,7 @@ ghost use Rattle.lg_rank.specs.Values.{value_of};
 use crate::part::Part;
 use crate::ready::Ready;
 use lg_base::NoMemory;
+use std::alloc::Global;
 use std::cmp::Ordering;
 use std::collections::BinaryHeap;
 
@@ -121,4 +122,13 @@ pub fn take_first(
     let _ = put_in(queue, again);
     let _ = put_in(queue, opened);
     first.part.into_part()
+}
+
+/// A queue in which this one waits alone, if there is one.
+pub fn alone(alloc: Global, waiting: Option<Waiting>) -> Result<BinaryHeap<Waiting>, NoMemory>
+    ensures { IfOk result (λ queue. heap_items queue ≡ waiting_list waiting) }
+{
+    let mut queue = BinaryHeap::new(alloc);
+    put_in(&mut queue, waiting)?;
+    Ok(queue)
 }

@@ -1,15 +1,16 @@
 //! A table of nodes that make their parts on demand, in order.
-ghost use Rattle.std.specs.Prelude.{◌≡◌, ℕ, List, ◌+◌, ◌<◌, ◌≤◌, suc, length, slice_get, IfOk, OnOk, Some};
+ghost use Rattle.std.specs.Prelude.{◌≡◌, ℕ, List, ◌+◌, ◌<◌, ◌≤◌, suc, [], length, slice_get, IfOk, OnOk, Some};
 ghost use Rattle.lg_rank.specs.Fronts.{IsListOf};
 ghost use Rattle.lg_rank.specs.Values.{Value, value_of, value_cmp};
-ghost use Rattle.lg_rank.specs.Nodes.{Has, IsForest};
-ghost use Rattle.lg_rank.specs.Tables.{forest_of, parts, made_at, IsTable, Grown, end_of, IsNth, IsBegun, IsPart, GoesOn, IsFirstOf, Advances, Begin, IsIdle};
+ghost use Rattle.lg_rank.specs.Nodes.{Has, IsForest, ways_of};
+ghost use Rattle.lg_rank.specs.Tables.{forest_of, parts, made_at, IsTable, Grown, end_of, IsNth, IsBegun, IsPart, GoesOn, IsFirstOf, Advances, Begin, IsIdle, RowsOf};
 
 use crate::node::{
-    Node, Row, add, choose, is_begun, made_count, part_count, queue_of, ready_count, start_node,
-    take_part, way_count, way_of,
+    Node, Row, add, choose, is_begun, least_of_rows, made_count, part_count, queue_of, ready_count,
+    show_least, start_node, take_part, way_count, way_of,
 };
 use crate::part::{Part, Way};
+use crate::queue::alone;
 use lg_base::NoMemory;
 use std::alloc::Global;
 
@@ -48,6 +49,9 @@ impl Table {
         ensures value { IfOk result (λ r. IsNth (value_of nothing.now) self.new.nodes.items (Some k) i r) }
     {
         if !is_begun(self.nodes.as_slice(), k) {
+            if i == 0 {
+                return self.peek(alloc, nothing, k);
+            }
             self.begin(alloc, nothing, k)?;
         }
         'making: while made_count(self.nodes.as_slice(), k) < i {
@@ -144,6 +148,48 @@ impl Table {
 }
 
 impl Table {
+    // The rows with which node `k` begins: the first one of each way.
+    #[cycle(merge)]
+    fn first_rows(&mut self, alloc: Global, nothing: &Part, k: usize) -> Result<Vec<Row>, NoMemory>
+        requires within { k < length self.old.nodes.items }
+        requires forest { IsForest (value_of nothing.now) (forest_of self.old.nodes.items) }
+        requires table { IsTable (value_of nothing.now) self.old.nodes.items }
+        ensures table { IsTable (value_of nothing.now) self.new.nodes.items }
+        ensures grown { Grown k self.old.nodes.items self.new.nodes.items }
+        ensures rows { IfOk result (λ rows. RowsOf (value_of nothing.now) (forest_of self.new.nodes.items) (parts (value_of nothing.now) self.new.nodes.items) k (length (ways_of (forest_of self.new.nodes.items) k)) [] rows.items) }
+    {
+        let mut rows = Vec::new(alloc);
+        let count = way_count(self.nodes.as_slice(), k);
+        for p in 0..count {
+            let way = way_of(nothing, self.nodes.as_slice(), k, p);
+            let first = self.first_row(alloc, nothing, k, p, way, 0)?;
+            add(&mut rows, first)?;
+        }
+        Ok(rows)
+    }
+
+    // Whether node `k`, which is not begun, has a part. Of its parts the least is found alone.
+    #[cycle(merge)]
+    fn peek(&mut self, alloc: Global, nothing: &Part, k: usize) -> Result<bool, NoMemory>
+        requires within { k < length self.old.nodes.items }
+        requires forest { IsForest (value_of nothing.now) (forest_of self.old.nodes.items) }
+        requires table { IsTable (value_of nothing.now) self.old.nodes.items }
+        requires idle { IsIdle self.old.nodes.items k }
+        ensures table { IsTable (value_of nothing.now) self.new.nodes.items }
+        ensures grown { Grown (suc k) self.old.nodes.items self.new.nodes.items }
+        ensures value { IfOk result (λ r. IsNth (value_of nothing.now) self.new.nodes.items (Some k) 0 r) }
+    {
+        if ready_count(self.nodes.as_slice(), k) > 0 {
+            return Ok(true);
+        }
+        let rows = self.first_rows(alloc, nothing, k)?;
+        let least = least_of_rows(alloc, nothing, self.nodes.as_slice(), k, rows.as_slice())?;
+        let queue = alone(alloc, least)?;
+        show_least(nothing, &mut self.nodes, k, queue);
+        Ok(ready_count(self.nodes.as_slice(), k) > 0)
+    }
+
+    // Node `k` begins: all its rows wait.
     #[cycle(merge)]
     fn begin(&mut self, alloc: Global, nothing: &Part, k: usize) -> Result<(), NoMemory>
         requires within { k < length self.old.nodes.items }
@@ -154,13 +200,7 @@ impl Table {
         ensures grown { Grown (suc k) self.old.nodes.items self.new.nodes.items }
         ensures begun { OnOk result (IsBegun self.new.nodes.items k) }
     {
-        let mut rows = Vec::new(alloc);
-        let count = way_count(self.nodes.as_slice(), k);
-        for p in 0..count {
-            let way = way_of(nothing, self.nodes.as_slice(), k, p);
-            let first = self.first_row(alloc, nothing, k, p, way, 0)?;
-            add(&mut rows, first)?;
-        }
+        let rows = self.first_rows(alloc, nothing, k)?;
         let queue = queue_of(alloc, nothing, self.nodes.as_slice(), k, rows.as_slice())?;
         start_node(nothing, &mut self.nodes, k, rows, queue);
         Ok(())

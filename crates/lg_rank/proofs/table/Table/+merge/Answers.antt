@@ -5,10 +5,11 @@ use Rattle.lg_rank.specs.declared.table.Table.{Table}
 use Rattle.lg_rank.specs.Values.{value_of}
 use Rattle.lg_rank.specs.Tables.{IsTable, IsBegun, IsIdle, Chosen, Stepped, IsNth, Advances, made_at}
 use Rattle.lg_rank.proofs.Forests.{begun_more, grown_more, grown_none, forest_more}
+use Rattle.lg_rank.proofs.Peeking.{least_slices}
 use Rattle.lg_rank.proofs.Reading.{idle_more}
 use Rattle.lg_rank.proofs.Steps.{chosen_left, chosen_right, chosen_grown, goes_on_grown, begin_step, begin_all, begin_slices, queue_slices, nth_none, nth_ready, first_made}
 use Rattle.lg_rank.proofs.table.Table.+merge.Goals as goal
-use Rattle.lg_rank.proofs.table.Table.+merge.Goals.{nth-then-not-is_begun+in_ok-begin, nth-else-not-is_begun}
+use Rattle.lg_rank.proofs.table.Table.+merge.Goals.{nth-then-not-is_begun+else-i-eq0+in_ok-begin, nth-else-not-is_begun}
 
 pub advance-choose-requires-clause-table : goal.advance-choose-requires-clause-table
 advance-choose-requires-clause-table t c = subst (λ (n : List Node). IsTable (value_of c.args.nothing.now) n) (sym c.as_slice.ensures.value) c.requires.table
@@ -34,38 +35,57 @@ pub advance-take_part-requires-clause-goes_on : goal.advance-take_part-requires-
 advance-take_part-requires-clause-goes_on t c =
     goes_on_grown (value_of c.args.nothing.now) c.args.k c.following.new.self.nodes.items c.beginning.new.self.nodes.items c.in-Some.choice.way c.in-Some.choice.row c.in_ok-after.after c.beginning.ensures.grown c.in_ok-after.ensures.value
 
-pub begin-loop-p-preserved : goal.begin-loop-p-preserved
-begin-loop-p-preserved t c = record {
+pub first_rows-loop-p-preserved : goal.first_rows-loop-p-preserved
+first_rows-loop-p-preserved t c = record {
   table = c.first_row.ensures.table;
   grown = grown_more c.args.k c.args.k c.args.self.now.nodes.items c.loop-p.self.nodes.items c.first_row.new.self.nodes.items (omega arith) c.loop-p.invariant.grown c.first_row.ensures.grown;
   end = c.loop-p.invariant.end;
   rows_of = begin_step (value_of c.args.nothing.now) c.args.k c.loop-p.self.nodes.items c.first_row.new.self.nodes.items c.as_slice-in-loop-p.result.now c.args.k c.loop-p.p c.way_of-way.result c.loop-p.rows.items _ c.in_ok-first.first c.as_slice-in-loop-p.ensures.value c.way_of-way.ensures c.first_row.ensures.grown c.loop-p.invariant.rows_of c.in_ok-first.ensures.value c.in_ok-add.ensures;
 }
 
+pub first_rows-returns-clause-rows : goal.first_rows-returns-clause-rows
+first_rows-returns-clause-rows t c =
+    begin_all (value_of c.args.nothing.now) c.args.k c.args.self.now.nodes.items c.loop-p.self.nodes.items c.args.k c.loop-p.p c.way_count-count.result c.loop-p.rows.items c.loop-p.invariant.grown (omega arith) (omega arith) c.loop-p.invariant.end c.loop-p.invariant.rows_of
+
 pub begin-start_node-requires-clause-idle : goal.begin-start_node-requires-clause-idle
-begin-start_node-requires-clause-idle t c = idle_more c.args.k c.args.k c.args.self.now.nodes.items c.loop-p.self.nodes.items (omega arith) c.loop-p.invariant.grown c.requires.idle
+begin-start_node-requires-clause-idle t c = idle_more c.args.k c.args.k c.args.self.now.nodes.items c.first_rows.new.self.nodes.items (omega arith) c.first_rows.ensures.grown c.requires.idle
 
 pub begin-queue_of-requires-clause-table : goal.begin-queue_of-requires-clause-table
-begin-queue_of-requires-clause-table t c = subst (λ (n : List Node). IsTable (value_of c.args.nothing.now) n) (sym c.as_slice-2.ensures.value) c.loop-p.invariant.table
+begin-queue_of-requires-clause-table t c = subst (λ (n : List Node). IsTable (value_of c.args.nothing.now) n) (sym c.as_slice.ensures.value) c.first_rows.ensures.table
 
 pub begin-queue_of-requires-clause-all : goal.begin-queue_of-requires-clause-all
-begin-queue_of-requires-clause-all t c =
-    begin_slices (value_of c.args.nothing.now) c.loop-p.self.nodes.items c.as_slice-2.result.now c.args.k c.loop-p.rows.items c.as_slice-3.result.now c.as_slice-2.ensures.value c.as_slice-3.ensures.value
-    (begin_all (value_of c.args.nothing.now) c.args.k c.args.self.now.nodes.items c.loop-p.self.nodes.items c.args.k c.loop-p.p c.way_count-count.result c.loop-p.rows.items c.loop-p.invariant.grown (omega arith) (omega arith) c.loop-p.invariant.end c.loop-p.invariant.rows_of)
+begin-queue_of-requires-clause-all t c = begin_slices (value_of c.args.nothing.now) c.first_rows.new.self.nodes.items c.as_slice.result.now c.args.k c.in_ok-rows.rows.items c.as_slice-2.result.now c.as_slice.ensures.value c.as_slice-2.ensures.value c.in_ok-rows.ensures.rows
 
 pub begin-start_node-requires-clause-queue : goal.begin-start_node-requires-clause-queue
-begin-start_node-requires-clause-queue t c = queue_slices (value_of c.args.nothing.now) c.loop-p.self.nodes.items c.as_slice-2.result.now c.args.k c.loop-p.rows.items c.as_slice-3.result.now (heap_items c.in_ok-queue.queue) c.as_slice-2.ensures.value c.as_slice-3.ensures.value c.in_ok-queue.ensures
+begin-start_node-requires-clause-queue t c = queue_slices (value_of c.args.nothing.now) c.first_rows.new.self.nodes.items c.as_slice.result.now c.args.k c.in_ok-rows.rows.items c.as_slice-2.result.now (heap_items c.in_ok-queue.queue) c.as_slice.ensures.value c.as_slice-2.ensures.value c.in_ok-queue.ensures
 
-pub begin-start_node-requires-clause-all : goal.begin-start_node-requires-clause-all
-begin-start_node-requires-clause-all t c =
-    begin_all (value_of c.args.nothing.now) c.args.k c.args.self.now.nodes.items c.loop-p.self.nodes.items c.args.k c.loop-p.p c.way_count-count.result c.loop-p.rows.items c.loop-p.invariant.grown (omega arith) (omega arith) c.loop-p.invariant.end c.loop-p.invariant.rows_of
+pub peek-least_of_rows-requires-clause-table : goal.peek-least_of_rows-requires-clause-table
+peek-least_of_rows-requires-clause-table t c = subst (λ (n : List Node). IsTable (value_of c.args.nothing.now) n) (sym c.as_slice-2.ensures.value) c.first_rows.ensures.table
+
+pub peek-least_of_rows-requires-clause-all : goal.peek-least_of_rows-requires-clause-all
+peek-least_of_rows-requires-clause-all t c = begin_slices (value_of c.args.nothing.now) c.first_rows.new.self.nodes.items c.as_slice-2.result.now c.args.k c.in_ok-rows.rows.items c.as_slice-3.result.now c.as_slice-2.ensures.value c.as_slice-3.ensures.value c.in_ok-rows.ensures.rows
+
+pub peek-show_least-requires-clause-idle : goal.peek-show_least-requires-clause-idle
+peek-show_least-requires-clause-idle t c = idle_more c.args.k c.args.k c.args.self.now.nodes.items c.first_rows.new.self.nodes.items (omega arith) c.first_rows.ensures.grown c.requires.idle
+
+pub peek-show_least-requires-clause-least : goal.peek-show_least-requires-clause-least
+peek-show_least-requires-clause-least t c = record {
+  rows = c.in_ok-rows.rows.items;
+  all = c.in_ok-rows.ensures.rows;
+  least = c.in_ok-least.least;
+  is_least = least_slices (value_of c.args.nothing.now) c.first_rows.new.self.nodes.items c.as_slice-2.result.now c.args.k c.in_ok-rows.rows.items c.as_slice-3.result.now c.in_ok-least.least c.as_slice-2.ensures.value c.as_slice-3.ensures.value c.in_ok-least.ensures;
+  queue_is = c.in_ok-queue.ensures;
+}
+
+pub nth-peek-requires : goal.nth-peek-requires
+nth-peek-requires t c = (search rules, (c.requires.within, (c.requires.forest, (c.requires.table, subst (λ (n : List Node). IsIdle n c.args.k) c.as_slice.ensures.value (c.is_begun.ensures.no c.if-not-is_begun.true)))))
 
 pub nth-begin-requires : goal.nth-begin-requires
 nth-begin-requires t c = (search rules, (c.requires.within, (c.requires.forest, (c.requires.table, subst (λ (n : List Node). IsIdle n c.args.k) c.as_slice.ensures.value (c.is_begun.ensures.no c.if-not-is_begun.true)))))
 
 pub nth-making-init : goal.nth-making-init
 nth-making-init t c = elim c.if-not-is_begun.branch [
-  | nth-then-not-is_begun+in_ok-begin w ↦ subst (λ (s : Table). Stepped (value_of c.args.nothing.now) c.args.self.now.nodes.items s.nodes.items c.args.k) (sym w.self-is) (record { table = w.begin.ensures.table; grown = w.begin.ensures.grown; begun = w.in_ok-begin.ensures.begun })
+  | nth-then-not-is_begun+else-i-eq0+in_ok-begin w ↦ subst (λ (s : Table). Stepped (value_of c.args.nothing.now) c.args.self.now.nodes.items s.nodes.items c.args.k) (sym w.self-is) (record { table = w.begin.ensures.table; grown = w.begin.ensures.grown; begun = w.in_ok-begin.ensures.begun })
   | nth-else-not-is_begun w ↦ subst (λ (s : Table). Stepped (value_of c.args.nothing.now) c.args.self.now.nodes.items s.nodes.items c.args.k) (sym w.self-is) (record { table = c.requires.table; grown = grown_none (suc c.args.k) c.args.self.now.nodes.items; begun = subst (λ (n : List Node). IsBegun n c.args.k) c.as_slice.ensures.value (c.is_begun.ensures.yes w.if-not-is_begun.false) })
 ]
 

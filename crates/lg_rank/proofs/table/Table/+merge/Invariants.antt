@@ -16,6 +16,12 @@ decreases-following l = 5 * l.k + 2
 abbrev pub decreases-beginning : goal.decreases-beginning
 decreases-beginning l = 5 * l.k + 3
 
+abbrev pub decreases-first_rows : goal.decreases-first_rows
+decreases-first_rows l = 5 * l.k + 3
+
+abbrev pub decreases-peek : goal.decreases-peek
+decreases-peek l = 5 * l.k + 4
+
 abbrev pub decreases-begin : goal.decreases-begin
 decreases-begin l = 5 * l.k + 4
 
@@ -31,8 +37,8 @@ invariant-nth-making l = Stepped (value_of l.nothing) l.fn.self.nodes.items l.se
 abbrev pub decreases-nth-making : goal.decreases-nth-making
 decreases-nth-making l = (l.i + 1) - length (made_at l.self.nodes.items l.k)
 
-abbrev pub invariant-begin-loop-p : goal.invariant-begin-loop-p
-invariant-begin-loop-p l = record {
+abbrev pub invariant-first_rows-loop-p : goal.invariant-first_rows-loop-p
+invariant-first_rows-loop-p l = record {
   table : IsTable (value_of l.nothing) l.self.nodes.items;
   grown : Grown l.k l.fn.self.nodes.items l.self.nodes.items;
   end : l.count ≡ length (ways_of (forest_of l.fn.self.nodes.items) l.k);
