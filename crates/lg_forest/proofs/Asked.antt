@@ -152,10 +152,6 @@ pub on_err_any : {T E : Type 0} (r : Result T E) (P : Type 0) → P → OnErr r 
 on_err_any (Ok x) P p = tt
 on_err_any (Err e) P p = p
 
-pub on_err_as : {T E : Type 0} (r : Result T E) (P Q : Type 0) → (P → Q) → OnErr r P → OnErr r Q
-on_err_as (Ok x) P Q f h = tt
-on_err_as (Err e) P Q f h = f h
-
 -- what the alternatives before a place ask for
 abbrev pub AsksBy : Numbering → List Alt → ℕ → Key → Type 0
 AsksBy n alts i k = (a : Alt) × Contains (take i alts) a × AsksOf n a k

@@ -72,6 +72,23 @@ goes_then x y asked =
     let fewest = y.left.fewer in
     record { asked = asked; left = record { known = y.left.known; fewer = omega arith }; steps = omega arith; later = omega arith }
 
+-- from a state with the same table and memory
+pub goes_from : {n : Numbering} {P : Key → Type 0} {more i j : ℕ} {a b c : Search} → b.table ≡ a.table → b.memory ≡ a.memory → Goes n P more b i c j → Goes n P more a i c j
+goes_from {n} {P} {more} {i} {j} {a} {b} {c} table memory x =
+    let known : length b.memory.known ≡ length a.memory.known = ap (λ (m : Memory). length m.known) memory in
+    let steps = subst (λ z. IsCounted more (i + length c.memory.known) z (j + length b.memory.known) c.table) table x.steps in
+    let fewer = x.left.fewer in
+    record { asked = subst (λ z. Asked n P z c.table) table x.asked; left = record { known = x.left.known; fewer = omega arith }; steps = omega arith; later = x.later }
+
+-- the state has another form, with the same table and memory
+pub ready_from : {n : Numbering} {width i : ℕ} {a b : Search} → b.table ≡ a.table → b.memory ≡ a.memory → IsReady n width a i → IsReady n width b i
+ready_from {n} {width} {i} {a} {b} table memory ready = record {
+  decided = ready.decided;
+  table = subst (IsTable n) (sym table) ready.table;
+  known = subst (λ z. IsMemory n z b.memory) (sym table) (subst (IsMemory n a.table) (sym memory) ready.known);
+  room = subst (HasRoom width i) (sym table) ready.room;
+}
+
 -- the same kind in other words
 pub goes_as : {n : Numbering} {P Q : Key → Type 0} {more i j : ℕ} {a b : Search} → Goes n P more a i b j → Asked n Q a.table b.table → Goes n Q more a i b j
 goes_as x asked = record { asked = asked; left = x.left; steps = x.steps; later = x.later }

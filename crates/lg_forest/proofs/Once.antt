@@ -1,10 +1,10 @@
 -- Lists in which no value stands twice.
-use Rattle.std.proofs.Common.{◌≡◌, ℕ, zero, suc, ◌+◌, ◌<◌, ◌≤◌, ◌⊎◌, inl, inr, refl, sym, ap, ◌∙◌, subst, Bool, true, false, true≢false, List, [], ◌∷◌, ◌++◌, take, map, length, Option, Some, Contains, slice_get, get_or, arith}
+use Rattle.std.proofs.Common.{◌≡◌, ℕ, zero, suc, ◌+◌, ◌<◌, ◌≤◌, ◌⊎◌, inl, inr, refl, sym, ap, ◌∙◌, subst, Bool, true, List, [], ◌∷◌, ◌++◌, take, map, length, Option, Some, Contains, slice_get, get_or, arith}
 use Rattle.std.proofs.lemmas.Bool.{cases_Bool}
 use Rattle.std.proofs.lemmas.List.{take_all}
 use Rattle.std.proofs.lemmas.List.Elements.{Contains-push_cases}
 use Rattle.std.proofs.Math.Seq.{take-suc}
-use Rattle.std.specs.List.{filter, IsDistinct, AllByRecursion}
+use Rattle.std.specs.List.{filter}
 use Rattle.std.proofs.lemmas.Option.{same_Some, slice_get_within, get_or_from_slice_get, slice_get-get_or}
 use Rattle.lg_region.specs.Fronts.{AreOnce}
 
@@ -86,17 +86,6 @@ once_cons {X} x xs new once = at
     at zero (suc j) y p q = absurd (new (subst (λ z. Contains xs z) (sym (some_is x y p)) (contains_at xs j y q)))
     at (suc i) zero y p q = absurd (new (subst (λ z. Contains xs z) (sym (some_is x y q)) (contains_at xs i y p)))
     at (suc i) (suc j) y p q = ap suc (once i j y p q)
-
-not_among : {X : Type 0} (eq : X → X → Bool) (same : (x y : X) → x ≡ y → eq x y ≡ true) (x : X) (xs : List X) → AllByRecursion (λ y. eq x y ≡ false) xs → Contains xs x → ⊥
-not_among eq same x [] all has = contains_none x has
-not_among eq same x (y ∷ xs) all (zero, l, e) = true≢false (sym (same x y (sym e)) ∙ all.0)
-not_among eq same x (y ∷ xs) all (suc k, l, e) = not_among eq same x xs all.1 (k, omega arith, e)
-
--- keys of a table that differ
-pub once_from_distinct : {X : Type 0} (eq : X → X → Bool) (same : (x y : X) → x ≡ y → eq x y ≡ true) (xs : List X) → IsDistinct eq xs → AreOnce xs
-unfolding IsDistinct
-once_from_distinct eq same [] all = once_none
-once_from_distinct eq same (x ∷ xs) all = once_cons x xs (not_among eq same x xs all.0) (once_from_distinct eq same xs all.1)
 
 -- what holds of the elements before a place, and of the one there
 pub each_more : {X : Type 0} (P : X → Type 0) (xs : List X) (i : ℕ) (d x : X) → i < length xs → x ≡ get_or xs i d → ((y : X) → Contains (take i xs) y → P y) → P x → (y : X) → Contains (take (i + 1) xs) y → P y

@@ -12,7 +12,7 @@ use Rattle.std.specs.Option.{option_map}
 use Rattle.std.proofs.lemmas.List.{length-map, map-append}
 use Rattle.std.proofs.lemmas.List.Elements.{Contains-append_left, Contains-push, Contains-push_cases}
 use Rattle.lg_region.specs.Fronts.{AreOnce}
-use Rattle.lg_forest.specs.Slots.{AreLinked, AreSlots, IsAt, IsLast, IsPowerOfTwo, SetsBit, keys_in, nexts_in, pairs_in}
+use Rattle.lg_forest.specs.Slots.{AreLinked, AreSlots, HasBits, IsAt, IsLast, IsPowerOfTwo, SetsBit, keys_in, nexts_in, pairs_in}
 use Rattle.lg_forest.specs.declared.slots.Slot.{Slot}
 use Rattle.lg_region.proofs.Firsts.{get_end, get_left, push_cases}
 use Rattle.lg_region.proofs.Once.{once_append, once_one}
@@ -344,11 +344,15 @@ only_at {K} {V} slots at key value v once is has other =
     let same : b.0 ≡ a.0 = once b.0 a.0 key ky kx in
     ap (λ (p : K × V). p.1) (same_Some (key, v) (key, value) (sym b.1 ∙ ap (λ z. slice_get (pairs_in slots) z) same ∙ a.1))
 
+-- a key that is not there has no bit
+pub no_bits : {K : Type 0} (pairs : List (K × ℕ)) (key : K) → (Contains (keys_of pairs) key → ⊥) → HasBits pairs key 0
+no_bits {K} pairs key fresh = record { only = λ b h. absurd (fresh (contains_map (λ (e : K × ℕ). e.0) pairs (key, b) h)); there = λ some. absurd (some refl) }
+
 -- a key is added with one bit
 pub bit_added : {K : Type 0} (old : List (K × ℕ)) (key : K) (place value : ℕ) (new : List (K × ℕ)) → value ≡ bit_or 0 (2 ^ place) → (Contains (keys_of old) key → ⊥) → new ≡ old ++ (key, value) ∷ [] → SetsBit old key place new
 bit_added {K} old key place value new is fresh added = record {
   bits = 0;
-  had = record { only = λ b h. absurd (fresh (contains_map (λ (e : K × ℕ). e.0) old (key, b) h)); there = λ some. absurd (some refl) };
+  had = no_bits old key fresh;
   there = subst (λ z. Contains z (key, bit_or 0 (2 ^ place))) (sym added) (subst (λ z. Contains (old ++ (key, value) ∷ []) (key, z)) is (Contains-push old (key, value)));
   put = λ k b h. elim (Contains-push_cases old (key, value) (k, b) (subst (λ z. Contains z (k, b)) added h)) [
     | inl was ↦ inl was

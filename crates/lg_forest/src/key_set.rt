@@ -4,7 +4,6 @@ ghost use Rattle.std.specs.List.{Contains};
 ghost use Rattle.lg_region.specs.Fronts.{AreOnce};
 ghost use Rattle.lg_region.specs.declared.key.Key.{Key};
 ghost use Rattle.lg_forest.specs.KeySets.{IsSmall, bit_at, place_of as place, row_of as row};
-ghost use Rattle.lg_forest.specs.Slots.{HasBits};
 
 use crate::slots::Slots;
 use lg_base::NoMemory;
@@ -72,15 +71,16 @@ impl KeySet {
         let _rows = self.rows.len();
     }
 
-    /// Whether a key is there. No memory.
-    pub(crate) fn has(&self, key: &Key) -> bool
-        ensures { IsTrue result ↔ Contains self.now key.now }
+    /// Whether a key is there. Contracts see no change. No memory.
+    pub(crate) fn has(&mut self, key: &Key) -> bool
+        ensures value { IsTrue result ↔ Contains self.old key.now }
+        ensures same { self.new ≡ self.old }
     {
-        let rows = &self.rows;
+        let rows = &mut self.rows;
         if !has_room_for(key) {
             return false;
         }
-        is_set(bits_of(rows, &row_of(key)), place_of(key))
+        is_set(rows.bits(&row_of(key)), place_of(key))
     }
 
     /// Adds a key that is not there. The only error is running out of memory, and then nothing has changed.
@@ -95,16 +95,6 @@ impl KeySet {
         self.rows.set_bit(row_of(key), place_of(key))?;
         self.is_short();
         Ok(())
-    }
-}
-
-// The bits of a row: 0 where it is not there.
-fn bits_of(rows: &Slots<Row, u64>, row: &Row) -> u64
-    ensures { HasBits rows.now row.now result }
-{
-    match rows.get(row) {
-        Some(bits) => *bits,
-        None => 0,
     }
 }
 

@@ -3,7 +3,7 @@ ghost use Rattle.std.specs.Prelude.{◌≡◌, ◌≢◌, ◌<◌, ◌^◌, ◌%
 ghost use Rattle.std.specs.List.{Contains};
 ghost use Rattle.std.specs.Map.{keys_of};
 ghost use Rattle.lg_region.specs.Fronts.{AreOnce};
-ghost use Rattle.lg_forest.specs.Slots.{AreLinked, AreSlots, IsAt, IsPowerOfTwo, SetsBit, keys_in, nexts_in, pairs_in};
+ghost use Rattle.lg_forest.specs.Slots.{AreLinked, AreSlots, HasBits, IsAt, IsPowerOfTwo, SetsBit, keys_in, nexts_in, pairs_in};
 
 use crate::spread::Spread;
 use lg_base::NoMemory;
@@ -28,11 +28,14 @@ struct Slot<K, V> {
 ///
 /// The search looks up more than anything else, and most keys have no linkage; so this table does little: it lets no key go, and has
 /// as many buckets as there is room for slots, a power of two. `heads` has for each bucket the number of its last slot, from 1, or 0.
+/// A bit is set of a key that was looked up just before, more often than not; so `near`, the place of the last one, is tried first then.
+/// It may be any place.
 #[derive(Drop)]
 pub(crate) struct Slots<K: Spread, V> {
     alloc: Global,
     heads: Vec<u32>,
     slots: Vec<Slot<K, V>>,
+    near: usize,
 }
 
 impl<K: Spread, V> Model for Slots<K, V> {
@@ -55,6 +58,7 @@ impl<K: Spread, V: Drop> Slots<K, V> {
             alloc,
             heads: Vec::new(alloc),
             slots: Vec::new(alloc),
+            near: 0,
         }
     }
 
@@ -108,6 +112,20 @@ impl<K: Spread, V: Drop> Slots<K, V> {
 }
 
 impl<K: Spread> Slots<K, u64> {
+    /// The bits of a key: 0 where it is not there. The key is found at once when it is looked up next. No memory.
+    pub(crate) fn bits(&mut self, key: &K) -> u64
+        ensures bits { HasBits self.old key.now result }
+        ensures same { self.new ≡ self.old }
+    {
+        match seek(&self.slots, &self.heads, key) {
+            Some(at) => {
+                self.near = at;
+                self.slots[at].value
+            }
+            None => 0,
+        }
+    }
+
     /// Sets a bit, below 64, of the value of a key, which is put in with that bit alone where it is not there. The only error is running
     /// out of memory, and then nothing has changed.
     pub(crate) fn set_bit(&mut self, key: K, place: u32) -> Result<(), NoMemory>
@@ -115,7 +133,7 @@ impl<K: Spread> Slots<K, u64> {
         ensures set { OnOk result (SetsBit self.old key place self.new) }
         ensures unchanged { OnErr result (self.new ≡ self.old) }
     {
-        match seek(&self.slots, &self.heads, &key) {
+        match seek_near(&self.slots, &self.heads, self.near, &key) {
             Some(at) => {
                 let bits = with_bit(self.slots[at].value, place);
                 replace_at(&mut self.slots, at, bits);
@@ -143,7 +161,23 @@ fn bucket_of(spread: u64, count: usize) -> usize
     spread as usize & (count - 1)
 }
 
-// The number of the slot of a key. None where the key is not there.
+// The place of a key. None where the key is not there. The place `near` is tried first.
+fn seek_near<K: Spread, V>(
+    slots: &[Slot<K, V>],
+    heads: &[u32],
+    near: usize,
+    key: &K,
+) -> Option<usize>
+    requires { AreSlots K.spread slots.now heads.now }
+    ensures { MatchOption result (Contains (keys_in slots.now) key.now → ⊥) (IsAt slots.now key.now) }
+{
+    if near < slots.len() && slots[near].key.is(key) {
+        return Some(near);
+    }
+    seek(slots, heads, key)
+}
+
+// The place of a key, by its bucket.
 fn seek<K: Spread, V>(slots: &[Slot<K, V>], heads: &[u32], key: &K) -> Option<usize>
     requires { AreSlots K.spread slots.now heads.now }
     ensures { MatchOption result (Contains (keys_in slots.now) key.now → ⊥) (IsAt slots.now key.now) }

@@ -57,9 +57,10 @@ impl Table {
         let _live = self.live.len();
     }
 
-    /// Whether a key has an alternative. None where the key is not there. No memory.
-    pub(crate) fn is_live(&self, key: &Key) -> Option<bool>
-        ensures { MatchOption result (Contains (keys_of self.now) key.now → ⊥) (λ live. (alts : List Alt) × Contains self.now (key.now, alts) × (IsTrue live ↔ (alts ≢ []))) }
+    /// Whether a key has an alternative. None where the key is not there. Contracts see no change. No memory.
+    pub(crate) fn is_live(&mut self, key: &Key) -> Option<bool>
+        ensures live { MatchOption result (Contains (keys_of self.old) key.now → ⊥) (λ live. (alts : List Alt) × Contains self.old (key.now, alts) × (IsTrue live ↔ (alts ≢ []))) }
+        ensures same { self.new ≡ self.old }
     {
         if self.dead.has(key) {
             return Some(false);

@@ -1,4 +1,4 @@
-use Rattle.std.proofs.Common.{inl, inr, refl, [], ◌≡◌, ◌↔◌, ◌+◌, ◌-◌, ◌<◌, ◌≤◌, ◌∙◌, true≢false, Option, subst, sym, ap, Some, IsTrue, IfOk, MatchOption, OnOk, IfSome, length, take, slice_get, get_or, Contains, map, arith, rules}
+use Rattle.std.proofs.Common.{inl, inr, refl, [], List, ◌≡◌, ◌↔◌, ◌+◌, ◌-◌, ◌<◌, ◌≤◌, ◌∙◌, true≢false, Option, subst, sym, ap, Some, IsTrue, IfOk, MatchOption, OnOk, IfSome, length, take, slice_get, get_or, Contains, map, arith, rules}
 use Rattle.std.proofs.lemmas.Option.{slice_get-get_or}
 use Rattle.lg_region.specs.Groups.{key_behind}
 use Rattle.lg_region.specs.Keys.{IsValidKey, kept}
@@ -10,8 +10,9 @@ use Rattle.lg_forest.specs.Search.{Asked, AsksOf, IsLast, key_width}
 use Rattle.lg_region.specs.declared.key.Key.{Key}
 use Rattle.lg_region.specs.declared.opening.Origin.{Origin}
 use Rattle.lg_forest.specs.declared.openings.Opening.{Opening}
+use Rattle.lg_region.specs.declared.alternative.Alt.{Alt}
 use Rattle.lg_region.specs.declared.alternative.Alt.TheVariants.{Split as At}
-use Rattle.lg_forest.proofs.Going.{goes_added, goes_as, goes_none, goes_then, gap_valid, ok_goes, ok_then, ok_ticked, ready_after, ready_less, ready_ticked}
+use Rattle.lg_forest.proofs.Going.{goes_added, goes_as, goes_from, goes_none, goes_then, gap_valid, ok_goes, ok_then, ok_ticked, ready_after, ready_from, ready_less, ready_ticked}
 use Rattle.lg_forest.specs.Goes.{Goes, gap_width, key_of}
 use Rattle.lg_forest.proofs.Asked.{live_decides, live_found, not_there, asked_as, asked_more, asked_all, asked_same, asked_left, asked_both, ok_as, on_ok_as, last_kept, alt_at, exact}
 use Rattle.lg_forest.proofs.Flags.{Flags, kept_live, flags_long, flags_more, all_flags}
@@ -29,7 +30,7 @@ use Rattle.std.specs.Map.{keys_of}
 use Rattle.lg_forest.specs.Ends.{AreEnds, AsksRight, EndsWith, IsLiveRight}
 use Rattle.lg_forest.specs.declared.halves.Half.{Half}
 use Rattle.lg_region.proofs.Once.{exactly_same}
-use Rattle.lg_forest.proofs.Once.{contains_at}
+use Rattle.lg_forest.proofs.Once.{contains_at, contains_map}
 use Rattle.lg_forest.proofs.search.Search.+search.Goals as goal
 use Rattle.lg_forest.proofs.search.Search.+search.Goals.{explore_rights-then-branch+in_ok-push, explore_rights-else-branch, open_group-then-branch+in_ok-push, open_group-else-branch, open-in-Some, open-in-None}
 use Rattle.lg_forest.proofs.KeySets.{valid_small}
@@ -116,10 +117,20 @@ is_live-returns-else-branch-clause-goes g t c =
 
 pub visit-returns-in-Some-clause-found : goal.visit-returns-in-Some-clause-found
 visit-returns-in-Some-clause-found g t c =
-    live_found c.args.lists.now c.args.key c.args.self.now.table c.in-Some.live c.requires.ready.decided c.requires.ready.table c.requires.key c.in-Some.ensures
+    live_found c.args.lists.now c.args.key c.args.self.now.table c.in-Some.live c.requires.ready.decided c.requires.ready.table c.requires.key c.in-Some.ensures.live
+
+-- the key is in the table
+pub visit-returns-in-Some-clause-goes : goal.visit-returns-in-Some-clause-goes
+visit-returns-in-Some-clause-goes g t c =
+    let n = c.args.lists.now in
+    let table = c.args.self.now.table in
+    let same = c.in-Some.ensures.same in
+    let (alts, has, some) = c.in-Some.ensures.live in
+    let asked = asked_same n (λ k. k ≡ c.args.key) table c.requires.ready.table (λ k e. subst (λ z. Contains (keys_of table) z) (sym e) (contains_map (λ (x : Key × List Alt). x.0) table (c.args.key, alts) has)) in
+    goes_from same refl (goes_none (ready_from same refl c.requires.ready) (subst (λ z. Asked n (λ k. k ≡ c.args.key) z z) (sym same) asked))
 
 pub visit-add-requires-clause-fresh : goal.visit-add-requires-clause-fresh
-visit-add-requires-clause-fresh g t c = not_there c.args.lists.now c.args.key c.args.self.now.table c.explore.new.self.table c.requires.ready.decided c.requires.key c.in_default.ensures c.in_ok-live.ensures.goes.asked
+visit-add-requires-clause-fresh g t c = not_there c.args.lists.now c.args.key c.is_live.new.self c.explore.new.self.table c.requires.ready.decided c.requires.key (subst (λ z. Contains (keys_of z) c.args.key → ⊥) (sym c.in_default.ensures.same) c.in_default.ensures.live) c.in_ok-live.ensures.goes.asked
 
 pub visit-add-requires-clause-small : goal.visit-add-requires-clause-small
 visit-add-requires-clause-small g t c = valid_small c.args.lists.now.positions c.args.lists.now.lists c.args.key c.keep_limits.ensures.few c.requires.key
@@ -129,7 +140,7 @@ visit-returns-clause-found g t c =
     live_decides c.args.lists.now c.args.key c.in_ok-live.live c.is_empty-found.result c.requires.ready.decided c.requires.key c.in_ok-live.ensures.live c.is_empty-found.ensures
 
 pub visit-returns-clause-goes : goal.visit-returns-clause-goes
-visit-returns-clause-goes g t c = goes_added c.requires.key c.in_ok-live.ensures.live c.in_ok-live.ensures.goes c.in_ok-add.ensures.entered refl
+visit-returns-clause-goes g t c = goes_from c.in_default.ensures.same refl (goes_added c.requires.key c.in_ok-live.ensures.live c.in_ok-live.ensures.goes c.in_ok-add.ensures.entered refl)
 
 pub visit_part-returns-in-Some-clause-found : goal.visit_part-returns-in-Some-clause-found
 visit_part-returns-in-Some-clause-found g t c =
