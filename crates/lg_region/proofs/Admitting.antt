@@ -20,7 +20,7 @@ use Rattle.lg_region.proofs.Firsts.{push_cases, get_end, met_again, met_new}
 bytes_Decides : (xs ys : List ℕ) → Decides (pointwise ◌==◌ xs ys) (xs ≡ ys)
 bytes_Decides xs ys = slice_eq-Decides Decides-eqb xs ys _ refl
 
-connector_Decides : (a b : Connector) → Decides (connector_eq a b) (a ≡ b)
+pub connector_Decides : (a b : Connector) → Decides (connector_eq a b) (a ≡ b)
 connector_Decides a b =
     let parts = Decides-and _ _ (Decides-and _ _ (booleans_Decides a.multi b.multi) (booleans_Decides a.right b.right))
     (Decides-and _ _ (bytes_Decides a.caps b.caps) (bytes_Decides a.subs b.subs)) in (

@@ -1,5 +1,5 @@
 -- What is kept of lists tells their ends, and the lists of disjuncts.
-use Rattle.std.proofs.Common.{◌≡◌, ℕ, suc, ◌+◌, ◌-◌, ◌<◌, ◌≤◌, List, [], ◌∷◌, ◌++◌, length, take, get_or, map, refl, sym, ◌∙◌, ap, subst, Some, inl, inr, Contains, arith, length-append, add-one}
+use Rattle.std.proofs.Common.{◌≡◌, ℕ, suc, ◌+◌, ◌-◌, ◌<◌, ◌≤◌, Bool, List, [], ◌∷◌, ◌++◌, length, take, get_or, map, refl, sym, ◌∙◌, ap, subst, Some, inl, inr, Contains, arith, length-append, add-one}
 use Rattle.std.specs.List.{AllZip, flat_map, range_with_len, slice_get}
 use Rattle.std.proofs.lemmas.Bool.{cases_lt}
 use Rattle.std.proofs.lemmas.List.{get_or-map, take_at, get_or_past}
@@ -10,15 +10,17 @@ use Rattle.lg_gram.specs.Connectors.{Connector}
 use Rattle.lg_gram.specs.Limits.{SIDE}
 use Rattle.lg_gram.specs.Problems.{IsProblem, IsPosition, FitsProblem}
 use Rattle.lg_gram.specs.declared.disjunct.Disjunct.{Disjunct}
+use Rattle.lg_region.specs.Alike.{last_of}
+use Rattle.lg_region.specs.Chains.{class_at, class_of, class_of_caps}
 use Rattle.lg_region.specs.Fronts.{fronts, fronts_of, all_fronts, AreListsOf, list_of}
 use Rattle.lg_region.specs.Keys.{IsDisjunctAt}
-use Rattle.lg_region.specs.Numbered.{AreTailsOf, HasSides, AreSidesOf}
+use Rattle.lg_region.specs.Numbered.{AreFirstsOf, AreTailsOf, HasSides, AreSidesOf, IsKind, MeetsKind}
 use Rattle.lg_region.specs.Ways.{IsEndOf}
 use Rattle.lg_region.specs.declared.numbering.Tail.{Tail}
 use Rattle.lg_region.specs.declared.numbering.Sides.{Sides}
 use Rattle.lg_region.specs.declared.ways.End.{End}
 use Rattle.lg_region.proofs.Elements.{zip_at, zip_length}
-use Rattle.lg_region.proofs.Firsts.{push_cases}
+use Rattle.lg_region.proofs.Firsts.{get_left, push_cases}
 use Rattle.lg_region.proofs.Valid.{take_short}
 use Rattle.lg_base.proofs.Elements.{map_out, flat_out}
 use Rattle.lg_region.proofs.Numbers.{range_out}
@@ -27,61 +29,110 @@ use Rattle.lg_region.proofs.Numbers.{range_out}
 pub map_at : {X Y : Type 0} (g : X → Y) (xs : List X) (n : ℕ) (x : X) (d : Y) → n < length xs → x ≡ get_or xs n x → get_or (map g xs) n d ≡ g x
 map_at g xs n x d l e = get_or-map g xs n x d l ∙ ap g (sym e)
 
-last_of : (xs : List Connector) (c : Connector) (cs : List Connector) → cs ≡ xs ++ c ∷ [] → (suc (length cs - 1) ≡ length cs) × (length cs - 1 ≡ length xs)
-last_of xs c cs e =
+end_at : (xs : List Connector) (c : Connector) (cs : List Connector) → cs ≡ xs ++ c ∷ [] → (suc (length cs - 1) ≡ length cs) × (length cs - 1 ≡ length xs)
+end_at xs c cs e =
     let l : length cs ≡ length xs + 1 = ap (λ z. length z) e ∙ length-append xs (c ∷ []) in
     (omega arith, omega arith)
 
-pub end_of : (lists : List (List Connector)) (tails : List Tail) (n m : ℕ) (t : Tail) → AreTailsOf lists tails → slice_get tails n ≡ Some t → m ≡ length (get_or lists n [])
-    → IsEndOf lists (suc n) (record { id = suc n; place = m - 1; last = t.last; shorter = t.shorter })
-end_of lists tails n m t are g e =
+-- the class of a list is that of its last connector
+pub last_at : (cs : List Connector) (p : ℕ) (c : Connector) → suc p ≡ length cs → slice_get cs p ≡ Some c → class_of cs ≡ class_of_caps c.caps
+last_at cs p c e at = let q : length cs - 1 ≡ p = omega arith in ap class_at (ap (λ z. slice_get cs z) q ∙ at)
+
+pub end_of : (lists : List (List Connector)) (tails : List Tail) (n m kind : ℕ) (t : Tail) → AreTailsOf lists tails → slice_get tails n ≡ Some t → m ≡ length (get_or lists n [])
+    → IsEndOf lists (suc n) (record { id = suc n; place = m - 1; shorter = t.shorter; kind = kind; class = class_of_caps t.last.caps; is_multi = t.last.multi })
+end_of lists tails n m kind t are g e =
     let is = are.each n t g in
     let l = slice_get_within tails n t g in
     let same = are.same_length in
     let before = is.shorter in
     let xs = list_of lists t.shorter in
     let cs = get_or lists n [] in
-    let p = last_of xs t.last cs is.list in
+    let p = end_at xs t.last cs is.list in
     let q : m - 1 ≡ length xs = ap (λ z. z - 1) e ∙ p.1 in
     let u = is.list in
     let at : get_or (xs ++ t.last ∷ []) (length xs) t.last ≡ t.last = get_or-append_seam xs t.last [] t.last in
     let in' : length xs < length (xs ++ t.last ∷ []) = (let k = length-append xs (t.last ∷ []) in omega arith) in
     let s : slice_get (xs ++ t.last ∷ []) (length xs) ≡ Some t.last = slice_get-get_or (xs ++ t.last ∷ []) (length xs) t.last in' ∙ ap (λ z. Some z) at in
+    let at_end : suc (m - 1) ≡ length cs = ap (λ z. suc (z - 1)) e ∙ p.0 in
+    let is_last : slice_get cs (m - 1) ≡ Some t.last = subst (λ z. slice_get z (m - 1) ≡ Some t.last) (sym u) (subst (λ z. slice_get (xs ++ t.last ∷ []) z ≡ Some t.last) (sym q) s) in
     record {
       itself = refl;
       known = omega arith;
       known_shorter = omega arith;
-      at_end = ap (λ z. suc (z - 1)) e ∙ p.0;
-      is_last = subst (λ z. slice_get z (m - 1) ≡ Some t.last) (sym u) (subst (λ z. slice_get (xs ++ t.last ∷ []) z ≡ Some t.last) (sym q) s);
+      at_end = at_end;
+      last = t.last;
+      is_last = is_last;
+      is_multi = refl;
+      class_is = sym (last_at cs (m - 1) t.last at_end is_last);
       rest = sym (subst (λ z. take (m - 1) z ≡ xs) (sym u) (subst (λ z. take z (xs ++ t.last ∷ []) ≡ xs) (sym q) (take_at xs (t.last ∷ []) (length xs) refl)));
     }
 
 -- a list that has a tail is not the empty one
 pub front_some : (lists : List (List Connector)) (tails : List Tail) (i : ℕ) (t : Tail) (cs : List Connector) → AreTailsOf lists tails → slice_get tails i ≡ Some t → get_or lists i [] ≡ cs → 1 ≤ length cs
 front_some lists tails i t cs are at e =
-    let last = (end_of lists tails i (length cs) t are at (ap (λ z. length z) (sym e))).at_end in
+    let last = (end_of lists tails i (length cs) 0 t are at (ap (λ z. length z) (sym e))).at_end in
     let same = ap (λ z. length z) e in
     omega arith
 
--- the ends of so many lists
-pub record EndsSoFar (lists : List (List Connector)) (ends : List End) (count : ℕ) : Type 0 where
+-- a list ends with the connector of its tail
+pub tail_last : (lists : List (List Connector)) (tails : List Tail) (n : ℕ) (t : Tail) → AreTailsOf lists tails → slice_get tails n ≡ Some t → last_of (get_or lists n []) ≡ Some t.last
+unfolding end_of
+tail_last lists tails n t are g = (end_of lists tails n (length (get_or lists n [])) 0 t are g refl).is_last
+
+-- the ends of so many lists, and the kinds that they have
+pub record EndsSoFar (lists : List (List Connector)) (kinds : List Connector) (firsts : List ℕ) (ends : List End) (count : ℕ) : Type 0 where
   pub counted : length ends ≡ count
+  pub few : length kinds ≤ count
   pub each : (n : ℕ) (e : End) → slice_get ends n ≡ Some e → IsEndOf lists (suc n) e
+  pub kind : (n : ℕ) (e : End) → slice_get ends n ≡ Some e → IsKind lists kinds (suc n) e.kind
+  pub firsts_are : AreFirstsOf lists kinds firsts
+
+-- no list has an end yet
+pub ends_none : (lists : List (List Connector)) (kinds : List Connector) (firsts : List ℕ) (ends : List End) → length kinds ≡ 0 → length firsts ≡ 0 → ends ≡ [] → EndsSoFar lists kinds firsts ends 0
+ends_none lists (c ∷ kinds) firsts ends k f e = absurd (omega arith)
+ends_none lists [] (n ∷ firsts) ends k f e = absurd (omega arith)
+ends_none lists [] [] ends k f e = subst (λ z. EndsSoFar lists [] [] z 0) (sym e) (record {
+  counted = refl;
+  few = omega arith;
+  each = λ n x g. absurd (let l = slice_get_within [] n x g in omega arith);
+  kind = λ n x g. absurd (let l = slice_get_within [] n x g in omega arith);
+  firsts_are = tt;
+})
+
+-- a list has the same kind where more are met
+kind_stays : (lists : List (List Connector)) (kinds more kinds' : List Connector) (number kind : ℕ) → kinds' ≡ kinds ++ more → IsKind lists kinds number kind → IsKind lists kinds' number kind
+kind_stays lists kinds more kinds' number kind e is =
+    let w = is.within in
+    let l = length-append kinds more in
+    subst (λ z. IsKind lists z number kind) (sym e) (record { within = omega arith; is_last = is.is_last ∙ sym (get_left kinds more kind is.within) })
 
 -- one end more
-pub ends_more : (lists : List (List Connector)) (tails : List Tail) (ends ends' : List End) (i : ℕ) (t : Tail) (cs : List Connector) → AreTailsOf lists tails → slice_get tails i ≡ Some t → get_or lists i [] ≡ cs → EndsSoFar lists ends i
-    → ends' ≡ ends ++ record { id = i + 1; place = length cs - 1; last = t.last; shorter = t.shorter } ∷ [] → EndsSoFar lists ends' (i + 1)
-ends_more lists tails ends ends' i t cs are at e so more =
-    let end : ℕ → End = λ id. record { id = id; place = length cs - 1; last = t.last; shorter = t.shorter } in
-    let is : IsEndOf lists (suc i) (end (i + 1)) = subst (λ z. IsEndOf lists (suc i) (end z)) (sym (add-one i)) (end_of lists tails i (length cs) t are at (ap (λ z. length z) (sym e))) in
+pub ends_more : (lists : List (List Connector)) (tails : List Tail) (kinds kinds' : List Connector) (firsts firsts' : List ℕ) (ends ends' : List End) (i kind class : ℕ) (multi : Bool) (t : Tail) (cs : List Connector) → AreTailsOf lists tails
+    → slice_get tails i ≡ Some t → get_or lists i [] ≡ cs → class ≡ class_of_caps t.last.caps → multi ≡ t.last.multi → EndsSoFar lists kinds firsts ends i → MeetsKind kinds firsts kinds' firsts' t.last (i + 1) kind
+    → ends' ≡ ends ++ record { id = i + 1; place = length cs - 1; shorter = t.shorter; kind = kind; class = class; is_multi = multi } ∷ [] → EndsSoFar lists kinds' firsts' ends' (i + 1)
+ends_more lists tails kinds kinds' firsts firsts' ends ends' i kind class multi t cs are at e ec em so meets more =
+    let end : ℕ → ℕ → Bool → End = λ id class multi. record { id = id; place = length cs - 1; shorter = t.shorter; kind = kind; class = class; is_multi = multi } in
+    let is : IsEndOf lists (suc i) (end (i + 1) class multi) = subst (λ z. IsEndOf lists (suc i) (end z class multi)) (sym (add-one i))
+    (subst (λ z. IsEndOf lists (suc i) (end (suc i) z multi)) (sym ec) (subst (λ z. IsEndOf lists (suc i) (end (suc i) (class_of_caps t.last.caps) z)) (sym em) (end_of lists tails i (length cs) kind t are at (ap (λ z. length z) (sym e))))) in
+    let last = tail_last lists tails i t are at in
+    let last' : last_of (list_of lists (i + 1)) ≡ Some t.last = subst (λ z. last_of (list_of lists z) ≡ Some t.last) (sym (add-one i)) last in
+    let has : IsKind lists kinds' (suc i) kind = record { within = slice_get_within kinds' kind t.last meets.is_kind; is_last = last ∙ sym meets.is_kind } in
     let c = so.counted in
-    let l = length-append ends (end (i + 1) ∷ []) in
-    subst (λ z. EndsSoFar lists z (i + 1)) (sym more) (record {
+    let f = so.few in
+    let g = meets.few in
+    let l = length-append ends (end (i + 1) class multi ∷ []) in
+    subst (λ z. EndsSoFar lists kinds' firsts' z (i + 1)) (sym more) (record {
       counted = omega arith;
-      each = λ n x g. elim (push_cases ends (end (i + 1)) n x g) [
+      few = omega arith;
+      each = λ n x g. elim (push_cases ends (end (i + 1) class multi) n x g) [
         | inl h ↦ so.each n x h.1
         | inr h ↦ subst (λ z. IsEndOf lists (suc z) x) (sym (h.0 ∙ c)) (subst (λ z. IsEndOf lists (suc i) z) h.1 is)
       ];
+      kind = λ n x g. elim (push_cases ends (end (i + 1) class multi) n x g) [
+        | inl h ↦ kind_stays lists kinds meets.grown kinds' (suc n) x.kind meets.grows (so.kind n x h.1)
+        | inr h ↦ subst (λ z. IsKind lists kinds' (suc z) x.kind) (sym (h.0 ∙ c)) (subst (λ z. IsKind lists kinds' (suc i) z.kind) h.1 has)
+      ];
+      firsts_are = meets.met lists last' so.firsts_are;
     })
 
 front_short : (cs x : List Connector) (n : ℕ) → length cs ≤ n → Contains (fronts cs) x → length x ≤ n

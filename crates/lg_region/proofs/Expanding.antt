@@ -11,7 +11,7 @@ use Rattle.lg_region.specs.Keys.{region_of_numbers, IsDisjunctAt, IsAltOfRegion,
 use Rattle.lg_region.specs.Numbered.{HasSides}
 use Rattle.lg_region.specs.Ways.{AreExactly, AddsExactly}
 use Rattle.lg_region.specs.Groups.{region_of_gap, StandsIn, AddsFirst, HaveLeft, IsGroup, IsNextLed, Leads, left_lead, right_lead}
-use Rattle.lg_region.specs.Chains.{class_at, class_of, list_on, IsNext}
+use Rattle.lg_region.specs.Chains.{class_at, class_of, IsNext, IsRunEnd}
 use Rattle.lg_region.specs.Openings.{IsGapOf}
 use Rattle.lg_region.specs.declared.key.Joint.{Joint}
 use Rattle.lg_region.specs.declared.key.Key.{Key}
@@ -24,7 +24,7 @@ use Rattle.lg_region.specs.declared.group.Lead.{Lead}
 use Rattle.lg_region.specs.declared.chains.Side.TheVariants.{Left, Right}
 use Rattle.lg_region.proofs.Numbers.{apart, one_key, get_contains}
 use Rattle.lg_region.proofs.Once.{HaveOne, Upto, exactly_as, exactly_one, adds_as, adds_none, from_none}
-use Rattle.lg_region.proofs.Splitting.{led_itself, led_next, some_number}
+use Rattle.lg_region.proofs.Splitting.{some_number}
 use Rattle.lg_region.proofs.Chaining.{joint_class}
 
 pub in_split : (word n m : ℕ) (a : Alt) → StandsIn word 0 m a → StandsIn word 0 n a ⊎ StandsIn word n m a
@@ -135,42 +135,24 @@ none_led numbers gap word start next (At w number tl tr (Some lk) None) led is i
 none_led numbers gap word start next (At w number tl tr (Some lk) (Some rk)) led is (c, i) s =
     is.others number c.disjunct s.1 s.2 (subst (λ z. IsDisjunctAt numbers.positions z number c.disjunct) s.0 i.chosen) (led c i.cut)
 
--- the first disjunct of a run, and one more
-pub left_first : (numbers : Numbering) (lead : Lead) (word number : ℕ) (s : Sides) → ((d : Disjunct) → IsDisjunctAt numbers.positions word number d → HasSides numbers.lists d s) → HaveLeft numbers lead word s.left number (number + 1)
-left_first numbers lead word number s sides n d from to at led = let q : n ≡ number = omega arith in (sides d (subst (λ z. IsDisjunctAt numbers.positions word z d) q at)).left.list
-
-pub left_more : (numbers : Numbering) (lead : Lead) (word left from to : ℕ) (s : Sides) → HaveLeft numbers lead word left from to → s.left ≡ left → ((d : Disjunct) → IsDisjunctAt numbers.positions word to d → HasSides numbers.lists d s) → HaveLeft numbers lead word left from (to + 1)
-left_more numbers lead word left from to s so e sides n d f t at led =
-    elim (cases_lt n to) [
-      | inl h ↦ so n d f h at led
-      | inr h ↦ (let q : n ≡ to = omega arith in ap (list_of numbers.lists) (sym e) ∙ (sides d (subst (λ z. IsDisjunctAt numbers.positions word z d) q at)).left.list)
-    ]
-
--- the disjuncts up to the next one of the class may have any left list
-pub left_skip : (numbers : Numbering) (lead : Lead) (word left from start next : ℕ) → HaveLeft numbers lead word left from start → IsNextLed numbers lead word start next → HaveLeft numbers lead word left from next
-left_skip numbers lead word left from start next so is n d f t at led =
-    elim (cases_lt n start) [ inl h ↦ so n d f h at led | inr h ↦ absurd (is.others n d h t at led) ]
-
 -- a run up to the next disjunct of the class
 pub record IsRun (numbers : Numbering) (lead : Lead) (word left start end : ℕ) : Type 0 where
   pub later : start < end
   pub led : IsNextLed numbers lead word end end
   pub same : HaveLeft numbers lead word left start end
 
-pub run_first : (numbers : Numbering) (lead : Lead) (word left from next : ℕ) → from < length (get_or numbers.positions word []) → IsNextLed numbers lead word from from → HaveLeft numbers lead word left from (from + 1)
-    → ((d : Disjunct) → IsDisjunctAt numbers.positions word from d → IsNext lead.side (get_or numbers.positions word []) (class_of (list_on lead.side d)) (from + 1) next) → IsRun numbers lead word left from next
-run_first numbers lead word left from next l led so h =
-    let is = led_next numbers lead word from next l led h in
-    let later = is.later in
-    record { later = omega arith; led = led_itself numbers lead word (from + 1) next is; same = left_skip numbers lead word left from (from + 1) next so is }
-
-pub run_more : (numbers : Numbering) (lead : Lead) (word left from to next : ℕ) (s : Sides) → to < length (get_or numbers.positions word []) → s.left ≡ left → ((d : Disjunct) → IsDisjunctAt numbers.positions word to d → HasSides numbers.lists d s) → IsRun numbers lead word left from to
-    → ((d : Disjunct) → IsDisjunctAt numbers.positions word to d → IsNext lead.side (get_or numbers.positions word []) (class_of (list_on lead.side d)) (to + 1) next) → (to < next) × IsRun numbers lead word left from next
-run_more numbers lead word left from to next s l e sides so h =
-    let is = led_next numbers lead word to next l so.led h in
-    let later = is.later in
-    let before = so.later in
-    (omega arith, record { later = omega arith; led = led_itself numbers lead word (to + 1) next is; same = left_skip numbers lead word left from (to + 1) next (left_more numbers lead word left from to s so.same e sides) is })
+-- the end of the run of a disjunct of the class
+pub run_is : (numbers : Numbering) (lead : Lead) (word from to : ℕ) (s : Sides) → from < length (get_or numbers.positions word []) → IsNextLed numbers lead word from from → ((d : Disjunct) → IsDisjunctAt numbers.positions word from d → HasSides numbers.lists d s)
+    → ((d : Disjunct) → IsDisjunctAt numbers.positions word from d → IsRunEnd lead.side (get_or numbers.positions word []) d from to) → IsRun numbers lead word s.left from to
+run_is numbers lead word from to s l led sides run =
+    let d = some_number numbers.positions word from l in
+    let k = led.same d.0 d.1 in
+    let r = run d.0 d.1 in
+    record {
+      later = r.later;
+      led = subst (λ z. IsNext lead.side (get_or numbers.positions word []) z to to) k r.next;
+      same = λ n x a b at is. (sides d.0 d.1).left.list ∙ sym (r.same n x a b at (is ∙ sym k));
+    }
 
 pub run_group : (numbers : Numbering) (gap : Gap) (word from to : ℕ) (s : Sides) → gap.left < word → word < gap.right → from < length (get_or numbers.positions word []) → IsNextLed numbers gap.lead word from from → IsNextLed numbers gap.lead word to to
     → ((d : Disjunct) → IsDisjunctAt numbers.positions word from d → HasSides numbers.lists d s) → HaveLeft numbers gap.lead word s.left from to → IsGroup numbers gap (record { word = word; left = s.left; from = from; to = to })

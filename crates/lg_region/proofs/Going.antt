@@ -19,7 +19,7 @@ use Rattle.lg_region.proofs.Once.{once_one, once_cons, exactly_as, exactly_one, 
 abbrev pub GoesOnTo : List (List Connector) → ℕ → ℕ → ℕ → Type 0
 GoesOnTo lists number place rest = (rest ≤ length lists) × GoesOn (list_of lists number) place (list_of lists rest)
 
-rest_in : (lists : List (List Connector)) (number : ℕ) (e : End) (m : Bool) → e.last.multi ≡ m → IsEndOf lists number e → (rest : ℕ) → Contains (cond m (e.shorter ∷ e.id ∷ []) (e.shorter ∷ [])) rest → GoesOnTo lists number e.place rest
+rest_in : (lists : List (List Connector)) (number : ℕ) (e : End) (m : Bool) → e.is_multi ≡ m → IsEndOf lists number e → (rest : ℕ) → Contains (cond m (e.shorter ∷ e.id ∷ []) (e.shorter ∷ [])) rest → GoesOnTo lists number e.place rest
 rest_in lists number e true t is rest c =
     elim (contains_cases e.shorter (e.id ∷ []) rest c) [
       | inl s ↦ (let k = is.known_shorter in (omega arith, (is.at_end, inl (ap (list_of lists) (sym s) ∙ is.rest))))
@@ -27,7 +27,7 @@ rest_in lists number e true t is rest c =
         | inl s ↦ (
             let r : rest ≡ number = sym s ∙ is.itself in
             let k = is.known in
-            (omega arith, (is.at_end, inr (ap (list_of lists) r, λ c g. ap (λ z. z.multi) (same_Some c e.last (sym g ∙ is.is_last)) ∙ t)))
+            (omega arith, (is.at_end, inr (ap (list_of lists) r, λ c g. ap (λ z. z.multi) (same_Some c is.last (sym g ∙ is.is_last)) ∙ sym is.is_multi ∙ t)))
             )
         | inr h ↦ absurd (contains_none rest h)
       ]
@@ -45,10 +45,10 @@ first_rest e false = contains_here e.shorter []
 rest_out : (positions : List (List Disjunct)) (lists : List (List Connector)) (number : ℕ) (e : End) → AreListsOf positions lists → IsEndOf lists number e → (rest : ℕ) → GoesOnTo lists number e.place rest → Contains (rests_of e) rest
 rest_out positions lists number e are is rest (k, (at, inl t)) =
     let s = apart positions lists are e.shorter rest is.known_shorter k (is.rest ∙ sym t) in
-    subst (λ z. Contains (rests_of e) z) s (first_rest e e.last.multi)
+    subst (λ z. Contains (rests_of e) z) s (first_rest e e.is_multi)
 rest_out positions lists number e are is rest (k, (at, inr t)) =
     let s = apart positions lists are number rest is.known k (sym t.0) in
-    let m : e.last.multi ≡ true = t.1 e.last is.is_last in
+    let m : e.is_multi ≡ true = is.is_multi ∙ t.1 is.last is.is_last in
     let c : Contains (e.shorter ∷ e.id ∷ []) rest = subst (λ z. Contains (e.shorter ∷ e.id ∷ []) z) (is.itself ∙ s) (contains_later e.shorter (e.id ∷ []) e.id (contains_here e.id [])) in
     subst (λ z. Contains (cond z (e.shorter ∷ e.id ∷ []) (e.shorter ∷ [])) rest) (sym m) c
 
@@ -67,8 +67,8 @@ once_rests lists number e false is = once_one e.shorter
 -- exactly the numbers with which a list goes on
 pub rests_are : (positions : List (List Disjunct)) (lists : List (List Connector)) (number : ℕ) (e : End) → AreListsOf positions lists → IsEndOf lists number e → AreExactly (rests_of e) (GoesOnTo lists number e.place)
 rests_are positions lists number e are is = record {
-  each = λ rest. (rest_in lists number e e.last.multi refl is rest, rest_out positions lists number e are is rest);
-  once = once_rests lists number e e.last.multi is;
+  each = λ rest. (rest_in lists number e e.is_multi refl is rest, rest_out positions lists number e are is rest);
+  once = once_rests lists number e e.is_multi is;
 }
 
 joint_of : ℕ → ℕ → Joint
@@ -92,7 +92,7 @@ ways_apart : (j : Joint) (r r' s s' : ℕ) → way_of j r s ≡ way_of j r' s' �
 ways_apart j r r' s s' e = (ap (λ w. w.near) e, ap (λ w. w.far) e)
 
 -- two lists whose last connectors match
-joined_are : (positions : List (List Disjunct)) (lists : List (List Connector)) (near far : ℕ) (e f : End) → AreListsOf positions lists → IsEndOf lists near e → IsEndOf lists far f → Match e.last f.last
+joined_are : (positions : List (List Disjunct)) (lists : List (List Connector)) (near far : ℕ) (e f : End) → AreListsOf positions lists → (ie : IsEndOf lists near e) (if' : IsEndOf lists far f) → Match ie.last if'.last
     → AreExactly (joined_ways e f) (IsWayOf lists near far false)
 joined_are positions lists near far e f are ie if' m =
     let j : Joint = record { near = e.place; far = f.place } in
@@ -104,7 +104,7 @@ joined_are positions lists near far e f are ie if' m =
       λ (r, s, p, q, t). subst (λ z. IsWayOf lists near far false z) t (record {
         known_near = p.0;
         known_far = q.0;
-        cut = (p.1, q.1, (e.last, f.last, ie.is_last, if'.is_last, m));
+        cut = (p.1, q.1, (ie.last, if'.last, ie.is_last, if'.is_last, m));
         joined = λ a. refl;
       }),
       λ is.
@@ -149,7 +149,7 @@ no_far lists near far w e is =
     omega arith
 
 -- the last connectors of two lists with a joint match
-pub way_match : (lists : List (List Connector)) (near far : ℕ) (e f : End) (w : Way) → IsEndOf lists near e → IsEndOf lists far f → IsWayOf lists near far false w → Match e.last f.last
+pub way_match : (lists : List (List Connector)) (near far : ℕ) (e f : End) (w : Way) (ie : IsEndOf lists near e) (if' : IsEndOf lists far f) → IsWayOf lists near far false w → Match ie.last if'.last
 way_match lists near far e f w ie if' is =
     let n = joint_needs lists near far w is in
     let j = n.0 in
@@ -159,21 +159,18 @@ way_match lists near far e f w ie if' is =
     let y = if'.at_end in
     let pn : j.near ≡ e.place = omega arith in
     let pf : j.far ≡ f.place = omega arith in
-    let s : n.3.0 ≡ e.last = same_Some n.3.0 e.last (sym n.3.2 ∙ ap (slice_get (list_of lists near)) pn ∙ ie.is_last) in
-    let t : n.3.1 ≡ f.last = same_Some n.3.1 f.last (sym n.3.3 ∙ ap (slice_get (list_of lists far)) pf ∙ if'.is_last) in
-    subst (λ z. Match z f.last) s (subst (λ z. Match n.3.0 z) t n.3.4)
-
-pub no_match : (lists : List (List Connector)) (near far : ℕ) (e f : End) (w : Way) → IsEndOf lists near e → IsEndOf lists far f → (Match e.last f.last → ⊥) → IsWayOf lists near far false w → ⊥
-no_match lists near far e f w ie if' differ is = differ (way_match lists near far e f w ie if' is)
+    let s : n.3.0 ≡ ie.last = same_Some n.3.0 ie.last (sym n.3.2 ∙ ap (slice_get (list_of lists near)) pn ∙ ie.is_last) in
+    let t : n.3.1 ≡ if'.last = same_Some n.3.1 if'.last (sym n.3.3 ∙ ap (slice_get (list_of lists far)) pf ∙ if'.is_last) in
+    subst (λ z. Match z if'.last) s (subst (λ z. Match n.3.0 z) t n.3.4)
 
 -- the way on of two lists whose last connectors match, without them
-pub some_way : (lists : List (List Connector)) (near far : ℕ) (e f : End) → IsEndOf lists near e → IsEndOf lists far f → Match e.last f.last → HasWay lists near far false
+pub some_way : (lists : List (List Connector)) (near far : ℕ) (e f : End) (ie : IsEndOf lists near e) (if' : IsEndOf lists far f) → Match ie.last if'.last → HasWay lists near far false
 some_way lists near far e f ie if' m = (
   record { joint = Some (record { near = e.place; far = f.place }); near = e.shorter; far = f.shorter },
   record {
     known_near = ie.known_shorter;
     known_far = if'.known_shorter;
-    cut = ((ie.at_end, inl ie.rest), (if'.at_end, inl if'.rest), (e.last, f.last, ie.is_last, if'.is_last, m));
+    cut = ((ie.at_end, inl ie.rest), (if'.at_end, inl if'.rest), (ie.last, if'.last, ie.is_last, if'.is_last, m));
     joined = λ z. refl;
   },
 )
@@ -185,7 +182,7 @@ plain_way lists near far ln lf = (
   record { known_near = ln; known_far = lf; cut = (refl, refl); joined = λ z. absurd cc },
 )
 
-pub adds_joined : (positions : List (List Disjunct)) (lists : List (List Connector)) (near far : ℕ) (e f : End) (old new : List Way) → AreListsOf positions lists → IsEndOf lists near e → IsEndOf lists far f → Match e.last f.last → new ≡ old ++ joined_ways e f
+pub adds_joined : (positions : List (List Disjunct)) (lists : List (List Connector)) (near far : ℕ) (e f : End) (old new : List Way) → AreListsOf positions lists → (ie : IsEndOf lists near e) (if' : IsEndOf lists far f) → Match ie.last if'.last → new ≡ old ++ joined_ways e f
     → AddsExactly old new (IsWayOf lists near far false)
 adds_joined positions lists near far e f old new are ie if' m added = record { more = joined_ways e f; added = added; exactly = joined_are positions lists near far e f are ie if' m }
 

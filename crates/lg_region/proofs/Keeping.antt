@@ -9,12 +9,12 @@ use Rattle.lg_region.specs.Fronts.{Numbering}
 use Rattle.lg_region.specs.Keys.{IsDisjunctAt}
 use Rattle.lg_region.specs.Kept.{IsKept, lists_in, numbering}
 use Rattle.lg_region.specs.Numbered.{HasSides}
-use Rattle.lg_region.specs.Chains.{IsChain}
+use Rattle.lg_region.specs.Chains.{IsByClass}
 use Rattle.lg_region.specs.Ways.{IsEndOf}
 use Rattle.lg_region.specs.declared.lists.Lists.TheInside.{Inside}
 use Rattle.lg_region.specs.declared.numbering.Sides.{Sides}
 use Rattle.lg_region.specs.declared.chains.Side.{Side}
-use Rattle.lg_region.specs.declared.chains.Chain.{Chain}
+use Rattle.lg_region.specs.declared.chains.ByClass.{ByClass}
 use Rattle.lg_region.specs.declared.ways.End.{End}
 use Rattle.lg_region.proofs.Elements.{zip_at, zip_length}
 use Rattle.lg_region.proofs.Ends.{map_at, row_within, row_at, number_within, sides_at}
@@ -75,14 +75,14 @@ end_is a v n x is e l r =
 pub pred_of : (n : ℕ) → n ≢ 0 → n ≡ suc (n - 1)
 pred_of n h = omega arith
 
--- the chains of a word
-pub chain_within : (a : Inside) (v : Numbering) (side : Side) (chains : List Chain) (word : ℕ) → AllZip (IsChain side) a.problem.now chains → numbering a ≡ v → word < length v.positions → word < length chains
-chain_within a v side chains word are e l =
+-- the disjuncts of a word by class
+pub word_listed : (a : Inside) (v : Numbering) (side : Side) (words : List ByClass) (word : ℕ) → AllZip (IsByClass side) a.problem.now words → numbering a ≡ v → word < length v.positions → word < length words
+word_listed a v side words word are e l =
     let h : word < length a.problem.now = subst (λ z. word < length z.positions) (sym e) l in
-    let n = zip_length (IsChain side) a.problem.now chains are in
+    let n = zip_length (IsByClass side) a.problem.now words are in
     omega arith
 
-pub chain_at : (a : Inside) (v : Numbering) (side : Side) (chains : List Chain) (word : ℕ) (t : Chain) → AllZip (IsChain side) a.problem.now chains → numbering a ≡ v → word < length v.positions → t ≡ get_or chains word t → IsChain side (get_or v.positions word []) t
-chain_at a v side chains word t are e l r =
+pub word_at : (a : Inside) (v : Numbering) (side : Side) (words : List ByClass) (word : ℕ) (t : ByClass) → AllZip (IsByClass side) a.problem.now words → numbering a ≡ v → word < length v.positions → t ≡ get_or words word t → IsByClass side (get_or v.positions word []) t
+word_at a v side words word t are e l r =
     let h : word < length a.problem.now = subst (λ z. word < length z.positions) (sym e) l in
-    subst (λ z. IsChain side (get_or z.positions word []) t) e (subst (λ z. IsChain side (get_or a.problem.now word []) z) (sym r) (zip_at (IsChain side) a.problem.now chains word [] t are h))
+    subst (λ z. IsByClass side (get_or z.positions word []) t) e (subst (λ z. IsByClass side (get_or a.problem.now word []) z) (sym r) (zip_at (IsByClass side) a.problem.now words word [] t are h))

@@ -32,3 +32,4 @@ pub mod SmallFits
 pub mod Chaining
 pub mod Alike
 mod Lasts
+mod Tabled

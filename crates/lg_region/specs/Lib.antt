@@ -5,6 +5,7 @@ pub mod Laws
 pub mod Fronts
 pub mod Keys
 pub mod Hashed
+pub mod Matching
 pub mod Numbered
 pub mod Kept
 pub mod Ways

@@ -1,15 +1,18 @@
 -- What is kept of each list: its last connector and the number of the rest, and how it ends; and the numbers of the lists of each disjunct.
-use Rattle.std.specs.Prelude.{◌≡◌, ℕ, suc, ◌+◌, ◌<◌, ◌≤◌, List, [], ◌∷◌, ◌++◌, length, Some, slice_get}
+use Rattle.std.specs.Prelude.{◌≡◌, ℕ, suc, ◌+◌, ◌<◌, ◌≤◌, ◌⊎◌, List, [], ◌∷◌, ◌++◌, length, Some, slice_get, slice_index}
 use Rattle.std.specs.List.{AllZip, Contains}
-use Rattle.std.specs.Map.{lookup}
-use Rattle.lg_gram.specs.Connectors.{Connector, connector_eq}
+use Rattle.lg_gram.specs.Connectors.{Connector}
 use Rattle.lg_gram.specs.declared.disjunct.Disjunct.{Disjunct}
 use Rattle.lg_gram.specs.Limits.{SIDE}
+use Rattle.lg_region.specs.Alike.{last_of}
+use Rattle.lg_region.specs.Chains.{AreNexts, AreRunEnds}
 use Rattle.lg_region.specs.Fronts.{AreFirstMet, list_of}
 use Rattle.lg_region.specs.Ways.{IsEndOf}
 use Rattle.lg_region.specs.declared.numbering.Tail.{Tail}
 use Rattle.lg_region.specs.declared.numbering.Sides.{Sides}
 use Rattle.lg_region.specs.declared.ways.End.{End}
+use Rattle.lg_region.specs.declared.chains.Side.{Side}
+use Rattle.lg_region.specs.declared.chains.Side.TheVariants.{Left, Right}
 
 -- the list of a number is that of an earlier number with one connector more
 pub record IsTailOf (lists : List (List Connector)) (id : ℕ) (t : Tail) : Type 0 where
@@ -24,33 +27,28 @@ pub record AreTailsOf (lists : List (List Connector)) (tails : List Tail) : Type
 abbrev pub AreShort : List (List Connector) → Type 0
 AreShort lists = (cs : List Connector) → Contains lists cs → length cs ≤ SIDE
 
--- the ends of the lists of the numbers from 1 on
-pub record AreEndsOf (lists : List (List Connector)) (ends : List End) : Type 0 where
+-- a list ends with a connector of this kind
+pub record IsKind (lists : List (List Connector)) (kinds : List Connector) (number kind : ℕ) : Type 0 where
+  pub within : kind < length kinds
+  pub is_last : last_of (list_of lists number) ≡ slice_get kinds kind
+
+-- the ends of the lists of the numbers from 1 on, and the kinds of their last connectors
+pub record AreEndsOf (lists : List (List Connector)) (kinds : List Connector) (ends : List End) : Type 0 where
   pub same_length : length ends ≡ length lists
   pub each : (n : ℕ) (e : End) → slice_get ends n ≡ Some e → IsEndOf lists (suc n) e
+  pub kind : (n : ℕ) (e : End) → slice_get ends n ≡ Some e → IsKind lists kinds (suc n) e.kind
 
--- one of the ends has this number and this connector
-pub record HasLast (ends : List End) (id : ℕ) (c : Connector) : Type 0 where
-  pub place : ℕ
-  pub end : End
-  pub kept : slice_get ends place ≡ Some end
-  pub number : end.id ≡ id
-  pub last : end.last ≡ c
+-- for each kind, the number of a list that ends with it
+abbrev pub AreFirstsOf : List (List Connector) → List Connector → List ℕ → Type 0
+AreFirstsOf lists kinds firsts = AllZip (λ c first. last_of (list_of lists first) ≡ Some c) kinds firsts
 
-abbrev pub HasSameLast : List End → End → ℕ → Type 0
-HasSameLast ends e id = HasLast ends id e.last
-
--- each list has the number of one that ends with the same connector
-abbrev pub AreLastsOf : List End → List ℕ → Type 0
-AreLastsOf ends lasts = AllZip (HasSameLast ends) ends lasts
-
--- connectors, each with the number of a list that ends with it
-abbrev pub AreFirsts : List End → List (Connector × ℕ) → Type 0
-AreFirsts ends entries = (c : Connector) (id : ℕ) → lookup (connector_eq c) entries ≡ Some id → HasLast ends id c
-
--- the list of this number ends with the connector, and is met; so does the list of the number that is given
-abbrev pub GivesFirst : List (Connector × ℕ) → List (Connector × ℕ) → Connector → ℕ → ℕ → Type 0
-GivesFirst old new c id first = (ends : List End) → AreFirsts ends old → HasLast ends id c → AreFirsts ends new × HasLast ends first c
+-- A connector of this kind is met, at the end of a list: where it was not met yet, the kind is a new one, with that list.
+pub record MeetsKind (old : List Connector) (old_firsts : List ℕ) (kinds : List Connector) (firsts : List ℕ) (last : Connector) (id kind : ℕ) : Type 0 where
+  pub grown : List Connector
+  pub grows : kinds ≡ old ++ grown
+  pub few : length kinds ≤ suc (length old)
+  pub is_kind : slice_get kinds kind ≡ Some last
+  pub met : (lists : List (List Connector)) → last_of (list_of lists id) ≡ Some last → AreFirstsOf lists old old_firsts → AreFirstsOf lists kinds firsts
 
 -- the lists and their tails, where so many lists have been met so far
 pub record AreNumbered (met : List (List Connector)) (lists : List (List Connector)) (tails : List Tail) : Type 0 where
@@ -92,3 +90,20 @@ pub record Admits (old : List (List Connector)) (old_tails : List Tail) (lists :
 -- those of all disjuncts
 abbrev pub AreSidesOf : List (List Connector) → List (List Disjunct) → List (List Sides) → Type 0
 AreSidesOf lists positions sides = AllZip (AllZip (HasSides lists)) positions sides
+
+-- the number of the list of a disjunct on one side
+abbrev pub number_on : Side → Sides → ℕ
+number_on Left s = s.left
+number_on Right s = s.right
+
+-- the run of a disjunct ends with the next one of its class; or where that one's run does, if both have the same left list
+abbrev pub EndsRun : List Sides → List ℕ → ℕ → ℕ → ℕ → Type 0
+EndsRun row runs number next end =
+    (end ≡ next) ⊎ ((next < length row) × (end ≡ slice_index runs next)
+    × ((s t : Sides) → slice_get row next ≡ Some s → slice_get row number ≡ Some t → s.left ≡ t.left))
+
+-- from a number on, the ends of the runs of all disjuncts that have these numbers of lists, and these next ones of their classes
+pub record AreRuns (nexts : List ℕ) (row : List Sides) (start : ℕ) (runs : List ℕ) : Type 0 where
+  pub level : length runs ≡ length row
+  pub each : (side : Side) (ds : List Disjunct) (lists : List (List Connector)) → AreNexts side ds nexts → AllZip (HasSides lists) ds row
+      → AreRunEnds side ds start runs

@@ -2,6 +2,7 @@
 use Rattle.std.specs.Prelude.{◌≡◌, ◌↔◌, ℕ, suc, ◌≤◌, Bool, cond, false, List, [], ◌∷◌, ◌++◌, length, take, map, Some, IsSome, slice_get}
 use Rattle.std.specs.List.{Contains, flat_map}
 use Rattle.lg_gram.specs.Connectors.{Connector}
+use Rattle.lg_region.specs.Chains.{class_of}
 use Rattle.lg_region.specs.Cuts.{IsCutAt}
 use Rattle.lg_region.specs.Fronts.{AreOnce, list_of}
 use Rattle.lg_region.specs.declared.key.Joint.{Joint}
@@ -26,13 +27,16 @@ pub record KeepsFront {A : Type 0} (old new : List A) : Type 0 where
   pub more : List A
   pub added : new ≡ old ++ more
 
--- what is kept of the end of a list
+-- what is kept of the end of a list, but for its kind
 pub record IsEndOf (lists : List (List Connector)) (number : ℕ) (e : End) : Type 0 where
   pub itself : e.id ≡ number
   pub known : number ≤ length lists
   pub known_shorter : e.shorter ≤ length lists
   pub at_end : suc e.place ≡ length (list_of lists number)
-  pub is_last : slice_get (list_of lists number) e.place ≡ Some e.last
+  pub last : Connector
+  pub is_last : slice_get (list_of lists number) e.place ≡ Some last
+  pub is_multi : e.is_multi ≡ last.multi
+  pub class_is : e.class ≡ class_of (list_of lists number)
   pub rest : list_of lists e.shorter ≡ take e.place (list_of lists number)
 
 abbrev pub rest_items : Rests → List ℕ
@@ -41,7 +45,7 @@ rest_items (Two items) = items
 
 -- without the last connector, and whole where that is multi
 abbrev pub rests_of : End → List ℕ
-rests_of e = cond e.last.multi (e.shorter ∷ e.id ∷ []) (e.shorter ∷ [])
+rests_of e = cond e.is_multi (e.shorter ∷ e.id ∷ []) (e.shorter ∷ [])
 
 abbrev pub way_of : Joint → ℕ → ℕ → Way
 way_of joint near far = record { joint = Some joint; near = near; far = far }

@@ -3,7 +3,7 @@ ghost use Rattle.std.specs.Prelude.{◌≡◌, ◌≢◌, ◌+◌, ◌<◌, ◌�
 ghost use Rattle.lg_region.specs.Fronts.{list_of};
 ghost use Rattle.lg_region.specs.Parts.{Region};
 ghost use Rattle.lg_region.specs.Ways.{AreExactly};
-ghost use Rattle.lg_region.specs.Groups.{key_behind, HaveLeft, IsGroup, IsKnownGap, IsNextLed, IsRightOf, Leads, left_lead, right_lead, right_of};
+ghost use Rattle.lg_region.specs.Groups.{key_behind, IsGroup, IsKnownGap, IsNextLed, IsRightOf, Leads, left_lead, right_lead, right_of};
 
 use crate::chains::Side;
 use crate::key::Key;
@@ -105,35 +105,13 @@ pub(crate) fn group_at(lists: &Lists<'_>, gap: &Gap, word: u32, from: u32) -> Gr
     ensures led { IsNextLed lists.entry.now gap.now.lead word result.to result.to }
 {
     let left = lists.sides(word, from).left;
-    let to = run_end(lists, gap.lead, word, from, left);
+    let to = lists.run_end(gap.lead.side, word, from);
     Group {
         word,
         left,
         from,
         to,
     }
-}
-
-// Up to which number the disjuncts of a word that have the class have the left list of this one: the next one of the class
-// that has another, or how many disjuncts there are.
-fn run_end(lists: &Lists<'_>, lead: Lead, word: u32, from: u32, left: u32) -> u32
-    requires within { word < length lists.now.positions }
-    requires listed { from < length (slice_index_or lists.now.positions word []) }
-    requires led { IsNextLed lists.now lead word from from }
-    requires first { HaveLeft lists.now lead word left from (from + 1) }
-    ensures later { from < result }
-    ensures led { IsNextLed lists.entry.now lead word result result }
-    ensures same { HaveLeft lists.entry.now lead word left from result }
-{
-    let count = lists.count(word);
-    let mut to = lists.next(lead.side, word, from);
-    while to < count {
-        if lists.sides(word, to).left != left {
-            return to;
-        }
-        to = lists.next(lead.side, word, to);
-    }
-    to
 }
 
 /// The disjuncts of the group that can cut the region, with each way on of their right lists. They are the same for each region that
@@ -150,18 +128,10 @@ pub fn rights(
 {
     let mut rights = Rights::new(alloc);
     let mut ways = Ways::new(alloc);
-    let end = lists.end(gap.rlist);
     let mut number = group.from;
     while number < group.to {
         let sides = lists.sides(group.word, number);
-        set_ways(
-            lists,
-            sides.right,
-            gap.rlist,
-            end.as_ref(),
-            gap.llist != 0,
-            &mut ways,
-        )?;
+        set_ways(lists, sides.right, gap.rlist, gap.llist != 0, &mut ways)?;
         push_rights(number, &ways, &mut rights)?;
         number = lists.next(gap.lead.side, group.word, number);
     }

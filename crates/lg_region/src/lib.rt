@@ -11,6 +11,7 @@ pub mod group;
 pub mod key;
 pub mod law;
 pub mod lists;
+mod matching;
 mod numbering;
 pub mod opening;
 mod small;

@@ -1,16 +1,17 @@
 //! Numbers of the lists of a problem.
-ghost use Rattle.std.specs.Prelude.{◌≡◌, ◌+◌, ◌<◌, ◌≤◌, [], length, slice_index_or, MatchOption, IfOk};
+ghost use Rattle.std.specs.Prelude.{◌≡◌, ◌+◌, ◌<◌, ◌≤◌, ◌↔◌, [], false, length, slice_index_or, IsTrue, MatchOption, IfOk};
 ghost use Rattle.lg_gram.specs.Problems.{IsProblem};
 ghost use Rattle.lg_gram.specs.declared.disjunct.Disjunct.{Disjunct};
 ghost use Rattle.lg_region.specs.Alike.{last_of};
 ghost use Rattle.lg_region.specs.Fronts.{AreListsOf, list_of};
 ghost use Rattle.lg_region.specs.Keys.{IsDisjunctAt};
 ghost use Rattle.lg_region.specs.Numbered.{HasSides};
-ghost use Rattle.lg_region.specs.Chains.{class_of as class_of_list, list_on, IsNext, IsChain};
-ghost use Rattle.lg_region.specs.Ways.{IsEndOf};
+ghost use Rattle.lg_region.specs.Chains.{class_of as class_of_list, list_on, IsNext, IsByClass, IsRunEnd};
+ghost use Rattle.lg_region.specs.Ways.{HasWay, IsEndOf};
 
-use crate::chains::{Chain, Side, chains, class_of};
-use crate::numbering::{Sides, ends_of, lasts_of, numbered};
+use crate::chains::{ByClass, Side, by_class};
+use crate::matching::Matching;
+use crate::numbering::{Sides, ends_of, numbered};
 use crate::ways::End;
 use indexmap::IndexSet;
 use lg_base::NoMemory;
@@ -28,10 +29,11 @@ pub struct Lists<'a> {
     problem: &'a Problem,
     fronts: Vec<&'a [Connector]>,
     ends: Vec<End>,
-    lasts: Vec<u32>,
+    matching: Matching,
+    firsts: Vec<u32>,
     sides: Vec<Vec<Sides>>,
-    lefts: Vec<Chain>,
-    rights: Vec<Chain>,
+    lefts: Vec<ByClass>,
+    rights: Vec<ByClass>,
 }
 
 impl<'a> Model for Lists<'a> {
@@ -47,7 +49,7 @@ impl<'a> Model for Lists<'a> {
 }
 
 impl<'a> Lists<'a> {
-    /// The numbers of the lists of a problem. It takes some twenty bytes for each disjunct, less than a hundred for each
+    /// The numbers of the lists of a problem. It takes some twenty-five bytes for each disjunct, less than two hundred for each
     /// list, and two thousand for each position. While they are made it takes as much again for each list.
     pub fn of(alloc: Global, problem: &'a Problem) -> Result<Lists<'a>, NoMemory>
         ensures positions { IfOk result (λ lists. lists.positions ≡ problem.now) }
@@ -57,15 +59,18 @@ impl<'a> Lists<'a> {
         let mut tails = IndexSet::new(alloc);
         let positions = problem.positions();
         let sides = numbered(alloc, &mut fronts, &mut tails, positions)?;
-        let ends = ends_of(alloc, &fronts, &tails)?;
-        let lasts = lasts_of(alloc, &ends)?;
-        let lefts = chains(alloc, Side::Left, positions)?;
-        let rights = chains(alloc, Side::Right, positions)?;
+        let mut kinds = IndexSet::new(alloc);
+        let mut firsts = Vec::new(alloc);
+        let ends = ends_of(alloc, &fronts, &tails, &mut kinds, &mut firsts)?;
+        let matching = Matching::of(alloc, kinds.as_slice())?;
+        let lefts = by_class(alloc, Side::Left, positions, &ends, &sides)?;
+        let rights = by_class(alloc, Side::Right, positions, &ends, &sides)?;
         Ok(Lists {
             problem,
             fronts,
             ends,
-            lasts,
+            matching,
+            firsts,
             sides,
             lefts,
             rights,
@@ -132,8 +137,8 @@ impl<'a> Lists<'a> {
         ensures value { result ≡ class_of_list (list_of self.now.lists id) }
         ensures small { result < 256 }
     {
-        match self.get(id) {
-            Some(list) => class_of(list),
+        match self.end(id) {
+            Some(end) => end.class as u32,
             None => 0,
         }
     }
@@ -144,7 +149,7 @@ impl<'a> Lists<'a> {
         requires class { class < 256 }
         ensures { IsNext side (slice_index_or self.now.positions word []) class 0 result }
     {
-        self.chain(side, word).firsts[class as usize]
+        self.by_class(side, word).chain.firsts[class as usize]
     }
 
     /// The next disjunct of a word that has the class of this one on this side, or how many disjuncts there are. No memory.
@@ -153,13 +158,23 @@ impl<'a> Lists<'a> {
         requires listed { number < length (slice_index_or self.now.positions word []) }
         ensures { (d : Disjunct) → IsDisjunctAt self.now.positions word number d → IsNext side (slice_index_or self.now.positions word []) (class_of_list (list_on side d)) (number + 1) result }
     {
-        self.chain(side, word).nexts[number as usize]
+        self.by_class(side, word).chain.nexts[number as usize]
     }
 
-    // The chains of one word.
-    fn chain(&self, side: Side, word: u32) -> &Chain
+    /// The next disjunct of a word that has the class of this one on this side, and another left list, or how many disjuncts there
+    /// are. No memory.
+    pub(crate) fn run_end(&self, side: Side, word: u32, number: u32) -> u32
+        requires word { word < length self.now.positions }
+        requires listed { number < length (slice_index_or self.now.positions word []) }
+        ensures { (d : Disjunct) → IsDisjunctAt self.now.positions word number d → IsRunEnd side (slice_index_or self.now.positions word []) d number result }
+    {
+        self.by_class(side, word).runs[number as usize]
+    }
+
+    // The disjuncts of one word by class.
+    fn by_class(&self, side: Side, word: u32) -> &ByClass
         requires { word < length self.now.positions }
-        ensures { IsChain side (slice_index_or self.now.positions word []) result.now }
+        ensures { IsByClass side (slice_index_or self.now.positions word []) result.now }
     {
         match side {
             Side::Left => &self.lefts[word as usize],
@@ -175,7 +190,21 @@ impl<'a> Lists<'a> {
         if id == 0 {
             return 0;
         }
-        self.lasts[id as usize - 1]
+        self.firsts[self.ends[id as usize - 1].kind as usize]
+    }
+
+    /// Whether two lists have a way on with a joint: both have a last connector, and the two match. No memory.
+    pub(crate) fn can_join(&self, near: u32, far: u32) -> bool
+        requires near { near ≤ length self.now.lists }
+        requires far { far ≤ length self.now.lists }
+        ensures { IsTrue result ↔ HasWay self.now.lists near far false }
+    {
+        if near == 0 || far == 0 {
+            return false;
+        }
+        let first = self.ends[near as usize - 1];
+        let second = self.ends[far as usize - 1];
+        self.matching.has(first.kind, second.kind)
     }
 
     /// The end of a list. None where it is empty. No memory.

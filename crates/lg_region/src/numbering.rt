@@ -3,10 +3,11 @@ ghost use Rattle.std.specs.Prelude.{◌≡◌, ◌+◌, ◌<◌, ◌^◌, map, l
 ghost use Rattle.std.specs.List.{flat_map};
 ghost use Rattle.lg_gram.specs.Problems.{IsProblem};
 ghost use Rattle.lg_region.specs.Fronts.{all_fronts, fronts as front_parts, fronts_of};
-ghost use Rattle.lg_region.specs.Numbered.{Admits, AreEndsOf, AreLastsOf, AreNumbered, AreShort, AreSidesOf, AreTailsOf, GivesFirst, GivesNumber, GivesSides, Numbers};
+ghost use Rattle.lg_region.specs.Numbered.{Admits, AreEndsOf, AreFirstsOf, AreNumbered, AreShort, AreSidesOf, AreTailsOf, GivesNumber, GivesSides, MeetsKind, Numbers};
 
+use crate::chains::class_of_caps;
 use crate::ways::End;
-use indexmap::{IndexMap, IndexSet};
+use indexmap::IndexSet;
 use lg_base::NoMemory;
 use lg_gram::{Connector, Disjunct, Disjuncts};
 use std::alloc::Global;
@@ -109,54 +110,53 @@ fn admit<'a>(
     Ok(index as u32 + 1)
 }
 
-/// The ends of all lists but the empty one, in the order of their numbers.
+/// The ends of all lists but the empty one, in the order of their numbers. `kinds` becomes their last connectors, each once, in the
+/// order in which they are met, and `firsts` the number of the first list that ends with each; both are empty at first.
 pub(crate) fn ends_of(
     alloc: Global,
     fronts: &[&[Connector]],
     tails: &IndexSet<Tail>,
+    kinds: &mut IndexSet<Connector>,
+    firsts: &mut Vec<u32>,
 ) -> Result<Vec<End>, NoMemory>
     requires few { length tails.now.keys < 2 ^ 32 }
     requires short { AreShort (map (λ f. f.now) fronts.now) }
     requires tails { AreTailsOf (map (λ f. f.now) fronts.now) tails.now.keys }
-    ensures { IfOk result (λ ends. AreEndsOf (map (λ f. f.now) fronts.now) ends.items) }
+    requires no_kinds { length kinds.old.keys ≡ 0 }
+    requires no_firsts { length firsts.old.items ≡ 0 }
+    ensures ends { IfOk result (λ ends. AreEndsOf (map (λ f. f.now) fronts.now) kinds.new.keys ends.items) }
+    ensures firsts { OnOk result (AreFirstsOf (map (λ f. f.now) fronts.now) kinds.new.keys firsts.new.items) }
 {
     let mut ends = Vec::with_capacity(alloc, fronts.len())?;
     for index in 0..fronts.len() {
         let tail = tails[index];
+        let id = index as u32 + 1;
+        let kind = kind_of(kinds, firsts, tail.last, id)?;
         ends.push(End {
-            id: index as u32 + 1,
+            id,
             place: fronts[index].len() as u32 - 1,
-            last: tail.last,
             shorter: tail.shorter,
+            kind,
+            class: class_of_caps(tail.last.caps()),
+            is_multi: tail.last.is_multi(),
         })?;
     }
     Ok(ends)
 }
 
-/// For each list but the empty one, the number of the first that ends with the same connector.
-pub(crate) fn lasts_of(alloc: Global, ends: &[End]) -> Result<Vec<u32>, NoMemory>
-    ensures { IfOk result (λ lasts. AreLastsOf ends.now lasts.items) }
-{
-    let mut firsts = IndexMap::new(alloc);
-    let mut lasts = Vec::with_capacity(alloc, ends.len())?;
-    for end in ends {
-        let first = first_with(&mut firsts, end.last, end.id)?;
-        lasts.push(first)?;
-    }
-    Ok(lasts)
-}
-
-// The first list that ends with a connector: that of this number where none was met yet.
-fn first_with(
-    firsts: &mut IndexMap<Connector, u32>,
+// The kind of the last connector of a list: a new one where no list before it ends so.
+fn kind_of(
+    kinds: &mut IndexSet<Connector>,
+    firsts: &mut Vec<u32>,
     last: Connector,
     id: u32,
 ) -> Result<u32, NoMemory>
-    ensures { IfOk result (λ first. GivesFirst firsts.old.entries firsts.new.entries last id first) }
+    requires room { length kinds.old.keys + 1 < 2 ^ 32 }
+    ensures { IfOk result (λ kind. MeetsKind kinds.old.keys firsts.old.items kinds.new.keys firsts.new.items last id kind) }
 {
-    if let Some(first) = firsts.get(&last) {
-        return Ok(*first);
+    let (kind, is_new) = kinds.insert_full(last)?;
+    if is_new {
+        firsts.push(id)?;
     }
-    firsts.insert(last, id)?;
-    Ok(id)
+    Ok(kind as u32)
 }

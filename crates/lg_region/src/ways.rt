@@ -1,12 +1,10 @@
 //! How the lists of two ends go on behind a joint between them.
-ghost use Rattle.std.specs.Prelude.{◌≡◌, ◌≤◌, ◌++◌, ◌↔◌, false, length, map, IfOk, IsTrue, MatchOption, OnOk};
-ghost use Rattle.lg_region.specs.Fronts.{AreListsOf};
-ghost use Rattle.lg_region.specs.Ways.{AddsExactly, AreExactly, HasWay, IsEndOf, IsWayOf, rest_items, rests_of, way_of, joined_ways};
+ghost use Rattle.std.specs.Prelude.{◌≡◌, ◌≤◌, ◌++◌, ◌↔◌, false, length, map, IfOk, IsTrue, OnOk};
+ghost use Rattle.lg_region.specs.Ways.{AddsExactly, AreExactly, HasWay, IsWayOf, rest_items, rests_of, way_of, joined_ways};
 
 use crate::key::Joint;
 use crate::lists::Lists;
 use lg_base::NoMemory;
-use lg_gram::{Connector, matches};
 use smallvec::SmallVec;
 use std::alloc::Global;
 
@@ -21,14 +19,16 @@ pub struct Way {
 /// Ways, of which most pairs of lists have few.
 pub(crate) type Ways = SmallVec<Way, 4>;
 
-/// The end of a list but the empty one: its number, its last place with the connector there, and the number of the list
-/// without it.
+/// The end of a list but the empty one: its number, its last place, the number of the list without the connector there, and of
+/// that connector its kind, its class and whether it is multi.
 #[derive(Clone, Copy, Debug)]
 pub(crate) struct End {
     pub(crate) id: u32,
     pub(crate) place: u32,
-    pub(crate) last: Connector,
     pub(crate) shorter: u32,
+    pub(crate) kind: u32,
+    pub(crate) class: u8,
+    pub(crate) is_multi: bool,
 }
 
 // The numbers of the lists with which a list goes on behind a joint.
@@ -54,7 +54,7 @@ impl End {
     fn rests(&self) -> Rests
         ensures { rest_items result ≡ rests_of self.now }
     {
-        if self.last.is_multi() {
+        if self.is_multi {
             Rests::Two([self.shorter, self.id])
         } else {
             Rests::One([self.shorter])
@@ -76,8 +76,7 @@ pub(crate) fn ways_between(
     ensures { IfOk result (λ ways. AreExactly ways.items (IsWayOf lists.entry.now.lists near far apart)) }
 {
     let mut ways = Ways::new(alloc);
-    let end = lists.end(far);
-    set_ways(lists, near, far, end.as_ref(), apart, &mut ways)?;
+    set_ways(lists, near, far, apart, &mut ways)?;
     Ok(ways)
 }
 
@@ -91,27 +90,19 @@ pub(crate) fn has_way(lists: &Lists<'_>, near: u32, far: u32, apart: bool) -> bo
     if apart {
         return true;
     }
-    let Some(first) = lists.end(near) else {
-        return false;
-    };
-    let Some(second) = lists.end(far) else {
-        return false;
-    };
-    matches(&first.last, &second.last)
+    lists.can_join(near, far)
 }
 
-/// The same, in place of what `ways` has. The end of the far list is given, so that it need not be looked up for each near one.
+/// The same, in place of what `ways` has.
 pub(crate) fn set_ways(
     lists: &Lists<'_>,
     near: u32,
     far: u32,
-    end: Option<&End>,
     apart: bool,
     ways: &mut Ways,
 ) -> Result<(), NoMemory>
     requires near { near ≤ length lists.now.lists }
     requires far { far ≤ length lists.now.lists }
-    requires end { MatchOption end (far ≡ 0) (λ e. IsEndOf lists.now.lists far e.now) }
     ensures { OnOk result (AreExactly ways.new.items (IsWayOf lists.entry.now.lists near far apart)) }
 {
     lists.are_numbered();
@@ -123,33 +114,26 @@ pub(crate) fn set_ways(
             far,
         })?;
     }
-    push_joints(lists, near, far, end, ways)?;
+    push_joints(lists, near, far, ways)?;
     Ok(())
 }
 
 // The ways on with a joint.
-fn push_joints(
-    lists: &Lists<'_>,
-    near: u32,
-    far: u32,
-    end: Option<&End>,
-    ways: &mut Ways,
-) -> Result<(), NoMemory>
+fn push_joints(lists: &Lists<'_>, near: u32, far: u32, ways: &mut Ways) -> Result<(), NoMemory>
     requires near { near ≤ length lists.now.lists }
     requires far { far ≤ length lists.now.lists }
-    requires end { MatchOption end (far ≡ 0) (λ e. IsEndOf lists.now.lists far e.now) }
     ensures { OnOk result (AddsExactly ways.old.items ways.new.items (IsWayOf lists.entry.now.lists near far false)) }
 {
+    if !lists.can_join(near, far) {
+        return Ok(());
+    }
     let Some(first) = lists.end(near) else {
         return Ok(());
     };
-    let Some(second) = end else {
+    let Some(second) = lists.end(far) else {
         return Ok(());
     };
-    if !matches(&first.last, &second.last) {
-        return Ok(());
-    }
-    push_joined(ways, &first, second)
+    push_joined(ways, &first, &second)
 }
 
 fn push_joined(ways: &mut Ways, near: &End, far: &End) -> Result<(), NoMemory>
