@@ -2,12 +2,14 @@
 use Rattle.std.proofs.Common.{◌≡◌, ◌≢◌, ◌↔◌, ℕ, zero, suc, ◌+◌, ◌*◌, ◌/◌, ◌%◌, ◌^◌, ◌<◌, ◌≤◌, ◌==◌, ◌⊎◌, inl, inr, Bool, true≢false, if◌then◌else◌, IsTrue, List, [], ◌∷◌, length, map, Some, bit_or, refl, sym, ap, ◌∙◌, subst, Contains, arith, rules, length-append}
 use Rattle.std.proofs.lemmas.Bool.{cases_Bool, cases_eq}
 use Rattle.std.proofs.lemmas.List.{length-map}
-use Rattle.std.proofs.lemmas.Nat.Bits.{bit_at_or, bit_at-pow_same, bit_at-pow_other, bit_at-zero}
+use Rattle.std.proofs.lemmas.Nat.Bits.{bit_at-zero}
 use Rattle.std.proofs.lemmas.Option.{same_Some, slice_get_within}
 use Rattle.std.specs.Bool.{Decides}
 use Rattle.std.specs.List.{slice_get}
 use Rattle.std.proofs.lemmas.List.Elements.{Contains-append_cases, Contains-append_left}
 use Rattle.std.specs.Map.{keys_of}
+use Rattle.lg_base.specs.Bits.{bit_at}
+use Rattle.lg_base.proofs.Bits.{bit_other, bit_same, bit_stays}
 use Rattle.lg_region.proofs.Once.{once_append}
 use Rattle.lg_region.specs.Fronts.{AreOnce}
 use Rattle.lg_region.specs.Keys.{IsValidKey}
@@ -15,7 +17,7 @@ use Rattle.lg_gram.specs.Connectors.{Connector}
 use Rattle.lg_gram.specs.declared.disjunct.Disjunct.{Disjunct}
 use Rattle.lg_region.specs.declared.key.Key.{Key}
 use Rattle.lg_region.specs.declared.key.Key.TheVariants.{Whole, Region as Between}
-use Rattle.lg_forest.specs.KeySets.{IsSmall, all_keys, bit_at, key_at, keys_of_row, place_of, places, row_of}
+use Rattle.lg_forest.specs.KeySets.{IsSmall, all_keys, key_at, keys_of_row, place_of, places, row_of}
 use Rattle.lg_forest.specs.Slots.{HasBits, SetsBit}
 use Rattle.lg_forest.specs.declared.key_set.Row.{Row}
 use Rattle.lg_forest.specs.declared.key_set.Row.TheVariants as row
@@ -31,11 +33,17 @@ valid_small positions lists (Between left right llist rlist nulls) few (l, r, va
 
 key_back : (k : Key) → key_at (row_of k) (place_of k) ≡ k
 key_back (Whole nulls) = ap Whole (let e : 64 * (nulls / 64) + nulls % 64 ≡ nulls = omega arith in e)
-key_back (Between left right llist rlist nulls) = ap (λ n. Between left right n rlist nulls) (let e : 64 * (llist / 64) + llist % 64 ≡ llist = omega arith in e)
+key_back (Between left right llist rlist nulls) =
+    let list : 16 * (llist / 16) + (llist % 16 * 4 + nulls % 4) / 4 ≡ llist = omega arith in
+    let number : 4 * (nulls / 4) + (llist % 16 * 4 + nulls % 4) % 4 ≡ nulls = omega arith in
+    (λ i. Between left right (list i) rlist (number i))
 
 row_back : (r : Row) (place : ℕ) → place < 64 → row_of (key_at r place) ≡ r
 row_back (row.Whole block) place l = ap row.Whole (let e : (64 * block + place) / 64 ≡ block = omega arith in e)
-row_back (row.Region left right nulls block rlist) place l = ap (λ n. row.Region left right nulls n rlist) (let e : (64 * block + place) / 64 ≡ block = omega arith in e)
+row_back (row.Region left right nulls block rlist) place l =
+    let number : (4 * nulls + place % 4) / 4 ≡ nulls = omega arith in
+    let list : (16 * block + place / 4) / 16 ≡ block = omega arith in
+    (λ i. row.Region left right (number i) (list i) rlist)
 
 place_back : (r : Row) (place : ℕ) → place < 64 → place_of (key_at r place) ≡ place
 place_back (row.Whole block) place l = omega arith
@@ -202,12 +210,6 @@ one_longer old new x once once' fresh is =
 
 -- ---- one bit more
 
-bit_same : (bits place : ℕ) → bit_at (bit_or bits (2 ^ place)) place ≡ 1
-bit_same bits place = (let one = bit_at-pow_same place in let is = bit_at_or bits (2 ^ place) place in let l : bit_at bits place < 2 = omega arith in omega arith)
-
-bit_other : (bits place other : ℕ) → other ≢ place → bit_at (bit_or bits (2 ^ place)) other ≡ bit_at bits other
-bit_other bits place other apart = (let none = bit_at-pow_other place other apart in let is = bit_at_or bits (2 ^ place) other in omega arith)
-
 -- whether two rows are the same
 cases_row : (r s : Row) → (r ≡ s) ⊎ (r ≢ s)
 cases_row r s = elim (cases_Bool (eq-value.it r s)) [ inl t ↦ inl ((rows_same r s).0 t) | inr f ↦ inr (λ e. true≢false (sym ((rows_same r s).1 e) ∙ f)) ]
@@ -231,7 +233,7 @@ module _ (old new : List (Row × ℕ)) (key : Key) (sets : SetsBit old (row_of k
   ]
 
   still_set : (k : Key) → bit_at sets.bits (place_of k) ≡ 1 → bit_at bits' (place_of k) ≡ 1
-  still_set k one = (let both = bit_at_or sets.bits (2 ^ place_of key) (place_of k) in let l : bit_at (2 ^ place_of key) (place_of k) < 2 = omega arith in omega arith)
+  still_set k one = bit_stays sets.bits (place_of key) (place_of k) one
 
   pub put_key : (k : Key) → Contains (all_keys new) k ↔ (Contains (all_keys old) k ⊎ (k ≡ key))
   put_key k = (

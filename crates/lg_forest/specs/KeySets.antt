@@ -1,27 +1,25 @@
 -- Sets of keys: rows of sixty-four places each, and a bit for each place, which is 1 where its key is there.
-use Rattle.std.specs.Prelude.{ℕ, zero, suc, ◌+◌, ◌*◌, ◌/◌, ◌%◌, ◌^◌, ◌<◌, ◌==◌, List, [], ◌∷◌, map, if◌then◌else◌}
+use Rattle.std.specs.Prelude.{ℕ, zero, suc, ◌+◌, ◌*◌, ◌/◌, ◌%◌, ◌<◌, ◌==◌, List, [], ◌∷◌, map, if◌then◌else◌}
 use Rattle.std.specs.List.{Contains, flat_map}
+use Rattle.lg_base.specs.Bits.{bit_at}
 use Rattle.lg_region.specs.declared.key.Key.{Key}
 use Rattle.lg_region.specs.declared.key.Key.TheVariants.{Whole, Region as Between}
 use Rattle.lg_forest.specs.declared.key_set.Row.{Row}
 use Rattle.lg_forest.specs.declared.key_set.Row.TheVariants as row
 
--- the row of a key, and its place there
+-- the row of a key, and its place there: of a region by sixteen left lists, and by four numbers of unlinked words each
 abbrev pub row_of : Key → Row
 row_of (Whole nulls) = row.Whole (nulls / 64)
-row_of (Between left right llist rlist nulls) = row.Region left right nulls (llist / 64) rlist
+row_of (Between left right llist rlist nulls) = row.Region left right (nulls / 4) (llist / 16) rlist
 
 abbrev pub place_of : Key → ℕ
 place_of (Whole nulls) = nulls % 64
-place_of (Between left right llist rlist nulls) = llist % 64
+place_of (Between left right llist rlist nulls) = llist % 16 * 4 + nulls % 4
 
 -- the key of a row and a place
 abbrev pub key_at : Row → ℕ → Key
 key_at (row.Whole block) place = Whole (64 * block + place)
-key_at (row.Region left right nulls block rlist) place = Between left right (64 * block + place) rlist nulls
-
-abbrev pub bit_at : ℕ → ℕ → ℕ
-bit_at bits place = bits / 2 ^ place % 2
+key_at (row.Region left right nulls block rlist) place = Between left right (16 * block + place / 4) rlist (4 * nulls + place % 4)
 
 -- the places below an end whose bit is 1, from the last one down
 abbrev pub places : ℕ → ℕ → List ℕ

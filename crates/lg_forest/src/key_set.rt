@@ -3,7 +3,8 @@ ghost use Rattle.std.specs.Prelude.{◌≡◌, ◌↔◌, ◌<◌, ◌^◌, ◌�
 ghost use Rattle.std.specs.List.{Contains};
 ghost use Rattle.lg_region.specs.Fronts.{AreOnce};
 ghost use Rattle.lg_region.specs.declared.key.Key.{Key};
-ghost use Rattle.lg_forest.specs.KeySets.{IsSmall, bit_at, place_of as place, row_of as row};
+ghost use Rattle.lg_base.specs.Bits.{bit_at};
+ghost use Rattle.lg_forest.specs.KeySets.{IsSmall, place_of as place, row_of as row};
 
 use crate::slots::Slots;
 use lg_base::NoMemory;
@@ -17,8 +18,13 @@ const LIMIT: u32 = 256;
 // How many keys share a row.
 const PLACES: u32 = 64;
 
-/// What keys have alike that share a row: all but their left lists, whose numbers are in one block of sixty-four; or, of the whole
-/// sentence, such a block of numbers of unlinked words.
+// Of these the keys of regions have so many left lists, and so many numbers of unlinked words each.
+const LISTS: u32 = 16;
+
+const NUMBERS: u32 = 4;
+
+/// What keys have alike that share a row: all but their left lists, whose numbers are in one block of sixteen, and their numbers of unlinked
+/// words, which are in one block of four; or, of the whole sentence, a block of sixty-four such numbers.
 #[derive(Clone, Copy, Debug, PartialEq, Eq)]
 pub(crate) enum Row {
     Whole {
@@ -139,8 +145,8 @@ fn row_of(key: &Key) -> Row
         } => Row::Region {
             left: left as u8,
             right: right as u8,
-            nulls: nulls as u8,
-            block: llist / PLACES,
+            nulls: (nulls / NUMBERS) as u8,
+            block: llist / LISTS,
             rlist,
         },
     }
@@ -153,6 +159,6 @@ fn place_of(key: &Key) -> u32
 {
     match *key {
         Key::Whole { nulls } => nulls % PLACES,
-        Key::Region { llist, .. } => llist % PLACES,
+        Key::Region { llist, nulls, .. } => llist % LISTS * NUMBERS + nulls % NUMBERS,
     }
 }

@@ -74,8 +74,9 @@ fn empty<S: Wide>(alloc: Global, words: u32) -> Result<Vec<Vec<S>>, NoMemory>
     ensures long { IfOk result (λ cells. length cells.items ≡ cells_for words) }
     ensures none { IfOk result (λ cells. All (λ cell. cell.items ≡ []) cells.items) }
 {
-    let mut cells = Vec::new(alloc);
-    for _number in 0..(words as usize + 1) * CLASSES {
+    let count = (words as usize + 1) * CLASSES;
+    let mut cells = Vec::with_capacity(alloc, count)?;
+    for _number in 0..count {
         cells.push(Vec::new(alloc))?;
     }
     Ok(cells)

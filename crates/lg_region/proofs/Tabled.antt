@@ -3,21 +3,14 @@ use Rattle.std.proofs.Common.{◌≡◌, ◌≢◌, ◌↔◌, ℕ, zero, suc, �
 use Rattle.std.specs.List.{slice_get}
 use Rattle.std.proofs.lemmas.Bool.{cases_eq, cases_lt}
 use Rattle.std.proofs.lemmas.List.{get_or-set_same, get_or-set_other, length-replicate}
-use Rattle.std.proofs.lemmas.Nat.Bits.{bit_at_or, bit_at-pow_same, bit_at-pow_other, bit_at-zero}
+use Rattle.std.proofs.lemmas.Nat.Bits.{bit_at-zero}
 use Rattle.std.proofs.lemmas.Option.{same_Some, slice_get_within, get_or_from_slice_get}
+use Rattle.lg_base.specs.Bits.{bit_at}
+use Rattle.lg_base.proofs.Bits.{bit_other, bit_same, bit_stays}
 use Rattle.lg_gram.specs.Connectors.{Connector, Match}
 use Rattle.lg_region.specs.Chains.{class_of_caps, IsNextOf}
-use Rattle.lg_region.specs.Matching.{AreFilled, AreTried, IsTable, MatchAt, bit_at, classes_of_kinds, has_bit, with_bit, word_of}
+use Rattle.lg_region.specs.Matching.{AreFilled, AreTried, IsTable, MatchAt, classes_of_kinds, has_bit, with_bit, word_of}
 use Rattle.lg_region.proofs.Ends.{map_at}
-
-bit_same : (bits place : ℕ) → bit_at (bit_or bits (2 ^ place)) place ≡ 1
-bit_same bits place = (let one = bit_at-pow_same place in let is = bit_at_or bits (2 ^ place) place in let l : bit_at bits place < 2 = omega arith in omega arith)
-
-bit_other : (bits place other : ℕ) → other ≢ place → bit_at (bit_or bits (2 ^ place)) other ≡ bit_at bits other
-bit_other bits place other apart = (let none = bit_at-pow_other place other apart in let is = bit_at_or bits (2 ^ place) other in omega arith)
-
-bit_stays : (bits place other : ℕ) → bit_at bits other ≡ 1 → bit_at (bit_or bits (2 ^ place)) other ≡ 1
-bit_stays bits place other one = (let both = bit_at_or bits (2 ^ place) other in let l : bit_at (2 ^ place) other < 2 = omega arith in omega arith)
 
 -- one bit is set
 module _ (bits : List ℕ) (near far : ℕ) (within : word_of near far < length bits) where

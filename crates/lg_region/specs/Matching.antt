@@ -1,5 +1,6 @@
 -- Kinds of last connectors, and which of them match.
 use Rattle.std.specs.Prelude.{◌≡◌, ◌↔◌, ℕ, ◌+◌, ◌*◌, ◌/◌, ◌%◌, ◌^◌, ◌<◌, ◌≤◌, ◌⊎◌, List, length, map, set, bit_or, Some, slice_get, slice_index}
+use Rattle.lg_base.specs.Bits.{bit_at}
 use Rattle.lg_gram.specs.Connectors.{Connector, Match}
 use Rattle.lg_region.specs.Chains.{class_of_caps}
 use Rattle.lg_region.specs.declared.matching.Matching.{Matching}
@@ -15,9 +16,6 @@ pub record MatchAt (kinds : List Connector) (near far : ℕ) : Type 0 where
 -- each row has sixteen words of sixty-four bits; this is the word where the bit of two kinds stands
 abbrev pub word_of : ℕ → ℕ → ℕ
 word_of near far = near * 16 + far / 64
-
-abbrev pub bit_at : ℕ → ℕ → ℕ
-bit_at bits place = bits / 2 ^ place % 2
 
 -- the bit of two kinds is 1
 abbrev pub has_bit : List ℕ → ℕ → ℕ → Type 0

@@ -17,7 +17,7 @@ pub(crate) fn sites_of(
 ) -> Result<Vec<Vec<Site>>, NoMemory>
     ensures { IfOk result (λ lists. AreStartedAll right words sides.now (items_in lists.items)) }
 {
-    let mut lists = Vec::new(alloc);
+    let mut lists = Vec::with_capacity(alloc, sides.len())?;
     for side in sides {
         let end = reach(right, words, side.position);
         let sites = started(alloc, side.list, end)?;
@@ -42,7 +42,7 @@ fn reach(right: bool, words: u32, position: u32) -> u32
 fn started(alloc: Global, list: &[Connector], end: u32) -> Result<Vec<Site>, NoMemory>
     ensures { IfOk result (λ sites. AreStarted list.now end sites.items) }
 {
-    let mut sites = Vec::new(alloc);
+    let mut sites = Vec::with_capacity(alloc, list.len())?;
     for place in 0..list.len() {
         let site = site_at(list, end, place);
         sites.push(site)?;
