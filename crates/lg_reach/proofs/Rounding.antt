@@ -1,5 +1,5 @@
 -- Walks through the words of all positions, and rounds of them.
-use Rattle.std.proofs.Common.{◌≡◌, ◌∙◌, refl, sym, ap, subst, ℕ, zero, suc, ◌+◌, ◌<◌, ◌≤◌, ◌⊎◌, inl, inr, Bool, true, false, cond, Option, Some, None, List, [], ◌∷◌, ◌++◌, length, get_or, slice_get, slice_index_or, Contains, arith}
+use Rattle.std.proofs.Common.{◌≡◌, ◌≢◌, ◌∙◌, refl, sym, ap, subst, ℕ, zero, suc, ◌+◌, ◌<◌, ◌≤◌, ◌⊎◌, inl, inr, Bool, true, false, cond, Option, Some, None, List, [], ◌∷◌, ◌++◌, length, get_or, slice_get, slice_index_or, Contains, arith}
 use Rattle.std.specs.Borrow.{Bor}
 use Rattle.std.proofs.Math.Seq.{get_or-append_seam}
 use Rattle.std.proofs.lemmas.List.{get_or_append_left, get_or_past, length-append}
@@ -151,7 +151,7 @@ still_among most words kept g among same used = record {
 }
 
 -- one round after others
-module _ (most : ℕ) (words kept again : List (List WordTree)) (sites more : Sites) (ways longer : List (List ℕ)) (gaps : Gaps) (shuts : Shuts most ways gaps) (known : Bor Known)
+module _ (n most : ℕ) (words kept again : List (List WordTree)) (counted : n ≢ 0 → n ≡ length kept) (sites more : Sites) (ways longer : List (List ℕ)) (gaps : Gaps) (shuts : Shuts n most ways gaps) (known : Bor Known)
     (same : known.now ≡ record { sites = sites; gaps = gaps }) (v : AreWalked most words kept None sites ways) (w : AreWalked most kept again (Some known) more longer) where
   now : (g : Linkage) → IsAmong most words g → IsAmong most kept g
   now g among = still_among most words kept g among v.fewer.same_length (v.used g among tt)
@@ -159,7 +159,7 @@ module _ (most : ℕ) (words kept again : List (List WordTree)) (sites more : Si
   known_so : (g : Linkage) → IsAmong most words g → IsKnown known.now g
   known_so g among =
       let learned = v.knows g among tt in
-      subst (λ k. IsKnown k g) (sym same) (record { sites = learned.sites_know; gaps = ways_allow most g among.fits ways learned.ways_know gaps shuts })
+      subst (λ k. IsKnown k g) (sym same) (record { sites = learned.sites_know; gaps = ways_allow n most g among.fits (λ some. counted some ∙ v.fewer.same_length ∙ sym among.same_length) ways learned.ways_know gaps shuts })
 
   walked_again : AreWalked most words again None more longer
   walked_again = record {
@@ -175,7 +175,7 @@ module _ (most : ℕ) (words kept again : List (List WordTree)) (sites more : Si
 pub read_at : (words : List (List WordTree)) (n : ℕ) (ws : List WordTree) → n < length words → ws ≡ get_or words n ws → ws ≡ slice_index_or words n []
 read_at words n ws within is = sym (get_or_from_slice_get words n ws [] (slice_get_read words (length words) n ws refl within is))
 
-pub walked_next : (most : ℕ) (words kept given again : List (List WordTree)) (sites more : Sites) (ways longer : List (List ℕ)) (gaps : Gaps) → Shuts most ways gaps → (known : Bor Known) → given ≡ kept
+pub walked_next : (n most : ℕ) (words kept given again : List (List WordTree)) → (n ≢ 0 → n ≡ length kept) → (sites more : Sites) (ways longer : List (List ℕ)) (gaps : Gaps) → Shuts n most ways gaps → (known : Bor Known) → given ≡ kept
     → known.now ≡ record { sites = sites; gaps = gaps } → AreWalked most words kept None sites ways → AreWalked most given again (Some known) more longer → AreWalked most words again None more longer
-walked_next most words kept given again sites more ways longer gaps shuts known is same v w =
-    walked_again most words kept again sites more ways longer gaps shuts known same v (subst (λ ws. AreWalked most ws again (Some known) more longer) is w)
+walked_next n most words kept given again counted sites more ways longer gaps shuts known is same v w =
+    walked_again n most words kept again counted sites more ways longer gaps shuts known same v (subst (λ ws. AreWalked most ws again (Some known) more longer) is w)

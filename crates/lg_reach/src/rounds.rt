@@ -1,5 +1,5 @@
 //! Rounds of walks through all formulas of a sentence.
-ghost use Rattle.std.specs.Prelude.{◌≤◌, ◌+◌, IfOk};
+ghost use Rattle.std.specs.Prelude.{◌≡◌, ◌≢◌, ◌≤◌, ◌+◌, length, IfOk};
 ghost use Rattle.lg_gram.specs.Linkages.{Linkage, unlinked};
 ghost use Rattle.lg_reach.specs.Ends.{IsLinkageOf};
 ghost use Rattle.lg_reach.specs.Reach.{HaveFewer, HaveUsed};
@@ -23,8 +23,8 @@ const ROUNDS: u32 = 3;
 /// A choice goes where one of its links would have to be longer than the sentence allows, or would end at no word that has a partner which
 /// reaches back as far: a link is longer than those of the connectors before it, at both its ends. The words under the nearest link of a
 /// word, to one side of it, link among themselves and with that link's other end alone; those whose formulas have no choice for that are
-/// unlinked, so they are no more than `nulls`. Where a link is the nearest of both its ends, all words under it are unlinked. The time is
-/// that of four walks through all formulas. The only error is running out of memory.
+/// unlinked, and so are those elsewhere that have none left, so all these are no more than `nulls`. Where a link is the nearest of both its
+/// ends, all words under it are unlinked. The time is that of four walks through all formulas. The only error is running out of memory.
 pub fn within_reach(
     alloc: Global,
     positions: &[WordExprs],
@@ -82,6 +82,9 @@ fn walk_through(
     Ok(Round { kept, sites, ways })
 }
 
-fn count_of(positions: &[WordExprs]) -> u32 {
-    u32::try_from(positions.len()).unwrap_or(u32::MAX)
+// The number of positions. Where it is too great to be counted, which that of no sentence is, it is 0: then no gap is shut.
+fn count_of(positions: &[WordExprs]) -> u32
+    ensures { result ≢ 0 → result ≡ length positions.now }
+{
+    u32::try_from(positions.len()).unwrap_or(0)
 }

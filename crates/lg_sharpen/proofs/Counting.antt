@@ -5,7 +5,7 @@ use Rattle.std.proofs.lemmas.Bool.{cases_eq, cases_lt}
 use Rattle.std.proofs.lemmas.List.{get_or_past, get_or-set_same, get_or-set_other, length-append, length-set}
 use Rattle.std.proofs.lemmas.List.Sums.{sum_by-cons}
 use Rattle.std.proofs.lemmas.List.FromFn.{sum_by-map-range_with_len_more}
-use Rattle.lg_sharpen.specs.Filling.{least_at, first_of, last_of, stuck_in, stuck_under, stuck_near, word_beside, AreStuck, AreStuckTo, CountsWord}
+use Rattle.lg_sharpen.specs.Filling.{least_at, first_of, last_of, stuck_in, stuck_under, stuck_near, left_over, void_beside, word_beside, AreStuck, AreStuckTo, CountsWord}
 use Rattle.lg_sharpen.proofs.Rows.{SpanRowTo, added}
 
 abbrev stuck_one : Bool → List (List ℕ) → ℕ → ℕ → ℕ → ℕ
@@ -118,11 +118,11 @@ counts_word right rows i m k old now bound to = record {
 }
 
 -- a flag more
-pub span_more : (right : Bool) (most : ℕ) (rows : List (List ℕ)) (i k : ℕ) (counts : List ℕ) (now new : List Bool) (flag : Bool) → AreStuck right rows i counts → new ≡ now ++ flag ∷ []
-    → (flag ≡ false → most ≤ get_or counts k 0) → SpanRowTo right most rows i k now → SpanRowTo right most rows i (k + 1) new
-span_more right most rows i k counts now new flag stuck is shut to =
-    subst (SpanRowTo right most rows i (k + 1)) (sym is) (record {
+pub span_more : (right : Bool) (n most : ℕ) (rows : List (List ℕ)) (i k others : ℕ) (counts : List ℕ) (now new : List Bool) (flag : Bool) → AreStuck right rows i counts → new ≡ now ++ flag ∷ []
+    → (flag ≡ false → most ≤ get_or counts k 0 + others) → others ≤ void_beside right rows n i k → SpanRowTo right n most rows i k now → SpanRowTo right n most rows i (k + 1) new
+span_more right n most rows i k others counts now new flag stuck is shut void to =
+    subst (SpanRowTo right n most rows i (k + 1)) (sym is) (record {
       long = length-append now (flag ∷ []) ∙ ap (λ z. z + 1) to.long;
-      each = added now flag true (λ d b. b ≡ false → most ≤ stuck_under right rows i d) to.each
-          (subst (λ z. flag ≡ false → most ≤ stuck_under right rows i z) (sym to.long) (λ off. let many = shut off in let few = stuck k in omega (arith, many, few)));
+      each = added now flag true (λ d b. b ≡ false → most ≤ left_over right rows n i d) to.each
+          (subst (λ z. flag ≡ false → most ≤ left_over right rows n i z) (sym to.long) (λ off. let many = shut off in let few = stuck k in omega (arith, many, few)));
     })

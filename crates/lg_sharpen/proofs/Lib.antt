@@ -4,6 +4,7 @@ pub mod Narrowing
 pub mod Tables
 pub mod Standing
 pub mod Under
+pub mod Voids
 pub mod Rows
 pub mod Counting
 pub mod Away

@@ -94,20 +94,20 @@ added {A} xs x d P old new a =
     ]
 
 -- the flags of a row
-pub record SpanRowTo (right : Bool) (most : ℕ) (rows : List (List ℕ)) (i k : ℕ) (flags : List Bool) : Type 0 where
+pub record SpanRowTo (right : Bool) (n most : ℕ) (rows : List (List ℕ)) (i k : ℕ) (flags : List Bool) : Type 0 where
   pub long : length flags ≡ k
-  pub each : IsSpanRow right most rows i flags
+  pub each : IsSpanRow right n most rows i flags
 
 -- the rows of flags
-pub record SpansTo (right : Bool) (most : ℕ) (rows : List (List ℕ)) (k : ℕ) (flags : List (List Bool)) : Type 0 where
+pub record SpansTo (right : Bool) (n most : ℕ) (rows : List (List ℕ)) (k : ℕ) (flags : List (List Bool)) : Type 0 where
   pub long : length flags ≡ k
-  pub each : AreSpans right most rows flags
+  pub each : AreSpans right n most rows flags
 
-pub spans_more : (right : Bool) (most : ℕ) (rows : List (List ℕ)) (k : ℕ) (now new : List (Vec Bool)) (row : Vec Bool) → new ≡ now ++ row ∷ [] → IsSpanRow right most rows k row.items
-    → SpansTo right most rows k (rows_in now) → SpansTo right most rows (k + 1) (rows_in new)
-spans_more right most rows k now new row e is t =
+pub spans_more : (right : Bool) (n most : ℕ) (rows : List (List ℕ)) (k : ℕ) (now new : List (Vec Bool)) (row : Vec Bool) → new ≡ now ++ row ∷ [] → IsSpanRow right n most rows k row.items
+    → SpansTo right n most rows k (rows_in now) → SpansTo right n most rows (k + 1) (rows_in new)
+spans_more right n most rows k now new row e is t =
     let same : rows_in new ≡ rows_in now ++ row.items ∷ [] = ap (λ z. rows_in z) e ∙ map-append (λ (v : Vec Bool). v.items) now (row ∷ []) in
-    subst (λ z. SpansTo right most rows (k + 1) z) (sym same) (record {
+    subst (λ z. SpansTo right n most rows (k + 1) z) (sym same) (record {
       long = length-append (rows_in now) (row.items ∷ []) ∙ ap (λ z. z + 1) t.long;
-      each = added (rows_in now) row.items [] (λ i flags. IsSpanRow right most rows i flags) t.each (subst (λ z. IsSpanRow right most rows z row.items) (sym t.long) is);
+      each = added (rows_in now) row.items [] (λ i flags. IsSpanRow right n most rows i flags) t.each (subst (λ z. IsSpanRow right n most rows z row.items) (sym t.long) is);
     })

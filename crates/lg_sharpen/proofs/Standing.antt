@@ -101,22 +101,22 @@ covers_narrowed most g f right gaps sides table old new ms known n spans all cov
     subst (λ z. CoversAt g right z new (side_on right m)) s.position
     (n.each g f spans all (side_on right m) s.side s.at (subst (λ z. CoversAt g right z old (side_on right m)) (sym s.position) (covers m has e)))
 
-pub round_keeps : (most : ℕ) (lefts rights : List Side) (ll rl ll' rl' : List (List Site)) (gaps : Gaps) (lt rt : Table Site) (ms new : List Member) (lu ru lo ro : List Bool) → All (IsKnown lefts rights) ms
-    → ((g : Linkage) → Fits most g → Stands g ll rl ms → AllowsGaps g gaps) → AreUsed false (length lefts) ms lu
+pub round_keeps : (n most : ℕ) (lefts rights : List Side) (ll rl ll' rl' : List (List Site)) (gaps : Gaps) (lt rt : Table Site) (ms new : List Member) (lu ru lo ro : List Bool) → All (IsKnown lefts rights) ms
+    → ((g : Linkage) → Fits most g → length g.chosen ≡ n → Stands g ll rl ms → AllowsGaps g gaps) → AreUsed false (length lefts) ms lu
     → AreUsed true (length rights) ms ru → IsTableOf lefts lu ll lt → NarrowsAll true most gaps rights lt rl rl' → IsTableOf rights ru rl' rt → NarrowsAll false most gaps lefts rt ll ll' → AreOpen ll' lo → AreOpen rl' ro
-    → Keeps (are_on lo ro) ms new → KeepsStanding most ll rl ms ll' rl' new
-round_keeps most lefts rights ll rl ll' rl' gaps lt rt ms new lu ru lo ro known spans ul ur tl nr tr nl ol or' keeps =
+    → Keeps (are_on lo ro) ms new → KeepsStanding n most ll rl ms ll' rl' new
+round_keeps n most lefts rights ll rl ll' rl' gaps lt rt ms new lu ru lo ro known spans ul ur tl nr tr nl ol or' keeps =
     let kl : (m : Member) → Contains ms m → IsSideAt lefts m.left m.position m.disjunct.now.left = λ m c. (All-contains (IsKnown lefts rights) ms m known c).left in
     let kr : (m : Member) → Contains ms m → IsSideAt rights m.right m.position m.disjunct.now.right = λ m c. (All-contains (IsKnown lefts rights) ms m known c).right in
     record {
       left = (are_on lo ro, keeps);
       long_left = nl.long;
       long_right = nr.long;
-      stands = λ g f s.
+      stands = λ g f e s.
           let al = allows_all most g f false lefts ll lt ms lu s.chosen kl ul tl s.left in
-          let cr = covers_narrowed most g f true gaps rights lt rl rl' ms kr nr (spans g f s) al s.right in
+          let cr = covers_narrowed most g f true gaps rights lt rl rl' ms kr nr (spans g f e s) al s.right in
           let ar = allows_all most g f true rights rl' rt ms ru s.chosen kr ur tr cr in
-          let cl = covers_narrowed most g f false gaps lefts rt ll ll' ms kl nl (spans g f s) ar s.left in
+          let cl = covers_narrowed most g f false gaps lefts rt ll ll' ms kl nl (spans g f e s) ar s.left in
           record {
             chosen = λ i d c.
                 let m = s.chosen i d c in
@@ -130,16 +130,16 @@ round_keeps most lefts rights ll rl ll' rl' gaps lt rt ms new lu ru lo ro known 
           };
     }
 
-pub keeps_none : MembersGoByRounds → (most : ℕ) (ll rl : List (List Site)) (ms : List Member) → KeepsStanding most ll rl ms ll rl ms
-keeps_none law most ll rl ms = record { left = law.none ms; long_left = refl; long_right = refl; stands = λ g f s. s }
+pub keeps_none : MembersGoByRounds → (n most : ℕ) (ll rl : List (List Site)) (ms : List Member) → KeepsStanding n most ll rl ms ll rl ms
+keeps_none law n most ll rl ms = record { left = law.none ms; long_left = refl; long_right = refl; stands = λ g f e s. s }
 
-pub keeps_more : MembersGoByRounds → (most : ℕ) (ll rl ll' rl' ll'' rl'' : List (List Site)) (old now new : List Member) → KeepsStanding most ll rl old ll' rl' now
-    → KeepsStanding most ll' rl' now ll'' rl'' new → KeepsStanding most ll rl old ll'' rl'' new
-keeps_more law most ll rl ll' rl' ll'' rl'' old now new s k = record {
+pub keeps_more : MembersGoByRounds → (n most : ℕ) (ll rl ll' rl' ll'' rl'' : List (List Site)) (old now new : List Member) → KeepsStanding n most ll rl old ll' rl' now
+    → KeepsStanding n most ll' rl' now ll'' rl'' new → KeepsStanding n most ll rl old ll'' rl'' new
+keeps_more law n most ll rl ll' rl' ll'' rl'' old now new s k = record {
   left = law.more old now new s.left k.left;
   long_left = k.long_left ∙ s.long_left;
   long_right = k.long_right ∙ s.long_right;
-  stands = λ g f t. k.stands g f (s.stands g f t);
+  stands = λ g f e t. k.stands g f e (s.stands g f e t);
 }
 
 -- what a member that a linkage uses needs on one side, by its other list
@@ -168,12 +168,12 @@ needs_kept ll rl ll' rl' ln rn ms al ar sl sr = record {
   };
 }
 
-pub keeps_needs : (most : ℕ) (ll rl ll' rl' ll'' rl'' : List (List Site)) (old now : List Member) → KeepsStanding most ll rl old ll' rl' now → KeepsNeeds ll' rl' now ll'' rl'' → KeepsStanding most ll rl old ll'' rl'' now
-keeps_needs most ll rl ll' rl' ll'' rl'' old now s k = record {
+pub keeps_needs : (n most : ℕ) (ll rl ll' rl' ll'' rl'' : List (List Site)) (old now : List Member) → KeepsStanding n most ll rl old ll' rl' now → KeepsNeeds ll' rl' now ll'' rl'' → KeepsStanding n most ll rl old ll'' rl'' now
+keeps_needs n most ll rl ll' rl' ll'' rl'' old now s k = record {
   left = s.left;
   long_left = k.long_left ∙ s.long_left;
   long_right = k.long_right ∙ s.long_right;
-  stands = λ g f t. k.stands most g f (s.stands g f t);
+  stands = λ g f e t. k.stands most g f (s.stands g f e t);
 }
 
 pub right_within : (most : ℕ) (g : Linkage) → Fits most g → (l : Link) → HasLink g l → l.right < length g.chosen
@@ -222,10 +222,10 @@ starts most g f right n sides lists ms en known a m has e =
     (r.2, r.3, starts_at most g f right n m.position r.0 s.side.list.now r.2 en (list_of g right m.position m.disjunct.now e ∙ sym s.list) (subst (λ z. IsReach right n z r.0) s.position r.1) r.4)
 
 pub settled : (n most : ℕ) (lefts rights : List Side) (ll rl ll' rl' : List (List Site)) (old new : List Member) → All (IsKnown lefts rights) old → AreStartedAll false n lefts ll → AreStartedAll true n rights rl
-    → KeepsStanding most ll rl old ll' rl' new → KeepsChosen n most old new
+    → KeepsStanding n most ll rl old ll' rl' new → KeepsChosen n most old new
 settled n most lefts rights ll rl ll' rl' old new known a b k = record {
   left = k.left;
-  chosen = λ g f e c. (k.stands g f (record {
+  chosen = λ g f e c. (k.stands g f e (record {
     chosen = c;
     left = starts most g f false n lefts ll old e (λ m h. (All-contains (IsKnown lefts rights) old m known h).left) a;
     right = starts most g f true n rights rl old e (λ m h. (All-contains (IsKnown lefts rights) old m known h).right) b;

@@ -109,12 +109,12 @@ pub record Stands (g : Linkage) (left_lists right_lists : List (List Site)) (mem
   pub left : CoversAll g false left_lists members
   pub right : CoversAll g true right_lists members
 
--- some members go, and what stood for a linkage with few unlinked words still does
-pub record KeepsStanding (most : ℕ) (old_left old_right : List (List Site)) (old : List Member) (new_left new_right : List (List Site)) (new : List Member) : Type 0 where
+-- some members go, and what stood for a linkage of n words with few unlinked ones still does
+pub record KeepsStanding (n most : ℕ) (old_left old_right : List (List Site)) (old : List Member) (new_left new_right : List (List Site)) (new : List Member) : Type 0 where
   pub left : AreLeft old new
   pub long_left : length new_left ≡ length old_left
   pub long_right : length new_right ≡ length old_right
-  pub stands : (g : Linkage) → Fits most g → Stands g old_left old_right old → Stands g new_left new_right new
+  pub stands : (g : Linkage) → Fits most g → length g.chosen ≡ n → Stands g old_left old_right old → Stands g new_left new_right new
 
 -- what stood for a linkage with few unlinked words still does, with the same members
 pub record KeepsNeeds (old_left old_right : List (List Site)) (members : List Member) (new_left new_right : List (List Site)) : Type 0 where

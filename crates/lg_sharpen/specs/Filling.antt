@@ -1,5 +1,5 @@
 -- Gaps: the words under the nearest link of a word, to one side of it. They link among themselves and with that link's other end alone, or are unlinked.
-use Rattle.std.specs.Prelude.{◌≡◌, ℕ, ◌+◌, ◌-◌, ◌<◌, ◌≤◌, Bool, true, false, cond, ltb, List, [], ◌∷◌, length, map, slice_index_or}
+use Rattle.std.specs.Prelude.{◌≡◌, ℕ, ◌+◌, ◌-◌, ◌<◌, ◌≤◌, Bool, true, false, cond, ltb, min, List, [], ◌∷◌, length, map, slice_index_or}
 use Rattle.std.specs.Global.{Vec}
 use Rattle.std.specs.List.{Contains, count_by, range_with_len}
 use Rattle.lg_member.specs.declared.member.Member.{Member}
@@ -69,6 +69,26 @@ stuck_in rows first last word count = count_by (λ end. ltb last end) (map (λ w
 abbrev pub stuck_under : Bool → List (List ℕ) → ℕ → ℕ → ℕ
 stuck_under right rows i d = stuck_in rows (first_of right i d) (last_of right i d) (under right i d) (d - 1)
 
+-- how many of so many words, from one on, have no way to link at all, where there are n words
+abbrev pub void_in : List (List ℕ) → ℕ → ℕ → ℕ → ℕ
+void_in rows n word count = stuck_in rows 0 n word count
+
+-- the same of all words but those under a link; the word behind these
+abbrev pub behind_under : Bool → ℕ → ℕ → ℕ
+behind_under right i d = under right i d + (d - 1)
+
+abbrev pub void_beside : Bool → List (List ℕ) → ℕ → ℕ → ℕ → ℕ
+void_beside right rows n i d = void_in rows n 0 (min (under right i d) n) + void_in rows n (behind_under right i d) (n - behind_under right i d)
+
+-- how many of n words have no way to link where the nearest link of position i has this length
+abbrev pub left_over : Bool → List (List ℕ) → ℕ → ℕ → ℕ → ℕ
+left_over right rows n i d = stuck_under right rows i d + void_beside right rows n i d
+
+-- for each number of words, from none to n, how many of the first ones have no way to link at all
+pub record AreVoids (n : ℕ) (rows : List (List ℕ)) (voids : List ℕ) : Type 0 where
+  pub long : length voids ≡ n + 1
+  pub each : (w : ℕ) → w ≤ n → slice_index_or voids w 0 ≡ void_in rows n 0 w
+
 -- the word of a side with so many words before it, and how many of the first m words of that side are stuck under a link of this length
 abbrev pub word_beside : Bool → ℕ → ℕ → ℕ
 word_beside right i m = cond right (i + m + 1) (i - m - 1)
@@ -91,19 +111,19 @@ pub record CountsWord (right : Bool) (rows : List (List ℕ)) (i m : ℕ) (old n
   pub counted : AreStuckTo right rows i m old → AreStuckTo right rows i (m + 1) new
 
 -- what flags refuse leaves too many words unlinked
-abbrev pub IsSpanRow : Bool → ℕ → List (List ℕ) → ℕ → List Bool → Type 0
-IsSpanRow right most rows i flags = (d : ℕ) → slice_index_or flags d true ≡ false → most ≤ stuck_under right rows i d
+abbrev pub IsSpanRow : Bool → ℕ → ℕ → List (List ℕ) → ℕ → List Bool → Type 0
+IsSpanRow right n most rows i flags = (d : ℕ) → slice_index_or flags d true ≡ false → most ≤ left_over right rows n i d
 
-abbrev pub AreSpans : Bool → ℕ → List (List ℕ) → List (List Bool) → Type 0
-AreSpans right most rows flags = (i d : ℕ) → flag_at flags i d ≡ false → most ≤ stuck_under right rows i d
+abbrev pub AreSpans : Bool → ℕ → ℕ → List (List ℕ) → List (List Bool) → Type 0
+AreSpans right n most rows flags = (i d : ℕ) → flag_at flags i d ≡ false → most ≤ left_over right rows n i d
 
--- gaps are shut only where that many words have no way to link
-pub record Shuts (most : ℕ) (rows : List (List ℕ)) (gaps : Gaps) : Type 0 where
-  pub right : AreSpans true most rows gaps.right
-  pub left : AreSpans false most rows gaps.left
+-- gaps are shut only where that many of n words have no way to link
+pub record Shuts (n most : ℕ) (rows : List (List ℕ)) (gaps : Gaps) : Type 0 where
+  pub right : AreSpans true n most rows gaps.right
+  pub left : AreSpans false n most rows gaps.left
 
 -- the same by the ways to link that members have
-pub record AreGaps (most : ℕ) (lefts rights : List (List Site)) (members : List Member) (gaps : Gaps) : Type 0 where
+pub record AreGaps (n most : ℕ) (lefts rights : List (List Site)) (members : List Member) (gaps : Gaps) : Type 0 where
   pub rows : List (List ℕ)
   pub least : AreLeast lefts rights members rows
-  pub shuts : Shuts most rows gaps
+  pub shuts : Shuts n most rows gaps

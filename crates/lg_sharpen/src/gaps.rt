@@ -1,9 +1,9 @@
 //! Which gaps the nearest links of words may span.
 //!
 //! The words under the nearest link of a word, to one side of it, link among themselves and with the other end of that link alone, since links do not
-//! cross. So a word that has no disjunct for that is unlinked, and of those there are few.
-ghost use Rattle.std.specs.Prelude.{◌≡◌, ◌≤◌, ◌<◌, ◌↔◌, ◌+◌, length, true, false, cond, ltb, slice_index_or, IfOk, IfSome, IsTrue, Some};
-ghost use Rattle.lg_sharpen.specs.Filling.{AreGaps, AreLeast, AreSpans, AreStuck, CountsWord, IsLowered, IsNoted, IsSpanRow, MaySpan, Notes, Shuts, first_of as first_linked, flag_at as flag_in_rows, last_of as last_linked, least_at as least_in_rows, need_at as need_in, need_of, rows_in, word_beside};
+//! cross. So a word that has no disjunct for that is unlinked; and so is one elsewhere that has none at all. Of all these there are few.
+ghost use Rattle.std.specs.Prelude.{◌≡◌, ◌≤◌, ◌<◌, ◌↔◌, ◌+◌, ◌-◌, ℕ, List, min, length, true, false, cond, ltb, slice_index_or, IfOk, IfSome, IsTrue, Some};
+ghost use Rattle.lg_sharpen.specs.Filling.{AreGaps, AreLeast, AreSpans, AreStuck, AreVoids, CountsWord, IsLowered, IsNoted, IsSpanRow, MaySpan, Notes, Shuts, first_of as first_linked, flag_at as flag_in_rows, last_of as last_linked, least_at as least_in_rows, need_at as need_in, need_of, rows_in, under, void_beside, void_in, word_beside};
 ghost use Rattle.lg_sharpen.specs.Sites.{items_in};
 
 use crate::site::Site;
@@ -72,12 +72,14 @@ impl Ways {
 }
 
 impl Gaps {
-    /// The gaps among so many words in which fewer than `most` have no way to link. The only error is running out of memory.
+    /// The gaps that nearest links may span among so many words: where fewer than `most` are left over, of those in the gap the words that have no
+    /// way to link there, and of the others those that have none at all. The only error is running out of memory.
     pub fn of(alloc: Global, words: u32, most: u64, ways: &Ways) -> Result<Gaps, NoMemory>
-        ensures { IfOk result (Shuts most ways.now) }
+        ensures { IfOk result (Shuts words most ways.now) }
     {
-        let right = spans_of(alloc, true, words, most, &ways.rows)?;
-        let left = spans_of(alloc, false, words, most, &ways.rows)?;
+        let voids = voids_of(alloc, words, &ways.rows)?;
+        let right = spans_of(alloc, true, words, most, &ways.rows, &voids)?;
+        let left = spans_of(alloc, false, words, most, &ways.rows, &voids)?;
         Ok(Gaps { right, left })
     }
 
@@ -111,7 +113,7 @@ fn flag_in(row: &[bool], length: usize) -> bool
     row.get(length).copied().unwrap_or(true)
 }
 
-/// The gaps among so many words in which fewer than `most` have no way to link by the members' lists.
+/// The gaps among so many words that leave fewer than `most` over by the members' lists.
 pub(crate) fn gaps_of(
     alloc: Global,
     words: u32,
@@ -120,7 +122,7 @@ pub(crate) fn gaps_of(
     right_lists: &[Vec<Site>],
     members: &[Member<'_>],
 ) -> Result<Gaps, NoMemory>
-    ensures { IfOk result (AreGaps most (items_in left_lists.now) (items_in right_lists.now) members.now) }
+    ensures { IfOk result (AreGaps words most (items_in left_lists.now) (items_in right_lists.now) members.now) }
 {
     let mut ways = Ways::none(alloc, words)?;
     note_all(left_lists, right_lists, members, &mut ways);
@@ -220,18 +222,36 @@ fn lower(row: &mut Vec<u32>, count: usize, end: u32)
     }
 }
 
+// How many of the first words have no way to link at all: of none of them, of one, and so on up to all.
+fn voids_of(alloc: Global, words: u32, least: &[Vec<u32>]) -> Result<Vec<u32>, NoMemory>
+    ensures { IfOk result (λ voids. AreVoids words (rows_in least.now) voids.items) }
+{
+    let mut voids = Vec::with_capacity(alloc, words as usize + 1)?;
+    let mut count = 0;
+    voids.push(count)?;
+    for word in 0..words {
+        if is_stuck(least, 0, words as usize, word as usize) {
+            count += 1;
+        }
+        voids.push(count)?;
+    }
+    Ok(voids)
+}
+
 fn spans_of(
     alloc: Global,
     right: bool,
     words: u32,
     most: u64,
     least: &[Vec<u32>],
+    voids: &[u32],
 ) -> Result<Vec<Vec<bool>>, NoMemory>
-    ensures { IfOk result (λ rows. AreSpans right most (rows_in least.now) (rows_in rows.items)) }
+    requires { AreVoids words (rows_in least.now) voids.now }
+    ensures { IfOk result (λ rows. AreSpans right words most (rows_in least.now) (rows_in rows.items)) }
 {
     let mut rows = Vec::new(alloc);
     for position in 0..words {
-        let row = span_row(alloc, right, words, most, least, position)?;
+        let row = span_row(alloc, right, words, most, least, voids, position)?;
         rows.push(row)?;
     }
     Ok(rows)
@@ -244,23 +264,65 @@ fn span_row(
     words: u32,
     most: u64,
     least: &[Vec<u32>],
+    voids: &[u32],
     position: u32,
 ) -> Result<Vec<bool>, NoMemory>
-    ensures { IfOk result (λ row. IsSpanRow right most (rows_in least.now) position row.items) }
+    requires { AreVoids words (rows_in least.now) voids.now }
+    ensures { IfOk result (λ row. IsSpanRow right words most (rows_in least.now) position row.items) }
 {
     let counts = stuck_row(alloc, right, words, least, position)?;
     let mut row = Vec::with_capacity(alloc, counts.len())?;
     for length in 0..counts.len() {
-        row.push(is_open(&counts, length, most))?;
+        let others = beside(right, voids, position, length);
+        row.push(is_open(&counts, length, others, most))?;
     }
     Ok(row)
 }
 
-fn is_open(counts: &[u32], index: usize, most: u64) -> bool
+fn is_open(counts: &[u32], index: usize, others: u32, most: u64) -> bool
     requires { index < length counts.now }
-    ensures { result ≡ false → most ≤ slice_index_or counts.now index 0 }
+    ensures { result ≡ false → most ≤ slice_index_or counts.now index 0 + others }
 {
-    u64::from(counts[index]) < most
+    u64::from(counts[index]) + u64::from(others) < most
+}
+
+// How many words, but for those under a link of the position, have no way to link at all.
+fn beside(right: bool, voids: &[u32], position: u32, length: usize) -> u32
+    requires { length < 9223372036854775808 }
+    ensures { (rows : List (List ℕ)) (n : ℕ) → AreVoids n rows voids.now → result ≤ void_beside right rows n position length }
+{
+    let first = first_under(right, position, length);
+    let end = first + length.saturating_sub(1);
+    before(voids, first).saturating_add(since(voids, end))
+}
+
+fn first_under(right: bool, position: u32, length: usize) -> usize
+    ensures value { result ≡ under right position length }
+    ensures small { result ≤ position + 1 }
+{
+    if right {
+        position as usize + 1
+    } else {
+        (position as usize).saturating_sub(length) + 1
+    }
+}
+
+// Of the words before one, and of those from it on.
+fn before(voids: &[u32], word: usize) -> u32
+    ensures { (rows : List (List ℕ)) (n : ℕ) → AreVoids n rows voids.now → result ≤ void_in rows n 0 (min word n) }
+{
+    voids.get(word).copied().unwrap_or(0)
+}
+
+fn since(voids: &[u32], word: usize) -> u32
+    ensures { (rows : List (List ℕ)) (n : ℕ) → AreVoids n rows voids.now → result ≤ void_in rows n word (n - word) }
+{
+    if word < voids.len() {
+        let all = voids[voids.len() - 1];
+        all.saturating_sub(voids[word])
+    } else {
+        0
+    }
 }
 
 // For each length how many words under such a link of the position have no way to link, where no link of the position is nearer; no more than

@@ -17,10 +17,11 @@ const SMALL: usize = 200;
 /// Each connector has a nearest and a farthest position that a partner of it can have, by those of its neighbours on the list: links of
 /// the connectors of a side end one behind the other. A partner lies within these bounds, and the connector within the partner's. The
 /// words under the nearest link of a word, to one side of it, link among themselves and with that link's other end alone; those that
-/// have no disjunct for that are unlinked, so they are no more than `nulls`. Where a link is the nearest of both its ends, all words
-/// under it are unlinked. A link has farther links at one of its ends alone, and under each of them the links of the other end that lead
-/// away from it; and the nearer links of both its ends have room under it, since links do not cross. What cannot have all its links by
-/// this is taken away, in three rounds. A problem with fewer than 200 disjuncts stays as it is. The only error is running out of memory.
+/// have no disjunct for that are unlinked, and so are those elsewhere that have none left, so all these are no more than `nulls`. Where
+/// a link is the nearest of both its ends, all words under it are unlinked. A link has farther links at one of its ends alone, and
+/// under each of them the links of the other end that lead away from it; and the nearer links of both its ends have room under it,
+/// since links do not cross. What cannot have all its links by this is taken away, in three rounds. A problem with fewer than 200
+/// disjuncts stays as it is. The only error is running out of memory.
 pub fn sharpen(alloc: Global, problem: Problem, nulls: u32) -> Result<Problem, NoMemory>
     ensures { IfOk result (IsSharpened problem nulls) }
 {

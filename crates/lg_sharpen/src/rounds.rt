@@ -58,7 +58,7 @@ fn rounds(
     requires known { All (IsKnown lefts.now rights.now) members.old.items }
     requires left { length left_lists.old ≡ length lefts.now }
     requires right { length right_lists.old ≡ length rights.now }
-    ensures { OnOk result (KeepsStanding most (items_in left_lists.old) (items_in right_lists.old) members.old.items (items_in left_lists.new) (items_in right_lists.new) members.new.items) }
+    ensures { OnOk result (KeepsStanding words most (items_in left_lists.old) (items_in right_lists.old) members.old.items (items_in left_lists.new) (items_in right_lists.new) members.new.items) }
 {
     members_go_by_rounds();
     for _ in 0..ROUNDS {
@@ -91,7 +91,7 @@ fn round(
     requires known { All (IsKnown lefts.now rights.now) members.old.items }
     requires left { length left_lists.old ≡ length lefts.now }
     requires right { length right_lists.old ≡ length rights.now }
-    ensures { OnOk result (KeepsStanding most (items_in left_lists.old) (items_in right_lists.old) members.old.items (items_in left_lists.new) (items_in right_lists.new) members.new.items) }
+    ensures { OnOk result (KeepsStanding words most (items_in left_lists.old) (items_in right_lists.old) members.old.items (items_in left_lists.new) (items_in right_lists.new) members.new.items) }
 {
     let left_used = used(alloc, false, lefts, rights, members)?;
     let right_used = used(alloc, true, lefts, rights, members)?;

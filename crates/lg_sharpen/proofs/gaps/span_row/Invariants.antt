@@ -3,4 +3,4 @@ use Rattle.lg_sharpen.proofs.Rows.{SpanRowTo}
 use Rattle.lg_sharpen.proofs.gaps.span_row.Given as goal
 
 abbrev pub invariant-loop-length : goal.invariant-loop-length
-invariant-loop-length l = SpanRowTo l.right l.most (rows_in l.least) l.position l.length l.row.items
+invariant-loop-length l = SpanRowTo l.right l.words l.most (rows_in l.least) l.position l.length l.row.items

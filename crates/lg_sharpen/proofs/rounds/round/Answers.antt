@@ -22,8 +22,8 @@ returns c =
     let rt = c.in_ok-right_sites.right_sites in
     let lo = c.in_ok-left_open.left_open.items in
     let ro = c.in_ok-right_open.right_open.items in
-    round_keeps c.args.most lefts rights ll rl ll' rl' gaps lt rt ms c.keep.new.members.items lu ru lo ro c.requires.known
-    (allows_gaps c.args.most ll rl ms gaps (subst (λ z. AreGaps c.args.most ll rl z gaps) c.deref-3.ensures.value c.in_ok-gaps.ensures))
+    round_keeps c.args.words c.args.most lefts rights ll rl ll' rl' gaps lt rt ms c.keep.new.members.items lu ru lo ro c.requires.known
+    (allows_gaps c.args.words c.args.most ll rl ms gaps (subst (λ z. AreGaps c.args.words c.args.most ll rl z gaps) c.deref-3.ensures.value c.in_ok-gaps.ensures))
     (subst (λ z. AreUsed false (length lefts) z lu) c.deref.ensures.value c.in_ok-left_used.ensures)
     (subst (λ z. AreUsed true (length rights) z ru) c.deref-2.ensures.value c.in_ok-right_used.ensures)
     (subst (λ z. IsTableOf lefts z ll lt) c.deref-4.ensures.value c.in_ok-left_sites.ensures)

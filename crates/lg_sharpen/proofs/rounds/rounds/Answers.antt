@@ -8,7 +8,7 @@ use Rattle.lg_sharpen.proofs.Standing.{keeps_none, keeps_more, keeps_needs}
 use Rattle.lg_sharpen.proofs.rounds.rounds.Goals as goal
 
 pub loop-init : goal.loop-init
-loop-init c = keeps_none c.members_go_by_rounds.ensures c.args.most (items_in c.args.left_lists.now) (items_in c.args.right_lists.now) c.args.members.now.items
+loop-init c = keeps_none c.members_go_by_rounds.ensures c.args.words c.args.most (items_in c.args.left_lists.now) (items_in c.args.right_lists.now) c.args.members.now.items
 
 pub loop-preserved : goal.loop-preserved
 loop-preserved c =
@@ -16,8 +16,8 @@ loop-preserved c =
     let ll = items_in c.args.left_lists.now in
     let rl = items_in c.args.right_lists.now in
     let ms = c.args.members.now.items in
-    keeps_more law c.args.most ll rl (items_in c.note_needs.new.left_lists) (items_in c.note_needs.new.right_lists) (items_in c.round.new.left_lists) (items_in c.round.new.right_lists) ms c.loop.members.items c.round.new.members.items
-    (keeps_needs c.args.most ll rl (items_in c.loop.left_lists) (items_in c.loop.right_lists) (items_in c.note_needs.new.left_lists) (items_in c.note_needs.new.right_lists) ms c.loop.members.items c.loop.invariant
+    keeps_more law c.args.words c.args.most ll rl (items_in c.note_needs.new.left_lists) (items_in c.note_needs.new.right_lists) (items_in c.round.new.left_lists) (items_in c.round.new.right_lists) ms c.loop.members.items c.round.new.members.items
+    (keeps_needs c.args.words c.args.most ll rl (items_in c.loop.left_lists) (items_in c.loop.right_lists) (items_in c.note_needs.new.left_lists) (items_in c.note_needs.new.right_lists) ms c.loop.members.items c.loop.invariant
     (subst (λ z. KeepsNeeds (items_in c.loop.left_lists) (items_in c.loop.right_lists) z (items_in c.note_needs.new.left_lists) (items_in c.note_needs.new.right_lists)) c.deref.ensures.value c.in_ok-note_needs.ensures))
     c.in_ok-round.ensures
 

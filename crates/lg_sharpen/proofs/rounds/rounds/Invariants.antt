@@ -4,4 +4,4 @@ use Rattle.lg_sharpen.proofs.rounds.rounds.Given as goal
 
 abbrev pub invariant-loop : goal.invariant-loop
 invariant-loop l =
-    KeepsStanding l.most (items_in l.fn.left_lists) (items_in l.fn.right_lists) l.fn.members.items (items_in l.left_lists) (items_in l.right_lists) l.members.items
+    KeepsStanding l.words l.most (items_in l.fn.left_lists) (items_in l.fn.right_lists) l.fn.members.items (items_in l.left_lists) (items_in l.right_lists) l.members.items
