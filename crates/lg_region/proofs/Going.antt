@@ -1,19 +1,19 @@
 -- The ways on of two lists.
-use Rattle.std.proofs.Common.{◌≡◌, ℕ, ◌≤◌, Bool, true, false, cond, List, [], ◌∷◌, ◌++◌, length, take, refl, sym, ◌∙◌, ap, subst, Option, Some, None, IsSome, ◌⊎◌, inl, inr, Contains, arith}
+use Rattle.std.proofs.Common.{◌≡◌, ℕ, ◌≤◌, Bool, true, false, cond, List, [], ◌∷◌, ◌++◌, length, map, take, refl, sym, ◌∙◌, ap, subst, Option, Some, None, IsSome, ◌⊎◌, inl, inr, Contains, arith, append_assoc, append-nil}
 use Rattle.std.specs.List.{slice_get}
 use Rattle.std.proofs.lemmas.Option.{same_Some}
 use Rattle.lg_gram.specs.Connectors.{Connector, Match}
 use Rattle.lg_gram.specs.declared.disjunct.Disjunct.{Disjunct}
 use Rattle.lg_region.specs.Cuts.{GoesOn, IsCutAt}
 use Rattle.lg_region.specs.Fronts.{AreListsOf, AreOnce, list_of}
-use Rattle.lg_region.specs.Ways.{AreExactly, AddsExactly, HasWay, IsEndOf, IsWayOf, rests_of, way_of, joined_ways}
+use Rattle.lg_region.specs.Ways.{AreExactly, AddsWays, HasWay, IsEndOf, IsWayOf, rests_of, way_of, joined_ways}
 use Rattle.lg_region.specs.declared.key.Joint.{Joint}
 use Rattle.lg_region.specs.declared.ways.Way.{Way}
 use Rattle.lg_region.specs.declared.ways.End.{End}
 use Rattle.lg_base.proofs.Elements.{contains_here, contains_later, contains_cases, contains_none}
 use Rattle.lg_region.proofs.Valid.{take_short}
 use Rattle.lg_region.proofs.Numbers.{apart}
-use Rattle.lg_region.proofs.Once.{once_one, once_cons, exactly_as, exactly_one, exactly_append, exactly_product}
+use Rattle.lg_region.proofs.Once.{once_one, once_cons, exactly_as, exactly_none, exactly_one, exactly_append, exactly_product}
 
 -- a number with which a list goes on behind a joint
 abbrev pub GoesOnTo : List (List Connector) → ℕ → ℕ → ℕ → Type 0
@@ -182,9 +182,14 @@ plain_way lists near far ln lf = (
   record { known_near = ln; known_far = lf; cut = (refl, refl); joined = λ z. absurd cc },
 )
 
-pub adds_joined : (positions : List (List Disjunct)) (lists : List (List Connector)) (near far : ℕ) (e f : End) (old new : List Way) → AreListsOf positions lists → (ie : IsEndOf lists near e) (if' : IsEndOf lists far f) → Match ie.last if'.last → new ≡ old ++ joined_ways e f
-    → AddsExactly old new (IsWayOf lists near far false)
-adds_joined positions lists near far e f old new are ie if' m added = record { more = joined_ways e f; added = added; exactly = joined_are positions lists near far e f are ie if' m }
+-- two lists without a way on add nothing
+pub ways_none : {A : Type 0} (lists : List (List Connector)) (near far : ℕ) (make : Way → A) (old : List A) → ((w : Way) → IsWayOf lists near far false w → ⊥) → AddsWays lists near far false make old old
+ways_none lists near far make old none = record { ways = []; exactly = exactly_none (IsWayOf lists near far false) none; added = sym (append-nil old) }
+
+-- two lists whose last connectors match add their joined ways
+pub joined_ways_added : {A : Type 0} (positions : List (List Disjunct)) (lists : List (List Connector)) (near far : ℕ) (e f : End) (make : Way → A) (old new : List A)
+    → AreListsOf positions lists → (ie : IsEndOf lists near e) (if' : IsEndOf lists far f) → Match ie.last if'.last → new ≡ old ++ map make (joined_ways e f) → AddsWays lists near far false make old new
+joined_ways_added positions lists near far e f make old new are ie if' m added = record { ways = joined_ways e f; exactly = joined_are positions lists near far e f are ie if' m; added = added }
 
 way_cases : (positions : List (List Disjunct)) (lists : List (List Connector)) (near far : ℕ) (w : Way) (o : Option Joint) → w.joint ≡ o → AreListsOf positions lists → near ≤ length lists → far ≤ length lists → IsWayOf lists near far true w
     → (◌≡◌ {A = Way} (record { joint = None; near = near; far = far }) w) ⊎ IsWayOf lists near far false w
@@ -213,10 +218,22 @@ with_plain positions lists near far more are ln lf x =
     (exactly_append (plain ∷ []) more (λ w. plain ≡ w) (IsWayOf lists near far false) (exactly_one plain) x
     (λ w e is. let o = some_of w.joint (is.joined refl) in let s = ap (λ z. z.joint) e ∙ o.1 in absurd cc))
 
+-- the way of two lists as they are, where it is one
+abbrev pub plain_ways : Bool → ℕ → ℕ → List Way
+plain_ways may near far = cond may (record { joint = None; near = near; far = far } ∷ []) []
+
+pub plain_added : {A : Type 0} (may b : Bool) (near far : ℕ) (make : Way → A) (old out : List A) → may ≡ b → out ≡ old ++ map make (plain_ways b near far) → out ≡ old ++ map make (plain_ways may near far)
+plain_added may b near far make old out e h = subst (λ z. out ≡ old ++ map make (plain_ways z near far)) (sym e) h
+
 -- the ways on of two lists, from those with a joint
-pub ways_are : (positions : List (List Disjunct)) (lists : List (List Connector)) (near far : ℕ) (start ways : List Way) (may : Bool) → AreListsOf positions lists → near ≤ length lists → far ≤ length lists
-    → start ≡ cond may (record { joint = None; near = near; far = far } ∷ []) [] → AddsExactly start ways (IsWayOf lists near far false) → AreExactly ways (IsWayOf lists near far may)
-ways_are positions lists near far start ways true are ln lf s x =
-    subst (λ z. AreExactly z (IsWayOf lists near far true)) (sym (x.added ∙ ap (λ z. z ++ x.more) s)) (with_plain positions lists near far x.more are ln lf x.exactly)
-ways_are positions lists near far start ways false are ln lf s x =
-    subst (λ z. AreExactly z (IsWayOf lists near far false)) (sym (x.added ∙ ap (λ z. z ++ x.more) s)) x.exactly
+pub ways_added : {A : Type 0} (positions : List (List Disjunct)) (lists : List (List Connector)) (near far : ℕ) (make : Way → A) (old start new : List A) (may : Bool) → AreListsOf positions lists → near ≤ length lists → far ≤ length lists
+    → start ≡ old ++ map make (plain_ways may near far) → AddsWays lists near far false make start new → AddsWays lists near far may make old new
+ways_added positions lists near far make old start new true are ln lf s x =
+    let plain : Way = record { joint = None; near = near; far = far } in
+    record {
+      ways = plain ∷ x.ways;
+      exactly = with_plain positions lists near far x.ways are ln lf x.exactly;
+      added = x.added ∙ ap (λ z. z ++ map make x.ways) s ∙ append_assoc old (make plain ∷ []) (map make x.ways);
+    }
+ways_added positions lists near far make old start new false are ln lf s x =
+    record { ways = x.ways; exactly = x.exactly; added = x.added ∙ ap (λ z. z ++ map make x.ways) (s ∙ append-nil old) }

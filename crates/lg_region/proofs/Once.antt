@@ -153,10 +153,6 @@ pub on_ok : {T E : Type 0} (r : Result T E) {P Q : Type 0} → OnOk r P → (P �
 on_ok (Ok x) p f = f p
 on_ok (Err e) p f = tt
 
--- what a list begins with where a test is known
-pub started : {X : Type 0} {xs : List X} (may b : Bool) (x : X) → may ≡ b → xs ≡ cond b (x ∷ []) [] → xs ≡ cond may (x ∷ []) []
-started {X} {xs} may b x e h = rw e h
-
 pub if_ok : {T E : Type 0} (r : Result T E) {P Q : T → Type 0} → IfOk r P → ((x : T) → P x → Q x) → IfOk r Q
 if_ok (Ok x) p f = f x p
 if_ok (Err e) p f = tt

@@ -62,5 +62,11 @@ pub record IsWayOf (lists : List (List Connector)) (near far : ℕ) (apart : Boo
   pub cut : IsCutAt w.joint (list_of lists near) (list_of lists far) (list_of lists w.near) (list_of lists w.far)
   pub joined : apart ≡ false → IsSome w.joint
 
+-- what is made of the ways on of two lists, each once, is added
+pub record AddsWays {A : Type 0} (lists : List (List Connector)) (near far : ℕ) (apart : Bool) (make : Way → A) (old new : List A) : Type 0 where
+  pub ways : List Way
+  pub exactly : AreExactly ways (IsWayOf lists near far apart)
+  pub added : new ≡ old ++ map make ways
+
 abbrev pub HasWay : List (List Connector) → ℕ → ℕ → Bool → Type 0
 HasWay lists near far apart = (w : Way) × IsWayOf lists near far apart w

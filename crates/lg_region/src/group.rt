@@ -1,5 +1,5 @@
 //! The disjuncts of a word that can cut a region, by groups with the same left list.
-ghost use Rattle.std.specs.Prelude.{◌≡◌, ◌≢◌, ◌+◌, ◌<◌, ◌≤◌, ◌++◌, [], length, map, slice_index_or, IfOk, OnOk};
+ghost use Rattle.std.specs.Prelude.{◌≡◌, ◌≢◌, ◌+◌, ◌<◌, ◌≤◌, [], length, slice_index_or, IfOk};
 ghost use Rattle.lg_region.specs.Fronts.{list_of};
 ghost use Rattle.lg_region.specs.Parts.{Region};
 ghost use Rattle.lg_region.specs.Ways.{AreExactly};
@@ -8,7 +8,7 @@ ghost use Rattle.lg_region.specs.Groups.{key_behind, IsGroup, IsKnownGap, IsNext
 use crate::chains::Side;
 use crate::key::Key;
 use crate::lists::Lists;
-use crate::ways::{Way, Ways, set_ways};
+use crate::ways::{OnWay, Way, push_ways};
 use lg_base::NoMemory;
 use smallvec::SmallVec;
 use std::alloc::Global;
@@ -46,6 +46,17 @@ pub struct Group {
 pub struct Right {
     pub disjunct: u32,
     pub way: Way,
+}
+
+impl OnWay for Right {
+    ghost on = { right_of };
+
+    fn on(number: u32, way: Way) -> Right {
+        Right {
+            disjunct: number,
+            way,
+        }
+    }
 }
 
 /// Disjuncts with their ways on, of which most groups have few.
@@ -127,25 +138,18 @@ pub fn rights(
     ensures { IfOk result (λ rights. AreExactly rights.items (IsRightOf lists.entry.now gap.now group.now)) }
 {
     let mut rights = Rights::new(alloc);
-    let mut ways = Ways::new(alloc);
     let mut number = group.from;
     while number < group.to {
         let sides = lists.sides(group.word, number);
-        set_ways(lists, sides.right, gap.rlist, gap.llist != 0, &mut ways)?;
-        push_rights(number, &ways, &mut rights)?;
+        push_ways(
+            lists,
+            number,
+            sides.right,
+            gap.rlist,
+            gap.llist != 0,
+            &mut rights,
+        )?;
         number = lists.next(gap.lead.side, group.word, number);
     }
     Ok(rights)
-}
-
-fn push_rights(number: u32, ways: &[Way], rights: &mut Rights) -> Result<(), NoMemory>
-    ensures { OnOk result (rights.new.items ≡ rights.old.items ++ map (right_of number) ways.now) }
-{
-    for way in ways {
-        rights.push(Right {
-            disjunct: number,
-            way: *way,
-        })?;
-    }
-    Ok(())
 }

@@ -12,7 +12,7 @@ use crate::alternative::Alt;
 use crate::group::{Gap, Group, Right, group_at, lead_of, rights};
 use crate::key::Key;
 use crate::lists::Lists;
-use crate::ways::{Way, has_way, ways_between};
+use crate::ways::{OnWay, Way, has_way, push_ways};
 use lg_base::NoMemory;
 use smallvec::SmallVec;
 use std::alloc::Global;
@@ -34,6 +34,14 @@ pub struct Origin {
 pub struct Beginning {
     pub nulls: u32,
     pub way: Way,
+}
+
+impl OnWay for Beginning {
+    ghost on = { begins_at };
+
+    fn on(nulls: u32, way: Way) -> Beginning {
+        Beginning { nulls, way }
+    }
 }
 
 /// Groups, of which most words have few.
@@ -178,9 +186,14 @@ pub fn beginnings(
     if !found {
         return Ok(begins);
     }
-    let ways = ways_between(alloc, lists, gap.llist, group.left, gap.llist == 0)?;
-    let lefts = ways.as_slice();
-    push_beginnings(nulls, lefts, &mut begins)?;
+    push_ways(
+        lists,
+        nulls,
+        gap.llist,
+        group.left,
+        gap.llist == 0,
+        &mut begins,
+    )?;
     Ok(begins)
 }
 
@@ -191,15 +204,6 @@ fn has_room(gap: &Gap, word: u32, nulls: u32) -> bool
     ensures { IsTrue result ↔ HasRoomFor gap.now word nulls }
 {
     nulls <= gap.nulls && nulls < word - gap.left && gap.nulls - nulls < gap.right - word
-}
-
-fn push_beginnings(nulls: u32, lefts: &[Way], begins: &mut Beginnings) -> Result<(), NoMemory>
-    ensures { OnOk result (begins.new.items ≡ begins.old.items ++ map (begins_at nulls) lefts.now) }
-{
-    for way in lefts {
-        begins.push(Beginning { nulls, way: *way })?;
-    }
-    Ok(())
 }
 
 // Whether some disjunct of the group can cut the region.

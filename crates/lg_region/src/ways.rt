@@ -1,12 +1,14 @@
 //! How the lists of two ends go on behind a joint between them.
-ghost use Rattle.std.specs.Prelude.{◌≡◌, ◌≤◌, ◌++◌, ◌↔◌, false, length, map, IfOk, IsTrue, OnOk};
-ghost use Rattle.lg_region.specs.Ways.{AddsExactly, AreExactly, HasWay, IsWayOf, rest_items, rests_of, way_of, joined_ways};
+ghost use Rattle.std.specs.Prelude.{◌≡◌, ◌≤◌, ◌++◌, ◌↔◌, false, length, map, ℕ, IsTrue, OnOk};
+ghost use Rattle.lg_region.specs.Ways.{AddsWays, HasWay, rest_items, rests_of, way_of, joined_ways};
+ghost use Rattle.lg_region.specs.declared.ways.Way.{Way as SeenWay};
 
 use crate::key::Joint;
 use crate::lists::Lists;
 use lg_base::NoMemory;
 use smallvec::SmallVec;
 use std::alloc::Global;
+use std::default::MadeWith;
 
 /// The joint between the last connectors of two lists, or none, and the numbers of the lists behind it.
 #[derive(Clone, Copy, Debug, Default)]
@@ -16,8 +18,13 @@ pub struct Way {
     pub far: u32,
 }
 
-/// Ways, of which most pairs of lists have few.
-pub(crate) type Ways = SmallVec<Way, 4>;
+// What is made of a way and a number that goes with it: it is put in where the way is found, and the ways have no list of their own.
+pub(crate) trait OnWay: Copy {
+    ghost on: { ℕ → SeenWay → Self };
+
+    fn on(number: u32, way: Way) -> Self
+        ensures { result ≡ on number way };
+}
 
 /// The end of a list but the empty one: its number, its last place, the number of the list without the connector there, and of
 /// that connector its kind, its class and whether it is multi.
@@ -62,24 +69,6 @@ impl End {
     }
 }
 
-/// The ways on of two lists, each once: with a joint where their last connectors match, and, where `apart` is true, without
-/// one.
-pub(crate) fn ways_between(
-    alloc: Global,
-    lists: &Lists<'_>,
-    near: u32,
-    far: u32,
-    apart: bool,
-) -> Result<Ways, NoMemory>
-    requires near { near ≤ length lists.now.lists }
-    requires far { far ≤ length lists.now.lists }
-    ensures { IfOk result (λ ways. AreExactly ways.items (IsWayOf lists.entry.now.lists near far apart)) }
-{
-    let mut ways = Ways::new(alloc);
-    set_ways(lists, near, far, apart, &mut ways)?;
-    Ok(ways)
-}
-
 /// Whether two lists have a way on. No memory.
 pub(crate) fn has_way(lists: &Lists<'_>, near: u32, far: u32, apart: bool) -> bool
     requires near { near ≤ length lists.now.lists }
@@ -93,36 +82,44 @@ pub(crate) fn has_way(lists: &Lists<'_>, near: u32, far: u32, apart: bool) -> bo
     lists.can_join(near, far)
 }
 
-/// The same, in place of what `ways` has.
-pub(crate) fn set_ways(
+/// Adds what is made of the ways on of two lists, each once: with a joint where their last connectors match, and, where `apart` is
+/// true, without one.
+pub(crate) fn push_ways<T: OnWay + MadeWith<Global>, const N: usize>(
     lists: &Lists<'_>,
+    number: u32,
     near: u32,
     far: u32,
     apart: bool,
-    ways: &mut Ways,
+    out: &mut SmallVec<T, N>,
 ) -> Result<(), NoMemory>
     requires near { near ≤ length lists.now.lists }
     requires far { far ≤ length lists.now.lists }
-    ensures { OnOk result (AreExactly ways.new.items (IsWayOf lists.entry.now.lists near far apart)) }
+    ensures { OnOk result (AddsWays lists.entry.now.lists near far apart (T.on number) out.old.items out.new.items) }
 {
     lists.are_numbered();
-    ways.clear();
     if apart {
-        ways.push(Way {
+        let way = Way {
             joint: None,
             near,
             far,
-        })?;
+        };
+        out.push(T::on(number, way))?;
     }
-    push_joints(lists, near, far, ways)?;
+    push_joints(lists, number, near, far, out)?;
     Ok(())
 }
 
 // The ways on with a joint.
-fn push_joints(lists: &Lists<'_>, near: u32, far: u32, ways: &mut Ways) -> Result<(), NoMemory>
+fn push_joints<T: OnWay + MadeWith<Global>, const N: usize>(
+    lists: &Lists<'_>,
+    number: u32,
+    near: u32,
+    far: u32,
+    out: &mut SmallVec<T, N>,
+) -> Result<(), NoMemory>
     requires near { near ≤ length lists.now.lists }
     requires far { far ≤ length lists.now.lists }
-    ensures { OnOk result (AddsExactly ways.old.items ways.new.items (IsWayOf lists.entry.now.lists near far false)) }
+    ensures { OnOk result (AddsWays lists.entry.now.lists near far false (T.on number) out.old.items out.new.items) }
 {
     if !lists.can_join(near, far) {
         return Ok(());
@@ -133,11 +130,16 @@ fn push_joints(lists: &Lists<'_>, near: u32, far: u32, ways: &mut Ways) -> Resul
     let Some(second) = lists.end(far) else {
         return Ok(());
     };
-    push_joined(ways, &first, &second)
+    push_joined(number, &first, &second, out)
 }
 
-fn push_joined(ways: &mut Ways, near: &End, far: &End) -> Result<(), NoMemory>
-    ensures { OnOk result (ways.new.items ≡ ways.old.items ++ joined_ways near.now far.now) }
+fn push_joined<T: OnWay + MadeWith<Global>, const N: usize>(
+    number: u32,
+    near: &End,
+    far: &End,
+    out: &mut SmallVec<T, N>,
+) -> Result<(), NoMemory>
+    ensures { OnOk result (out.new.items ≡ out.old.items ++ map (T.on number) (joined_ways near.now far.now)) }
 {
     let joint = Joint {
         near: near.place,
@@ -145,20 +147,27 @@ fn push_joined(ways: &mut Ways, near: &End, far: &End) -> Result<(), NoMemory>
     };
     let rests = far.rests();
     for rest in near.rests().items() {
-        push_with(ways, joint, *rest, rests.items())?;
+        push_with(number, joint, *rest, rests.items(), out)?;
     }
     Ok(())
 }
 
-fn push_with(ways: &mut Ways, joint: Joint, near: u32, rests: &[u32]) -> Result<(), NoMemory>
-    ensures { OnOk result (ways.new.items ≡ ways.old.items ++ map (way_of joint near) rests.now) }
+fn push_with<T: OnWay + MadeWith<Global>, const N: usize>(
+    number: u32,
+    joint: Joint,
+    near: u32,
+    rests: &[u32],
+    out: &mut SmallVec<T, N>,
+) -> Result<(), NoMemory>
+    ensures { OnOk result (out.new.items ≡ out.old.items ++ map (T.on number) (map (way_of joint near) rests.now)) }
 {
     for rest in rests {
-        ways.push(Way {
+        let way = Way {
             joint: Some(joint),
             near,
             far: *rest,
-        })?;
+        };
+        out.push(T::on(number, way))?;
     }
     Ok(())
 }

@@ -1,5 +1,4 @@
-use Rattle.std.proofs.Common.{◌<◌, ◌+◌, ◌++◌, length, map, get_or, [], refl, ap, ◌∙◌, arith}
-use Rattle.lg_region.specs.Groups.{right_of}
+use Rattle.std.proofs.Common.{◌<◌, ◌+◌, length, get_or, [], refl, arith, rules}
 use Rattle.lg_region.proofs.Splitting.{led_itself, led_next, rights_all, rights_more, rights_none, rights_skip, right_known}
 use Rattle.lg_region.proofs.group.rights.Goals as goal
 
@@ -26,9 +25,9 @@ loop-number-preserved c =
     record {
       later = omega arith;
       led = led_itself numbers gap.lead group.word (number + 1) c.next-number.result next;
-      rights = rights_skip numbers gap group c.push_rights.new.rights.items (number + 1) c.next-number.result listed next
-          (rights_more numbers gap group number c.sides-sides.result _ c.loop-number.rights.items c.push_rights.new.rights.items c.set_ways.new.ways.items
-          before test listed led.same c.sides-sides.ensures refl c.in_ok-set_ways.ensures (c.in_ok-push_rights.ensures ∙ ap (λ z. c.loop-number.rights.items ++ map (right_of number) z) c.deref.ensures) c.loop-number.invariant.rights);
+      rights = rights_skip numbers gap group c.push_ways.new.out.items (number + 1) c.next-number.result listed next
+          (rights_more numbers gap group number c.sides-sides.result _ c.loop-number.rights.items c.push_ways.new.out.items c.in_ok-push_ways.ensures.ways
+          before test listed led.same c.sides-sides.ensures refl c.in_ok-push_ways.ensures.exactly c.in_ok-push_ways.ensures.added c.loop-number.invariant.rights);
     }
 
 pub loop-number-smaller : goal.loop-number-smaller
@@ -45,9 +44,9 @@ loop-number-smaller c =
 pub returns : goal.returns
 returns c = rights_all c.args.lists.now c.args.gap.now c.args.group.now c.loop-number.rights.items c.loop-number.number c.loop-number-test.false c.loop-number.invariant.rights
 
-pub set_ways-requires-clause-near : goal.set_ways-requires-clause-near
-set_ways-requires-clause-near c =
+pub push_ways-requires : goal.push_ways-requires
+push_ways-requires c =
     let a = c.loop-number-test.true in
     let b = c.requires.group.listed in
     let l : c.loop-number.number < length (get_or c.args.lists.now.positions c.args.group.now.word []) = omega arith in
-    right_known c.args.lists.now c.args.group.now.word c.loop-number.number c.sides-sides.result l c.sides-sides.ensures
+    (search rules, (right_known c.args.lists.now c.args.group.now.word c.loop-number.number c.sides-sides.result l c.sides-sides.ensures, c.requires.gap.rlist))

@@ -1,6 +1,5 @@
 use Rattle.std.proofs.Common.{◌∙◌, ◌++◌, ap, map, refl, subst, sym}
 use Rattle.lg_region.specs.Openings.{AreBeginnings, begins_at}
-use Rattle.lg_region.proofs.Once.{exactly_same}
 use Rattle.lg_region.proofs.Opened.{begin_of, begins_are, none_begin, room_of}
 use Rattle.lg_region.proofs.opening.beginnings.Goals as goal
 
@@ -26,6 +25,7 @@ returns-then-not-found c =
 pub returns : goal.returns
 returns c =
     let n = c.args.lists.now in let gap = c.args.gap.now in let g = c.args.group.now in
-    subst (λ z. AreBeginnings n gap g c.args.nulls z) (sym (c.in_ok-push_beginnings.ensures ∙ ap (λ z. z ++ map (begins_at c.args.nulls) c.as_slice-lefts.result.now) c.new-begins.ensures.items))
-    (begins_are n gap g _ c.requires.group refl c.are_numbered.ensures c.requires.gap.llist c.requires.gap.led c.as_slice-lefts.result.now c.args.nulls (exactly_same _ _ c.as_slice-lefts.ensures c.in_ok-ways.ensures)
+    let pushed = c.in_ok-push_ways.ensures in
+    subst (λ z. AreBeginnings n gap g c.args.nulls z) (sym (pushed.added ∙ ap (λ z. z ++ map (begins_at c.args.nulls) pushed.ways) c.new-begins.ensures.items))
+    (begins_are n gap g _ c.requires.group refl c.are_numbered.ensures c.requires.gap.llist c.requires.gap.led pushed.ways c.args.nulls pushed.exactly
     (c.has_right-found.ensures.0 c.if-not-found.false) (c.has_room-room.ensures.0 c.if-not-room.false))
