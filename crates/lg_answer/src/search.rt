@@ -31,6 +31,9 @@ const FEW: u32 = 2;
 // From how many disjuncts a word on average levels are searched one after another.
 const CROWDED: usize = 20;
 
+// A problem of fewer disjuncts is walked by one worker.
+const MANY_DISJUNCTS: usize = 2_000;
+
 /// The good linkages of a problem with so many unlinked words, in order. The first are looked for among fewer disjuncts.
 ///
 /// Contracts see `{ positions, nulls, position }`: the problem, how many words are unlinked, and how many linkages were given
@@ -187,6 +190,7 @@ impl Search {
         ensures { IfOk result (Begins problem) }
     {
         let mut steps = Steps::<Own>::start();
+        let workers = workers_for(&problem, workers);
         let forest = solve_at_by(rt, alloc, &problem, nulls, workers, &mut steps)?;
         let ranked = Ranked::new(alloc, problem, forest)?;
         Ok(Search { ranked, wide: None })
@@ -201,6 +205,7 @@ impl Search {
         requires workers { AreWorkers workers }
         ensures { IfOk result (Begins problem) }
     {
+        let workers = workers_for(&problem, workers);
         let forest = solve(rt, alloc, &problem, workers, &mut Steps::<Own>::start())?;
         let ranked = Ranked::new(alloc, problem, forest)?;
         Ok(Search { ranked, wide: None })
@@ -371,6 +376,7 @@ fn level_of<R: Threads + Sync>(
         return Ok(None);
     }
     let mut steps = Steps::<Own>::start();
+    let workers = workers_for(&sharp, workers);
     let forest = solve_at_by(rt, alloc, &sharp, nulls, workers, &mut steps)?;
     if !has_few(&forest, nulls) {
         return Ok(None);
@@ -382,12 +388,28 @@ fn level_of<R: Threads + Sync>(
 // Whether a search of one level after another is faster than a pass for the least number of unlinked words. It remembers how regions
 // begin, which tells where words have many disjuncts.
 fn is_crowded(problem: &Problem) -> bool {
-    let positions = problem.positions();
+    count_of(problem) / CROWDED > problem.positions().len()
+}
+
+// How many workers walk a problem: one alone takes half the time that several take, as far as was measured, and that is below so many
+// disjuncts.
+fn workers_for(problem: &Problem, workers: u32) -> u32
+    requires { AreWorkers workers }
+    ensures { AreWorkers result }
+{
+    if count_of(problem) < MANY_DISJUNCTS {
+        1
+    } else {
+        workers
+    }
+}
+
+fn count_of(problem: &Problem) -> usize {
     let mut count: usize = 0;
-    for position in positions {
+    for position in problem.positions() {
         count = count.saturating_add(position.items().len());
     }
-    count / CROWDED > positions.len()
+    count
 }
 
 fn words_of(problem: &Problem) -> u32
