@@ -1,10 +1,9 @@
 -- What is in a set of keys, by its rows.
-use Rattle.std.proofs.Common.{◌≡◌, ◌≢◌, ◌↔◌, ℕ, zero, suc, ◌+◌, ◌*◌, ◌/◌, ◌%◌, ◌^◌, ◌<◌, ◌≤◌, ◌==◌, ◌⊎◌, inl, inr, Bool, true≢false, if◌then◌else◌, IsTrue, List, [], ◌∷◌, length, map, Some, bit_or, refl, sym, ap, ◌∙◌, subst, Contains, arith, rules, length-append}
-use Rattle.std.proofs.lemmas.Bool.{cases_Bool, cases_eq}
+use Rattle.std.proofs.Common.{◌≡◌, ◌≢◌, ◌↔◌, ℕ, zero, suc, ◌+◌, ◌*◌, ◌^◌, ◌<◌, ◌≤◌, ◌==◌, ◌⊎◌, inl, inr, Bool, if◌then◌else◌, IsTrue, List, [], ◌∷◌, length, map, Some, bit_or, refl, sym, ap, ◌∙◌, subst, Contains, arith, length-append}
+use Rattle.std.proofs.lemmas.Bool.{cases_eq}
 use Rattle.std.proofs.lemmas.List.{length-map}
 use Rattle.std.proofs.lemmas.Nat.Bits.{bit_at-zero}
 use Rattle.std.proofs.lemmas.Option.{same_Some, slice_get_within}
-use Rattle.std.specs.Bool.{Decides}
 use Rattle.std.specs.List.{slice_get}
 use Rattle.std.proofs.lemmas.List.Elements.{Contains-append_cases, Contains-append_left}
 use Rattle.std.specs.Map.{keys_of}
@@ -12,46 +11,9 @@ use Rattle.lg_base.specs.Bits.{bit_at}
 use Rattle.lg_base.proofs.Bits.{bit_other, bit_same, bit_stays}
 use Rattle.lg_region.proofs.Once.{once_append}
 use Rattle.lg_region.specs.Fronts.{AreOnce}
-use Rattle.lg_region.specs.Keys.{IsValidKey}
-use Rattle.lg_gram.specs.Connectors.{Connector}
-use Rattle.lg_gram.specs.declared.disjunct.Disjunct.{Disjunct}
-use Rattle.lg_region.specs.declared.key.Key.{Key}
-use Rattle.lg_region.specs.declared.key.Key.TheVariants.{Whole, Region as Between}
-use Rattle.lg_forest.specs.KeySets.{IsSmall, all_keys, key_at, keys_of_row, place_of, places, row_of}
+use Rattle.lg_forest.specs.KeySets.{AreRows, all_keys, keys_of_row, places}
 use Rattle.lg_forest.specs.Slots.{HasBits, SetsBit}
-use Rattle.lg_forest.specs.declared.key_set.Row.{Row}
-use Rattle.lg_forest.specs.declared.key_set.Row.TheVariants as row
-use Rattle.lg_forest.specs.contracts.key_set.RowPartialEq.TheImpl.{eq-value}
 use Rattle.lg_forest.proofs.Once.{contains_cases, contains_here, contains_later, contains_map, contains_none, in_append_right, map_found, once_cons, once_head, once_none, once_tail, place_of as place_in}
-
--- a key that may be asked for has room in a row
-pub valid_small : (positions : List (List Disjunct)) (lists : List (List Connector)) (k : Key) → length positions ≤ 252 → IsValidKey positions lists k → IsSmall k
-valid_small positions lists (Whole nulls) few valid = omega arith
-valid_small positions lists (Between left right llist rlist nulls) few (l, r, valid) = let ends = valid.ends in let within = valid.within in let less = valid.few in (omega arith, omega arith, omega arith)
-
--- ---- a key by its row and place
-
-key_back : (k : Key) → key_at (row_of k) (place_of k) ≡ k
-key_back (Whole nulls) = ap Whole (let e : 64 * (nulls / 64) + nulls % 64 ≡ nulls = omega arith in e)
-key_back (Between left right llist rlist nulls) =
-    let list : 16 * (llist / 16) + (llist % 16 * 4 + nulls % 4) / 4 ≡ llist = omega arith in
-    let number : 4 * (nulls / 4) + (llist % 16 * 4 + nulls % 4) % 4 ≡ nulls = omega arith in
-    (λ i. Between left right (list i) rlist (number i))
-
-row_back : (r : Row) (place : ℕ) → place < 64 → row_of (key_at r place) ≡ r
-row_back (row.Whole block) place l = ap row.Whole (let e : (64 * block + place) / 64 ≡ block = omega arith in e)
-row_back (row.Region left right nulls block rlist) place l =
-    let number : (4 * nulls + place % 4) / 4 ≡ nulls = omega arith in
-    let list : (16 * block + place / 4) / 16 ≡ block = omega arith in
-    (λ i. row.Region left right (number i) (list i) rlist)
-
-place_back : (r : Row) (place : ℕ) → place < 64 → place_of (key_at r place) ≡ place
-place_back (row.Whole block) place l = omega arith
-place_back (row.Region left right nulls block rlist) place l = omega arith
-
-place_small : (k : Key) → place_of k < 64
-place_small (Whole nulls) = omega arith
-place_small (Between left right llist rlist nulls) = omega arith
 
 -- ---- the places of a row
 
@@ -108,62 +70,77 @@ bits_some bits place one none = (let zero = ap (λ z. bit_at z place) none ∙ b
 
 -- ---- the keys of rows
 
--- a key is in the set where its bit is 1 in its row
-pub key_found : (rows : List (Row × ℕ)) (k : Key) → Contains (all_keys rows) k → (bits : ℕ) × Contains rows (row_of k, bits) × (bit_at bits (place_of k) ≡ 1)
-key_found [] k h = absurd (contains_none k h)
-key_found (r ∷ rows) k h = elim (Contains-append_cases (keys_of_row r) (all_keys rows) k h) [
-  | inl here ↦ (
+module _ {K R : Type 0} (row_of : K → R) (place_of : K → ℕ) (key_at : R → ℕ → K) (are : AreRows row_of place_of key_at) where
+  -- a key is in the set where its bit is 1 in its row
+  pub key_found : (rows : List (R × ℕ)) (k : K) → Contains (all_keys key_at rows) k → (bits : ℕ) × Contains rows (row_of k, bits) × (bit_at bits (place_of k) ≡ 1)
+  key_found [] k h = absurd (contains_none k h)
+  key_found (r ∷ rows) k h = elim (Contains-append_cases (keys_of_row key_at r) (all_keys key_at rows) k h) [
+    | inl here ↦ (
+        let x = map_found (key_at r.0) (places r.1 64) k here in
+        let p = place_found r.1 64 x.0 x.1 in
+        let is : row_of k ≡ r.0 = ap row_of (sym x.2) ∙ are.row_back r.0 x.0 p.0 in
+        let at : place_of k ≡ x.0 = ap place_of (sym x.2) ∙ are.place_back r.0 x.0 p.0 in
+        (r.1, subst (λ (z : R). Contains (r ∷ rows) (z, r.1)) (sym is) (contains_here r rows), subst (λ z. bit_at r.1 z ≡ 1) (sym at) p.1)
+        )
+    | inr later ↦ (let x = key_found rows k later in (x.0, contains_later r rows (row_of k, x.0) x.1, x.2))
+  ]
+
+  pub key_there : (rows : List (R × ℕ)) (k : K) (bits : ℕ) → Contains rows (row_of k, bits) → bit_at bits (place_of k) ≡ 1 → Contains (all_keys key_at rows) k
+  key_there [] k bits h one = absurd (contains_none (row_of k, bits) h)
+  key_there (r ∷ rows) k bits h one = elim (contains_cases r rows (row_of k, bits) h) [
+    | inl e ↦ Contains-append_left (keys_of_row key_at r) (all_keys key_at rows) k
+        (subst (λ (z : R × ℕ). Contains (keys_of_row key_at z) k) (sym e)
+        (subst (λ z. Contains (map (key_at (row_of k)) (places bits 64)) z) (are.key_back k) (contains_map (key_at (row_of k)) (places bits 64) (place_of k) (place_there bits 64 (place_of k) (are.within k) one))))
+    | inr later ↦ in_append_right (keys_of_row key_at r) (all_keys key_at rows) k (key_there rows k bits later one)
+  ]
+
+  pub keys_few : (rows : List (R × ℕ)) → length (all_keys key_at rows) ≤ 64 * length rows
+  keys_few [] = omega arith
+  keys_few (r ∷ rows) =
+      let long = length-append (keys_of_row key_at r) (all_keys key_at rows) in
+      let here = length-map (places r.1 64) (key_at r.0) in
+      let few = places_few r.1 64 in
+      let rest = keys_few rows in
+      omega arith
+
+  -- a key is in one row alone
+  pub keys_once : (rows : List (R × ℕ)) → AreOnce (keys_of rows) → AreOnce (all_keys key_at rows)
+  keys_once [] once = once_none
+  keys_once (r ∷ rows) once =
+      once_append (keys_of_row key_at r) (all_keys key_at rows)
+      (map_places r.0 (places r.1 64) (λ p h. (place_found r.1 64 p h).0) (places_once r.1 64))
+      (keys_once rows (once_tail r.0 (keys_of rows) once))
+      (λ k here later. (
       let x = map_found (key_at r.0) (places r.1 64) k here in
       let p = place_found r.1 64 x.0 x.1 in
-      let is : row_of k ≡ r.0 = ap row_of (sym x.2) ∙ row_back r.0 x.0 p.0 in
-      let at : place_of k ≡ x.0 = ap place_of (sym x.2) ∙ place_back r.0 x.0 p.0 in
-      (r.1, subst (λ (z : Row). Contains (r ∷ rows) (z, r.1)) (sym is) (contains_here r rows), subst (λ z. bit_at r.1 z ≡ 1) (sym at) p.1)
-      )
-  | inr later ↦ (let x = key_found rows k later in (x.0, contains_later r rows (row_of k, x.0) x.1, x.2))
-]
+      let y = key_found rows k later in
+      let is : row_of k ≡ r.0 = ap row_of (sym x.2) ∙ are.row_back r.0 x.0 p.0 in
+      once_head r.0 (keys_of rows) once (subst (λ z. Contains (keys_of rows) z) is (contains_map (λ (e : R × ℕ). e.0) rows (row_of k, y.0) y.1))
+      ))
+    where
+      map_places : (r : R) (ps : List ℕ) → ((p : ℕ) → Contains ps p → p < 64) → AreOnce ps → AreOnce (map (key_at r) ps)
+      map_places r [] small once = once_none
+      map_places r (p ∷ ps) small once = once_cons (key_at r p) (map (key_at r) ps)
+          (λ has. (
+          let x = map_found (key_at r) ps (key_at r p) has in
+          let same : x.0 ≡ p = sym (are.place_back r x.0 (small x.0 (contains_later p ps x.0 x.1))) ∙ ap place_of x.2 ∙ are.place_back r p (small p (contains_here p ps)) in
+          once_head p ps once (subst (λ z. Contains ps z) same x.1)
+          ))
+          (map_places r ps (λ q h. small q (contains_later p ps q h)) (once_tail p ps once))
 
-pub key_there : (rows : List (Row × ℕ)) (k : Key) (bits : ℕ) → Contains rows (row_of k, bits) → bit_at bits (place_of k) ≡ 1 → Contains (all_keys rows) k
-key_there [] k bits h one = absurd (contains_none (row_of k, bits) h)
-key_there (r ∷ rows) k bits h one = elim (contains_cases r rows (row_of k, bits) h) [
-  | inl e ↦ Contains-append_left (keys_of_row r) (all_keys rows) k
-      (subst (λ (z : Row × ℕ). Contains (keys_of_row z) k) (sym e)
-      (subst (λ z. Contains (map (key_at (row_of k)) (places bits 64)) z) (key_back k) (contains_map (key_at (row_of k)) (places bits 64) (place_of k) (place_there bits 64 (place_of k) (place_small k) one))))
-  | inr later ↦ in_append_right (keys_of_row r) (all_keys rows) k (key_there rows k bits later one)
-]
-
-pub keys_few : (rows : List (Row × ℕ)) → length (all_keys rows) ≤ 64 * length rows
-keys_few [] = omega arith
-keys_few (r ∷ rows) =
-    let long = length-append (keys_of_row r) (all_keys rows) in
-    let here = length-map (places r.1 64) (key_at r.0) in
-    let few = places_few r.1 64 in
-    let rest = keys_few rows in
-    omega arith
-
--- a key is in one row alone
-pub keys_once : (rows : List (Row × ℕ)) → AreOnce (keys_of rows) → AreOnce (all_keys rows)
-keys_once [] once = once_none
-keys_once (r ∷ rows) once =
-    once_append (keys_of_row r) (all_keys rows)
-    (map_places r.0 (places r.1 64) (λ p h. (place_found r.1 64 p h).0) (places_once r.1 64))
-    (keys_once rows (once_tail r.0 (keys_of rows) once))
-    (λ k here later. (
-    let x = map_found (key_at r.0) (places r.1 64) k here in
-    let p = place_found r.1 64 x.0 x.1 in
-    let y = key_found rows k later in
-    let is : row_of k ≡ r.0 = ap row_of (sym x.2) ∙ row_back r.0 x.0 p.0 in
-    once_head r.0 (keys_of rows) once (subst (λ z. Contains (keys_of rows) z) is (contains_map (λ (e : Row × ℕ). e.0) rows (row_of k, y.0) y.1))
-    ))
-  where
-    map_places : (r : Row) (ps : List ℕ) → ((p : ℕ) → Contains ps p → p < 64) → AreOnce ps → AreOnce (map (key_at r) ps)
-    map_places r [] small once = once_none
-    map_places r (p ∷ ps) small once = once_cons (key_at r p) (map (key_at r) ps)
-        (λ has. (
-        let x = map_found (key_at r) ps (key_at r p) has in
-        let same : x.0 ≡ p = sym (place_back r x.0 (small x.0 (contains_later p ps x.0 x.1))) ∙ ap place_of x.2 ∙ place_back r p (small p (contains_here p ps)) in
-        once_head p ps once (subst (λ z. Contains ps z) same x.1)
-        ))
-        (map_places r ps (λ q h. small q (contains_later p ps q h)) (once_tail p ps once))
+  -- the bit tells whether the key is there
+  pub has_key : (rows : List (R × ℕ)) (k : K) (r : R) (place bits : ℕ) (set : Bool) → HasBits rows r bits → r ≡ row_of k → place ≡ place_of k → (IsTrue set ↔ (bit_at bits place ≡ 1)) → IsTrue set ↔ Contains (all_keys key_at rows) k
+  has_key rows k r place bits set had row at is = (
+    (λ t. (
+        let one : bit_at bits (place_of k) ≡ 1 = ap (bit_at bits) (sym at) ∙ is.0 t in
+        key_there rows k bits (subst (λ z. Contains rows (z, bits)) row (had.there (bits_some bits (place_of k) one))) one
+        )),
+    (λ h. (
+        let x = key_found rows k h in
+        let b = had.only x.0 (subst (λ z. Contains rows (z, x.0)) (sym row) x.1) in
+        is.1 (ap (bit_at bits) at ∙ ap (λ z. bit_at z (place_of k)) (sym b) ∙ x.2)
+        )),
+  )
 
 -- ---- how many there are
 
@@ -210,68 +187,53 @@ one_longer old new x once once' fresh is =
 
 -- ---- one bit more
 
--- whether two rows are the same
-cases_row : (r s : Row) → (r ≡ s) ⊎ (r ≢ s)
-cases_row r s = elim (cases_Bool (eq-value.it r s)) [ inl t ↦ inl ((rows_same r s).0 t) | inr f ↦ inr (λ e. true≢false (sym ((rows_same r s).1 e) ∙ f)) ]
-  where
-    rows_same : (x y : Row) → Decides (eq-value.it x y) (x ≡ y)
-    rows_same x y = search rules
-
 -- a row is put in with one bit more
-module _ (old new : List (Row × ℕ)) (key : Key) (sets : SetsBit old (row_of key) (place_of key) new) where
+module _ {K R : Type 0} (row_of : K → R) (place_of : K → ℕ) (key_at : R → ℕ → K) (are : AreRows row_of place_of key_at) (old new : List (R × ℕ)) (key : K) (sets : SetsBit old (row_of key) (place_of key) new) where
   abbrev bits' : ℕ
   bits' = bit_or sets.bits (2 ^ place_of key)
 
-  back : (k : Key) → row_of k ≡ row_of key → place_of k ≡ place_of key → k ≡ key
-  back k r p = sym (key_back k) ∙ (λ i. key_at (r i) (p i)) ∙ key_back key
+  back : (k : K) → row_of k ≡ row_of key → place_of k ≡ place_of key → k ≡ key
+  back k r p = sym (are.key_back k) ∙ (λ i. key_at (r i) (p i)) ∙ are.key_back key
 
   -- a bit that is 1 now was it before, or is the new one
-  was_set : (k : Key) → bit_at bits' (place_of k) ≡ 1 → (bit_at sets.bits (place_of k) ≡ 1) ⊎ (place_of k ≡ place_of key)
+  was_set : (k : K) → bit_at bits' (place_of k) ≡ 1 → (bit_at sets.bits (place_of k) ≡ 1) ⊎ (place_of k ≡ place_of key)
   was_set k one = elim (cases_eq (place_of k) (place_of key)) [
     | inl t ↦ inr t
     | inr f ↦ inl (sym (bit_other sets.bits (place_of key) (place_of k) f) ∙ one)
   ]
 
-  still_set : (k : Key) → bit_at sets.bits (place_of k) ≡ 1 → bit_at bits' (place_of k) ≡ 1
+  still_set : (k : K) → bit_at sets.bits (place_of k) ≡ 1 → bit_at bits' (place_of k) ≡ 1
   still_set k one = bit_stays sets.bits (place_of key) (place_of k) one
 
-  pub put_key : (k : Key) → Contains (all_keys new) k ↔ (Contains (all_keys old) k ⊎ (k ≡ key))
+  pub put_key : (k : K) → Contains (all_keys key_at new) k ↔ (Contains (all_keys key_at old) k ⊎ (k ≡ key))
   put_key k = (
     λ h. (
-        let x = key_found new k h in
+        let x = key_found row_of place_of key_at are new k h in
         elim (sets.put (row_of k) x.0 x.1) [
-          | inl was ↦ inl (key_there old k x.0 was x.2)
+          | inl was ↦ inl (key_there row_of place_of key_at are old k x.0 was x.2)
           | inr now ↦ elim (was_set k (ap (λ z. bit_at z (place_of k)) (sym now.1) ∙ x.2)) [
-            | inl set ↦ inl (key_there old k sets.bits (subst (λ z. Contains old (z, sets.bits)) (sym now.0) (sets.had.there (bits_some sets.bits (place_of k) set))) set)
+            | inl set ↦ inl (key_there row_of place_of key_at are old k sets.bits (subst (λ z. Contains old (z, sets.bits)) (sym now.0) (sets.had.there (bits_some sets.bits (place_of k) set))) set)
             | inr same ↦ inr (back k now.0 same)
           ]
         ]
         ),
     λ h. elim h [
       | inl was ↦ (
-          let x = key_found old k was in
-          elim (cases_row (row_of k) (row_of key)) [
+          let x = key_found row_of place_of key_at are old k was in
+          elim (are.same (row_of k) (row_of key)) [
             | inl same ↦ (
                 let b = sets.had.only x.0 (subst (λ z. Contains old (z, x.0)) same x.1) in
-                key_there new k bits' (subst (λ z. Contains new (z, bits')) (sym same) sets.there) (still_set k (ap (λ z. bit_at z (place_of k)) (sym b) ∙ x.2))
+                key_there row_of place_of key_at are new k bits' (subst (λ z. Contains new (z, bits')) (sym same) sets.there) (still_set k (ap (λ z. bit_at z (place_of k)) (sym b) ∙ x.2))
                 )
-            | inr other ↦ key_there new k x.0 (sets.kept (row_of k) x.0 other x.1) x.2
+            | inr other ↦ key_there row_of place_of key_at are new k x.0 (sets.kept (row_of k) x.0 other x.1) x.2
           ]
           )
-      | inr e ↦ subst (λ z. Contains (all_keys new) z) (sym e) (key_there new key bits' sets.there (bit_same sets.bits (place_of key)))
+      | inr e ↦ subst (λ z. Contains (all_keys key_at new) z) (sym e) (key_there row_of place_of key_at are new key bits' sets.there (bit_same sets.bits (place_of key)))
     ],
   )
 
--- the bit tells whether the key is there
-pub has_key : (rows : List (Row × ℕ)) (k : Key) (r : Row) (place bits : ℕ) (set : Bool) → HasBits rows r bits → r ≡ row_of k → place ≡ place_of k → (IsTrue set ↔ (bit_at bits place ≡ 1)) → IsTrue set ↔ Contains (all_keys rows) k
-has_key rows k r place bits set had row at is = (
-  (λ t. (
-      let one : bit_at bits (place_of k) ≡ 1 = ap (bit_at bits) (sym at) ∙ is.0 t in
-      key_there rows k bits (subst (λ z. Contains rows (z, bits)) row (had.there (bits_some bits (place_of k) one))) one
-      )),
-  (λ h. (
-      let x = key_found rows k h in
-      let b = had.only x.0 (subst (λ z. Contains rows (z, x.0)) (sym row) x.1) in
-      is.1 (ap (bit_at bits) at ∙ ap (λ z. bit_at z (place_of k)) (sym b) ∙ x.2)
-      )),
-)
+-- the same of a row and a place that are those of the key
+pub put_in : {K R : Type 0} (row_of : K → R) (place_of : K → ℕ) (key_at : R → ℕ → K) → AreRows row_of place_of key_at → (old new : List (R × ℕ)) (key : K) (r : R) (place : ℕ) → r ≡ row_of key → place ≡ place_of key → SetsBit old r place new
+    → (k : K) → Contains (all_keys key_at new) k ↔ (Contains (all_keys key_at old) k ⊎ (k ≡ key))
+put_in row_of place_of key_at are old new key r place row at sets =
+    put_key row_of place_of key_at are old new key (subst (λ z. SetsBit old (row_of key) z new) at (subst (λ z. SetsBit old z place new) row sets))

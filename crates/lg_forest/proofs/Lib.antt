@@ -20,6 +20,7 @@ pub mod Shutting
 pub mod Ending
 pub mod Slotting
 pub mod KeySets
+pub mod KeyRows
 pub mod Entering
 pub mod Running
 pub mod Starting

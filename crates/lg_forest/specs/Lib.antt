@@ -7,6 +7,7 @@ pub mod Halves
 pub mod Runs
 pub mod Ends
 pub mod KeySets
+pub mod KeyRows
 pub mod Entries
 pub mod Slots
 pub mod Spread

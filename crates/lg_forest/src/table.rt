@@ -6,9 +6,9 @@ ghost use Rattle.lg_region.specs.Fronts.{AreOnce};
 ghost use Rattle.lg_region.specs.declared.alternative.Alt.{Alt};
 ghost use Rattle.lg_region.specs.declared.key.Key.{Key};
 ghost use Rattle.lg_forest.specs.Entries.{IsEntered};
-ghost use Rattle.lg_forest.specs.KeySets.{IsSmall};
+ghost use Rattle.lg_forest.specs.KeyRows.{IsSmall};
 
-use crate::key_set::KeySet;
+use crate::key_set::{KeySet, Row};
 use crate::slots::Slots;
 use lg_base::NoMemory;
 use lg_region::{Alts, Key};
@@ -21,7 +21,7 @@ use std::marker::Model;
 #[derive(Drop)]
 pub(crate) struct Table {
     live: Slots<Key, Alts>,
-    dead: KeySet,
+    dead: KeySet<Row>,
 }
 
 impl Model for Table {

@@ -33,7 +33,7 @@ use Rattle.lg_region.proofs.Once.{exactly_same}
 use Rattle.lg_forest.proofs.Once.{contains_at, contains_map}
 use Rattle.lg_forest.proofs.search.Search.+search.Goals as goal
 use Rattle.lg_forest.proofs.search.Search.+search.Goals.{explore_rights-then-branch+in_ok-push, explore_rights-else-branch, open_group-then-branch+in_ok-push, open_group-else-branch, open-in-Some, open-in-None}
-use Rattle.lg_forest.proofs.KeySets.{valid_small}
+use Rattle.lg_forest.proofs.KeyRows.{valid_small}
 use Rattle.lg_forest.proofs.Opening.{no_beginning, no_group, none_starts, opening_kept, opening_new, opening_some, start_there, same_begins, same_groups, word_opened, words_all, words_first, words_next}
 use Rattle.lg_forest.proofs.Ending.{no_right, all_asked, all_live, ended_asked, ended_live, ends_asked, ends_here, ends_known, first_asked, next_asked, right_valid}
 use Rattle.lg_forest.proofs.Levels.{LeavesFewer, fewer_apart, fewer_next, fewer_none, levels_asked, levels_live}

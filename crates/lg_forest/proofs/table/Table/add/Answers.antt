@@ -6,9 +6,6 @@ use Rattle.lg_forest.proofs.Asked.{on_ok_as}
 use Rattle.lg_forest.proofs.Entering.{dead_after, dead_entered, dead_key, live_after, live_entered, live_key, on_both}
 use Rattle.lg_forest.proofs.table.Table.add.Goals as goal
 
-pub add-requires-clause-fresh : goal.add-requires-clause-fresh
-add-requires-clause-fresh c = λ dead. c.requires.fresh (subst (λ z. Contains (keys_of z) c.args.key) c.self.view_is (dead_key c.self.inside.live c.self.inside.dead c.args.key dead))
-
 pub add-requires-else-is_empty : goal.add-requires-else-is_empty
 add-requires-else-is_empty c = λ live. c.requires.fresh (subst (λ z. Contains (keys_of z) c.args.key) c.self.view_is (live_key c.self.inside.live c.self.inside.dead c.args.key live))
 
@@ -30,8 +27,8 @@ returns-then-is_empty-clause-entered c =
     let new = c.add.new.self in
     let none = c.is_empty.ensures.0 c.if-is_empty.true in
     let fresh : Contains (keys_of (entries_of live old)) c.args.key → ⊥ = λ has. c.requires.fresh (subst (λ z. Contains (keys_of z) c.args.key) c.self.view_is has) in
-    on_both c.add.result ((k : Key) → Contains new k ↔ (Contains old k ⊎ (k ≡ c.args.key))) (length new ≡ suc (length old)) (IsEntered c.args.self.now c.args.key c.args.alts (entries_of live new))
-    (λ added longer. subst (λ z. IsEntered z c.args.key c.args.alts (entries_of live new)) c.self.view_is (dead_entered live c.args.key old new fresh added c.args.alts none longer))
+    on_both c.add.result ((k : Key) → Contains new k ↔ (Contains old k ⊎ (k ≡ c.args.key))) ((Contains old c.args.key → ⊥) → length new ≡ suc (length old)) (IsEntered c.args.self.now c.args.key c.args.alts (entries_of live new))
+    (λ added longer. subst (λ z. IsEntered z c.args.key c.args.alts (entries_of live new)) c.self.view_is (dead_entered live c.args.key old new fresh added c.args.alts none (longer (λ dead. fresh (dead_key live old c.args.key dead)))))
     c.add.ensures.added c.add.ensures.longer
 
 pub returns-else-is_empty-clause-entered : goal.returns-else-is_empty-clause-entered
