@@ -36,11 +36,11 @@ ready_after ready goes less =
     record { decided = ready.decided; table = goes.asked.is_table; known = goes.left.known; room = omega arith }
 
 -- before the search
-pub ready_first : {n : Numbering} {known : List (Key × List Alt)} {width i : ℕ} {a : Search} → KeysAreDecided n → AreKnown n known → a.table ≡ [] → a.memory.known ≡ known → a.memory.openings ≡ [] → a.memory.halves ≡ [] → HasRoom width i [] → IsReady n width a i
-ready_first {n} {known} {width} {i} {a} decided are none same empty no_halves room = record {
+pub ready_first : {n : Numbering} {known : List (Key × List Alt)} {width i : ℕ} {a : Search} → KeysAreDecided n → AreKnown n known → a.table ≡ [] → a.memory.known ≡ known → a.memory.openings ≡ [] → a.memory.halves ≡ [] → a.memory.shut ≡ [] → HasRoom width i [] → IsReady n width a i
+ready_first {n} {known} {width} {i} {a} decided are none same empty no_halves no_shut room = record {
   decided = decided;
   table = subst (IsTable n) (sym none) (record { valid = λ k h. absurd (contains_none k h); live = λ k alts h. absurd (contains_none (k, alts) h); closed = λ k m h. absurd (contains_none k h) });
-  known = memory_first n a.table a.memory known same empty no_halves are;
+  known = memory_first n a.table a.memory known same empty no_halves no_shut are;
   room = subst (λ z. HasRoom width i z) (sym none) room;
 }
 

@@ -21,6 +21,7 @@ pub mod Ending
 pub mod Slotting
 pub mod KeySets
 pub mod KeyRows
+pub mod HalfRows
 pub mod Entering
 pub mod Running
 pub mod Starting

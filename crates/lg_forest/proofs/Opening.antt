@@ -58,17 +58,18 @@ module _ (n : Numbering) (old new : Entries) (kept : (k : Key) → Contains (key
   opening_kept origin o x = record { behind = x.behind; before = x.before; level = x.level; each = x.each; live = x.live; some = x.some; apart = x.apart; asked = λ gap a k b i s e. kept k (x.asked gap a k b i s e) }
 
   pub memory_kept : (m : Memory) → IsMemory n old m → IsMemory n new m
-  memory_kept m x = record { known = x.known; opened = λ origin o has. opening_kept origin o (x.opened origin o has); ended = λ half ends has. ends_kept n old new kept half ends (x.ended half ends has) }
+  memory_kept m x = record { known = x.known; opened = λ origin o has. opening_kept origin o (x.opened origin o has); ended = λ half ends has. ends_kept n old new kept half ends (x.ended half ends has); shut = λ half has. ends_kept n old new kept half [] (x.shut half has) }
 
 pub memory_added : (n : Numbering) (es new : Entries) (k : Key) (alts : List Alt) (m : Memory) → IsEntered es k alts new → IsMemory n es m → IsMemory n new m
 memory_added n es new k alts m is x = memory_kept n es new (λ q h. keys_later es new k alts q is h) m x
 
 -- before the search
-pub memory_first : (n : Numbering) (es : Entries) (m : Memory) (known : List (Key × List Alt)) → m.known ≡ known → m.openings ≡ [] → m.halves ≡ [] → AreKnown n known → IsMemory n es m
-memory_first n es m known e f h are = record {
+pub memory_first : (n : Numbering) (es : Entries) (m : Memory) (known : List (Key × List Alt)) → m.known ≡ known → m.openings ≡ [] → m.halves ≡ [] → m.shut ≡ [] → AreKnown n known → IsMemory n es m
+memory_first n es m known e f h s are = record {
   known = subst (λ z. AreKnown n z) (sym e) are;
   opened = λ origin o has. absurd (contains_none (origin, o) (subst (λ z. Contains z (origin, o)) f has));
   ended = λ half ends has. absurd (contains_none (half, ends) (subst (λ z. Contains z (half, ends)) h has));
+  shut = λ half has. absurd (contains_none half (subst (λ z. Contains z half) s has));
 }
 
 -- ---- alternatives with the same left joint and the same left key

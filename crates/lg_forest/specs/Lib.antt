@@ -8,6 +8,7 @@ pub mod Runs
 pub mod Ends
 pub mod KeySets
 pub mod KeyRows
+pub mod HalfRows
 pub mod Entries
 pub mod Slots
 pub mod Spread

@@ -1,5 +1,5 @@
 -- How regions begin that begin alike, and what of it the search has found.
-use Rattle.std.specs.Prelude.{◌≡◌, ℕ, ◌+◌, ◌<◌, ◌≤◌, List, ◌++◌, length, Some, slice_get, IfSome}
+use Rattle.std.specs.Prelude.{◌≡◌, ℕ, ◌+◌, ◌<◌, ◌≤◌, List, [], ◌++◌, length, Some, slice_get, IfSome}
 use Rattle.std.specs.List.{Contains}
 use Rattle.std.specs.Map.{keys_of}
 use Rattle.lg_region.specs.Alike.{BeginsWith, IsAltAt, end_of}
@@ -56,11 +56,13 @@ pub record IsOpening (n : Numbering) (entries : List (Key × List Alt)) (origin 
   pub asked : (gap : Gap) (a : Alt) (k : Key) → BeginsWith n origin gap → IsAltAt n gap origin.nulls a → StandsBefore o.done a → left_key a ≡ Some k
       → Contains (keys_of entries) k
 
--- what is remembered is right: the alternatives that workers found, and each opening and the ends of each half, by the table
+-- What is remembered is right: the alternatives that workers found, and each opening and the ends of each half, by the table. Of a half that is shut no
+-- disjunct goes on.
 pub record IsMemory (n : Numbering) (entries : List (Key × List Alt)) (m : Memory) : Type 0 where
   pub known : AreKnown n m.known
   pub opened : (origin : Origin) (o : Opening) → Contains m.openings (origin, o) → IsOpening n entries origin o
   pub ended : (half : Half) (rights : List Right) → Contains m.halves (half, rights) → AreEnds n entries half rights
+  pub shut : (half : Half) → Contains m.shut half → AreEnds n entries half []
 
 -- it is still right, and some of what was known is taken out
 pub record IsLeft (n : Numbering) (entries : List (Key × List Alt)) (old new : Memory) : Type 0 where

@@ -4,6 +4,7 @@
 mod draft;
 mod fact;
 pub mod forest;
+mod half_set;
 mod halves;
 mod key_set;
 mod known;

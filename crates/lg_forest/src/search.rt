@@ -33,6 +33,7 @@ impl Search {
         ensures known { result.memory.known ≡ known }
         ensures openings { result.memory.openings ≡ [] }
         ensures halves { result.memory.halves ≡ [] }
+        ensures shut { result.memory.shut ≡ [] }
     {
         let table = Table::new(alloc);
         let memory = Memory::of(alloc, known);

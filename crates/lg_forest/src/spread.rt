@@ -2,6 +2,7 @@
 ghost use Rattle.std.specs.Prelude.{◌≡◌, ◌↔◌, ℕ, IsTrue};
 ghost use Rattle.lg_forest.specs.Spread.{mixed_of};
 
+use crate::half_set::HalfRow;
 use crate::halves::Half;
 use crate::key_set::Row;
 use lg_region::{Key, Origin};
@@ -110,6 +111,21 @@ impl Spread for Half {
     fn spread(&self) -> u64 {
         let ends = (self.word as u64) << 16 | ((self.right as u64) << 8 | self.nulls as u64);
         mixed(ends, self.rlist as u64).wrapping_add(self.from as u64)
+    }
+
+    fn is(&self, other: &Self) -> bool {
+        *self == *other
+    }
+}
+
+impl Spread for HalfRow {
+    ghost use Rattle.lg_forest.specs.Spread.{of_half_row};
+
+    ghost spread = { of_half_row };
+
+    fn spread(&self) -> u64 {
+        let ends = (self.word as u64) << 16 | ((self.right as u64) << 8 | self.nulls as u64);
+        mixed(ends, self.block as u64).wrapping_add(self.from as u64)
     }
 
     fn is(&self, other: &Self) -> bool {

@@ -38,11 +38,17 @@ impl Search {
         lists.keep_limits();
         let nulls = gap.nulls - start.begin.nulls;
         let half = Half::of(gap, &start.group, nulls);
+        if self.memory.shut.has(&half) {
+            return Ok(());
+        }
         if let Some(rights) = self.memory.halves.get(&half) {
             return push_ended(gap, &start.group, &start.begin, rights, live);
         }
         let found = self.explore_rights(lists, gap, start, nulls, steps)?;
         let rights = found.as_slice();
+        if rights.is_empty() {
+            return self.memory.shut.add(&half);
+        }
         push_ended(gap, &start.group, &start.begin, rights, live)?;
         self.memory.halves.put(half, rights)
     }

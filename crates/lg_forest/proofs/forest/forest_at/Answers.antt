@@ -10,7 +10,7 @@ visit-requires-clause-ready g c =
     let few = c.positions-positions.ensures.limits.few in
     let long = ap length c.requires.positions in
     let room = c.requires.room in
-    ready_first (c.keys_are_decided.ensures n.positions n.lists c.are_numbered.ensures) c.requires.known c.of-search.ensures.table c.of-search.ensures.known c.of-search.ensures.openings c.of-search.ensures.halves (omega arith)
+    ready_first (c.keys_are_decided.ensures n.positions n.lists c.are_numbered.ensures) c.requires.known c.of-search.ensures.table c.of-search.ensures.known c.of-search.ensures.openings c.of-search.ensures.halves c.of-search.ensures.shut (omega arith)
 
 pub returns-clause-forest : goal.returns-clause-forest
 returns-clause-forest g c =

@@ -12,7 +12,7 @@ fewest-requires-clause-ready g c =
     let few = c.positions.ensures.limits.few in
     let last = c.requires.room in
     let long = ap length c.positions.ensures.value in
-    ready_first (c.keys_are_decided.ensures n.positions n.lists (subst (λ z. AreListsOf z n.lists) (sym c.in_ok-lists.ensures.positions) c.in_ok-lists.ensures.lists)) c.in_ok-known.ensures.known c.of-search.ensures.table c.of-search.ensures.known c.of-search.ensures.openings c.of-search.ensures.halves (omega arith)
+    ready_first (c.keys_are_decided.ensures n.positions n.lists (subst (λ z. AreListsOf z n.lists) (sym c.in_ok-lists.ensures.positions) c.in_ok-lists.ensures.lists)) c.in_ok-known.ensures.known c.of-search.ensures.table c.of-search.ensures.known c.of-search.ensures.openings c.of-search.ensures.halves c.of-search.ensures.shut (omega arith)
 
 pub returns-clause-forest : goal.returns-clause-forest
 returns-clause-forest g c =

@@ -1,4 +1,5 @@
-use Rattle.std.proofs.Common.{inl, inr, refl, [], List, ◌≡◌, ◌↔◌, ◌+◌, ◌-◌, ◌<◌, ◌≤◌, ◌∙◌, true≢false, Option, subst, sym, ap, Some, IsTrue, IfOk, MatchOption, OnOk, IfSome, length, take, slice_get, get_or, Contains, map, arith, rules}
+use Rattle.std.proofs.Common.{inl, inr, refl, [], List, ◌≡◌, ◌↔◌, ◌+◌, ◌-◌, ◌<◌, ◌≤◌, ◌∙◌, true≢false, Option, subst, sym, ap, Some, IsTrue, IfOk, MatchOption, OnOk, IfSome, length, take, slice_get, get_or, Contains, map, append-nil, eqb-true, arith, rules}
+use Rattle.std.proofs.lemmas.List.{nil_from_length}
 use Rattle.std.proofs.lemmas.Option.{slice_get-get_or}
 use Rattle.lg_region.specs.Groups.{key_behind}
 use Rattle.lg_region.specs.Keys.{IsValidKey, kept}
@@ -336,6 +337,7 @@ open-loop-word-init g t c =
               | inr here ↦ subst (λ (p : Origin × Opening). IsOpening n c.args.self.now.table p.0 p.1) (λ i. (sym here.0 i, sym here.1 i)) (empty c.none-none.result c.none-none.ensures.done c.none-none.ensures.starts)
             ];
             ended = c.requires.ready.known.ended;
+            shut = c.requires.ready.known.shut;
           };
           fewer = omega arith;
         };
@@ -495,6 +497,7 @@ explore_opening-returns-clause-goes g t c =
             | inr (e, f) ↦ subst (λ z. IsOpening n c.loop-index.self.table z x) (sym e) (subst (λ z. IsOpening n c.loop-index.self.table c.origin_of-origin.result z) (sym f) opened)
           ];
           ended = goes.left.known.ended;
+          shut = goes.left.known.shut;
         };
         fewer = goes.left.fewer;
       };
@@ -605,6 +608,38 @@ explore_ending-of-half-requires-clause-nulls g t c =
     let less = c.requires.gap.is_gap.few in
     omega arith
 
+-- the search looks whether the half is shut, and is as before
+pub explore_ending-explore_rights-requires : goal.explore_ending-explore_rights-requires
+explore_ending-explore_rights-requires g t c κs within =
+    (search rules, (search rules, (ready_from refl (ap (λ z. record c.args.self.now.memory { shut = z }) c.has.ensures.same) c.requires.ready, (c.requires.gap, (c.requires.start, refl)))))
+
+-- no disjunct of a half that is shut goes on
+pub explore_ending-returns-then-has-clause-live : goal.explore_ending-returns-then-has-clause-live
+explore_ending-returns-then-has-clause-live g t c =
+    let n = c.args.lists.now in
+    let gap = c.args.gap.now in
+    let s = c.args.start.now in
+    let nulls = gap.nulls - s.begin.nulls in
+    let ends = c.alternatives_end.ensures n gap s.group s.begin c.are_numbered.ensures c.requires.gap.is_gap.known c.requires.start.group c.requires.start.some in
+    let known = c.requires.ready.known.shut c.of-half.result (c.has.ensures.value.0 c.if-has.true) in
+    let with = subst (λ z. EndsWith n z gap s.group) (sym c.of-half.ensures) (ends_here n (key_of gap) gap s.group nulls c.requires.gap.is_gap) in
+    let same : c.of-half.result.nulls ≡ nulls = ap (λ (h : Half). h.nulls) c.of-half.ensures in
+    ended_live n gap s.group s.begin (key_of gap) refl ends c.requires.left [] (subst (λ z. AreExactly [] (IsLiveRight n gap s.group z)) same (known.live gap s.group with)) c.args.live.now.items c.args.live.now.items
+    (sym (append-nil c.args.live.now.items))
+
+pub explore_ending-returns-then-has-clause-goes : goal.explore_ending-returns-then-has-clause-goes
+explore_ending-returns-then-has-clause-goes g t c =
+    let n = c.args.lists.now in
+    let gap = c.args.gap.now in
+    let s = c.args.start.now in
+    let nulls = gap.nulls - s.begin.nulls in
+    let memory = ap (λ z. record c.args.self.now.memory { shut = z }) c.has.ensures.same in
+    let known = c.requires.ready.known.shut c.of-half.result (c.has.ensures.value.0 c.if-has.true) in
+    let with = subst (λ z. EndsWith n z gap s.group) (sym c.of-half.ensures) (ends_here n (key_of gap) gap s.group nulls c.requires.gap.is_gap) in
+    let same : c.of-half.result.nulls ≡ nulls = ap (λ (h : Half). h.nulls) c.of-half.ensures in
+    goes_from refl memory
+    (goes_none (ready_from refl memory c.requires.ready) (subst (λ z. Asked n (AsksRight n gap s.group z) c.args.self.now.table c.args.self.now.table) same (ends_asked n c.args.self.now.table c.of-half.result [] gap s.group c.requires.ready.table known with)))
+
 pub explore_ending-returns-in-Some-clause-live : goal.explore_ending-returns-in-Some-clause-live
 explore_ending-returns-in-Some-clause-live g t c =
     let n = c.args.lists.now in
@@ -629,8 +664,59 @@ explore_ending-returns-in-Some-clause-goes g t c =
     let known = c.requires.ready.known.ended c.of-half.result c.in-Some.rights.now c.in-Some.ensures in
     let with = subst (λ z. EndsWith n z gap s.group) (sym c.of-half.ensures) (ends_here n (key_of gap) gap s.group nulls c.requires.gap.is_gap) in
     let same : c.of-half.result.nulls ≡ nulls = ap (λ (h : Half). h.nulls) c.of-half.ensures in
+    let memory = ap (λ z. record c.args.self.now.memory { shut = z }) c.has.ensures.same in
     part.ok_any c.push_ended.result _
-    (goes_none c.requires.ready (subst (λ z. Asked n (AsksRight n gap s.group z) c.args.self.now.table c.args.self.now.table) same (ends_asked n c.args.self.now.table c.of-half.result c.in-Some.rights.now gap s.group c.requires.ready.table known with)))
+    (goes_from refl memory
+    (goes_none (ready_from refl memory c.requires.ready) (subst (λ z. Asked n (AsksRight n gap s.group z) c.args.self.now.table c.args.self.now.table) same (ends_asked n c.args.self.now.table c.of-half.result c.in-Some.rights.now gap s.group c.requires.ready.table known with))))
+
+-- none goes on
+pub explore_ending-returns-then-is_empty-clause-live : goal.explore_ending-returns-then-is_empty-clause-live
+explore_ending-returns-then-is_empty-clause-live g t c =
+    let n = c.args.lists.now in
+    let gap = c.args.gap.now in
+    let s = c.args.start.now in
+    let ends = c.alternatives_end.ensures n gap s.group s.begin c.are_numbered.ensures c.requires.gap.is_gap.known c.requires.start.group c.requires.start.some in
+    let rights = c.as_slice-rights.result.now in
+    let none : rights ≡ [] = nil_from_length rights (eqb-true (length rights) 0 (sym c.is_empty.ensures ∙ c.if-is_empty.true)) in
+    part.ok_any c.add.result _
+    (ended_live n gap s.group s.begin (key_of gap) refl ends c.requires.left [] (subst (λ z. AreExactly z (IsLiveRight n gap s.group (gap.nulls - s.begin.nulls))) none (exactly_same _ _ c.as_slice-rights.ensures c.in_ok-found.ensures.live)) c.args.live.now.items c.args.live.now.items
+    (sym (append-nil c.args.live.now.items)))
+
+pub explore_ending-returns-then-is_empty-clause-goes : goal.explore_ending-returns-then-is_empty-clause-goes
+explore_ending-returns-then-is_empty-clause-goes g t c =
+    let n = c.args.lists.now in
+    let gap = c.args.gap.now in
+    let s = c.args.start.now in
+    let nulls = gap.nulls - s.begin.nulls in
+    let rights = c.as_slice-rights.result.now in
+    let none : rights ≡ [] = nil_from_length rights (eqb-true (length rights) 0 (sym c.is_empty.ensures ∙ c.if-is_empty.true)) in
+    let goes = goes_from refl (ap (λ z. record c.args.self.now.memory { shut = z }) c.has.ensures.same) c.in_ok-found.ensures.goes in
+    let table = c.explore_rights.new.self.table in
+    let half = c.of-half.result in
+    let with = subst (λ z. EndsWith n z gap s.group) (sym c.of-half.ensures) (ends_here n (key_of gap) gap s.group nulls c.requires.gap.is_gap) in
+    let same : half.nulls ≡ nulls = ap (λ (h : Half). h.nulls) c.of-half.ensures in
+    let new : AreEnds n table half [] = ends_known n table half gap s.group [] with
+    (subst (λ z. AreExactly [] (IsLiveRight n gap s.group z)) (sym same) (subst (λ z. AreExactly z (IsLiveRight n gap s.group nulls)) none (exactly_same _ _ c.as_slice-rights.ensures c.in_ok-found.ensures.live)))
+    (λ r of. subst (λ z. Contains (keys_of table) (key_behind gap s.group z r)) (sym same) (goes.asked.there (key_behind gap s.group nulls r) (r, of, refl))) in
+    on_ok_as c.add.result _ _
+    (λ added. record {
+      asked = goes.asked;
+      left = record {
+        known = record {
+          known = goes.left.known.known;
+          opened = goes.left.known.opened;
+          ended = goes.left.known.ended;
+          shut = λ h has. elim ((added h).0 has) [
+            | inl k ↦ goes.left.known.shut h k
+            | inr e ↦ subst (λ z. AreEnds n table z []) (sym e) new
+          ];
+        };
+        fewer = goes.left.fewer;
+      };
+      steps = goes.steps;
+      later = goes.later;
+    })
+    c.add.ensures.added
 
 pub explore_ending-returns-clause-live : goal.explore_ending-returns-clause-live
 explore_ending-returns-clause-live g t c =
@@ -650,7 +736,7 @@ explore_ending-returns-clause-goes g t c =
     let s = c.args.start.now in
     let nulls = gap.nulls - s.begin.nulls in
     let rights = c.as_slice-rights.result.now in
-    let goes = c.in_ok-found.ensures.goes in
+    let goes = goes_from refl (ap (λ z. record c.args.self.now.memory { shut = z }) c.has.ensures.same) c.in_ok-found.ensures.goes in
     let table = c.explore_rights.new.self.table in
     let half = c.of-half.result in
     let with = subst (λ z. EndsWith n z gap s.group) (sym c.of-half.ensures) (ends_here n (key_of gap) gap s.group nulls c.requires.gap.is_gap) in
@@ -669,6 +755,7 @@ explore_ending-returns-clause-goes g t c =
             | inl k ↦ goes.left.known.ended h x k
             | inr (e, f) ↦ subst (λ z. AreEnds n table z x) (sym e) (subst (λ z. AreEnds n table half z) (sym f) new)
           ];
+          shut = goes.left.known.shut;
         };
         fewer = goes.left.fewer;
       };
