@@ -137,9 +137,9 @@ pub fn expect_counts<R: Abort>(rt: &R, problem: &Problem, counts: [usize; 3]) {
 #[test]
 fn no_word_between(rt: HostRuntime) -> Result<(), Fail> {
     let alloc = rt.alloc();
-    let problem = padded_problem(alloc, "A|B", &["b", "a"])?;
+    let problem = padded_problem(alloc, "A|B", &["bA", "a"])?;
     let sharp = sharpen(alloc, problem, 0)?;
-    expect_counts(&rt, &sharp, [1, 1, 0]);
+    expect_counts(&rt, &sharp, [1, 1, 1]);
     Ok(())
 }
 
