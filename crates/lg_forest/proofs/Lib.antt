@@ -22,6 +22,8 @@ pub mod Slotting
 pub mod KeySets
 pub mod KeyRows
 pub mod HalfRows
+pub mod RightEnds
+pub mod NearKeys
 pub mod Entering
 pub mod Running
 pub mod Starting

@@ -9,6 +9,8 @@ pub mod Ends
 pub mod KeySets
 pub mod KeyRows
 pub mod HalfRows
+pub mod RightEnds
+pub mod NearKeys
 pub mod Entries
 pub mod Slots
 pub mod Spread

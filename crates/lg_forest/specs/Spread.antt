@@ -5,6 +5,7 @@ use Rattle.lg_region.specs.declared.key.Key.{Key}
 use Rattle.lg_region.specs.declared.key.Key.TheVariants.{Whole, Region}
 use Rattle.lg_region.specs.declared.opening.Origin.{Origin}
 use Rattle.lg_forest.specs.declared.halves.Half.{Half}
+use Rattle.lg_forest.specs.declared.dead.NearRow.{NearRow}
 use Rattle.lg_forest.specs.declared.half_set.HalfRow.{HalfRow}
 use Rattle.lg_forest.specs.declared.key_set.Row.{Row}
 use Rattle.lg_forest.specs.declared.key_set.Row.TheVariants as row
@@ -39,3 +40,6 @@ of_half h = from_mixed (bit_or (raised h.word 16) (bit_or (raised h.right 8) h.n
 
 abbrev pub of_half_row : HalfRow → ℕ
 of_half_row r = from_mixed (bit_or (raised r.word 16) (bit_or (raised r.right 8) r.nulls)) r.block r.from
+
+abbrev pub of_near_row : NearRow → ℕ
+of_near_row r = from_mixed r.left (bit_or (raised r.nulls 32) r.llist) r.block

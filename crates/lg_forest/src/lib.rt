@@ -1,6 +1,7 @@
 //! The packed forest of a problem.
 #![tactic(auto)]
 
+mod dead;
 mod draft;
 mod fact;
 pub mod forest;
@@ -12,6 +13,7 @@ mod law;
 mod linkages;
 mod memory;
 mod openings;
+mod right_ends;
 mod search;
 mod slots;
 pub mod spell;

@@ -2,6 +2,7 @@
 ghost use Rattle.std.specs.Prelude.{◌≡◌, ◌↔◌, ℕ, IsTrue};
 ghost use Rattle.lg_forest.specs.Spread.{mixed_of};
 
+use crate::dead::NearRow;
 use crate::half_set::HalfRow;
 use crate::halves::Half;
 use crate::key_set::Row;
@@ -126,6 +127,21 @@ impl Spread for HalfRow {
     fn spread(&self) -> u64 {
         let ends = (self.word as u64) << 16 | ((self.right as u64) << 8 | self.nulls as u64);
         mixed(ends, self.block as u64).wrapping_add(self.from as u64)
+    }
+
+    fn is(&self, other: &Self) -> bool {
+        *self == *other
+    }
+}
+
+impl Spread for NearRow {
+    ghost use Rattle.lg_forest.specs.Spread.{of_near_row};
+
+    ghost spread = { of_near_row };
+
+    fn spread(&self) -> u64 {
+        let lists = (self.nulls as u64) << 32 | self.llist as u64;
+        mixed(self.left as u64, lists).wrapping_add(self.block as u64)
     }
 
     fn is(&self, other: &Self) -> bool {

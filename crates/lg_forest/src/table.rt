@@ -8,7 +8,7 @@ ghost use Rattle.lg_region.specs.declared.key.Key.{Key};
 ghost use Rattle.lg_forest.specs.Entries.{IsEntered};
 ghost use Rattle.lg_forest.specs.KeyRows.{IsSmall};
 
-use crate::key_set::{KeySet, Row};
+use crate::dead::DeadKeys;
 use crate::slots::Slots;
 use lg_base::NoMemory;
 use lg_region::{Alts, Key};
@@ -21,7 +21,7 @@ use std::marker::Model;
 #[derive(Drop)]
 pub(crate) struct Table {
     live: Slots<Key, Alts>,
-    dead: KeySet<Row>,
+    dead: DeadKeys,
 }
 
 impl Model for Table {
@@ -44,7 +44,7 @@ impl Table {
     {
         Table {
             live: Slots::new(alloc),
-            dead: KeySet::new(alloc),
+            dead: DeadKeys::new(alloc),
         }
     }
 
