@@ -1,5 +1,5 @@
 -- The disjuncts of words with their formulas, in order and each once.
-use Rattle.std.proofs.Common.{◌≡◌, ◌⊎◌, ◌↔◌, ℕ, ◌+◌, ◌<◌, List, [], ◌∷◌, ◌++◌, length, get_or, take, Contains, All, arith, inl, inr, refl, sym, ap, ◌∙◌, subst, true, is_eq, Less, Equal, Greater}
+use Rattle.std.proofs.Common.{◌≡◌, ◌⊎◌, ◌↔◌, ℕ, ◌+◌, ◌<◌, List, [], ◌∷◌, ◌++◌, append-nil, length, get_or, take, Contains, All, arith, inl, inr, refl, sym, ap, ◌∙◌, subst, true, is_eq, Less, Equal, Greater}
 use Rattle.std.specs.declared.cmp.Ordering.{Ordering}
 use Rattle.std.specs.Cmp.Lexicographic.{slice_cmp}
 use Rattle.std.specs.Ordering.{nat_cmp, ordering_reverse, ordering_then, eq_by_cmp}
@@ -7,6 +7,7 @@ use Rattle.std.specs.List.{AllZip, dedup}
 use Rattle.std.specs.List.Sorted.{IsSorted, IsPermutation, IsStrictlySortedBy}
 use Rattle.std.proofs.lemmas.Cmp.{eq_by_cmp_equiv}
 use Rattle.std.proofs.lemmas.List.{take_more, get_or-take, get_or_default, length-take-le}
+use Rattle.std.proofs.lemmas.List.Concat.{flat_map-append}
 use Rattle.std.proofs.lemmas.List.Elements.{All-nil, All-append, All-head, All-tail, All-contains, All-contains_itself, All-weaker, recursion_from_All, Contains-append_left, Contains-append_right, Contains-append_cases}
 use Rattle.std.proofs.lemmas.List.Kept.{Any-dedup, Contains-from_dedup, IsStrictlySortedBy-dedup}
 use Rattle.std.proofs.lemmas.List.Sorted.{Contains-permutation, IsPermutation-sym}
@@ -20,6 +21,7 @@ use Rattle.lg_gram.specs.declared.disjunct.Disjunct.{Disjunct}
 use Rattle.lg_gram.proofs.Exact.{Less≢Equal}
 use Rattle.lg_gram.proofs.Orders.{disjuncts_total}
 use Rattle.lg_pp.proofs.Rising.{rise_append}
+use Rattle.lg_disj.specs.Outlines.{Outlined, all_in, disjuncts_in}
 use Rattle.lg_disj.specs.Exist.{HasNames, ExpressionsHaveDisjuncts}
 use Rattle.lg_eprune.specs.Live.{WordTree}
 use Rattle.lg_answer.specs.Steps.{AreNamed, IsOfTrees, AreApart, AreToldApart, AreListedOf, AreExpanded, AreMade, word_cmp}
@@ -94,6 +96,10 @@ one_more all i w done es within read one fit before = record {
   listed = listed_step all i w done es within read one fit before.listed;
   rise = λ up. listed_rise all i w done es within read one before.listed up (before.rise up);
 }
+
+-- the disjuncts of one word more
+pub all_in_more : (os : List Outlined) (o : Outlined) → all_in (os ++ o ∷ []) ≡ all_in os ++ disjuncts_in o
+all_in_more os o = flat_map-append disjuncts_in os (o ∷ []) ∙ ap (λ z. all_in os ++ z) (append-nil (disjuncts_in o))
 
 -- ---- in order
 

@@ -32,7 +32,8 @@ use Rattle.lg_answer.proofs.Lists.{zip_each}
 use Rattle.lg_answer.proofs.Made.{are_expanded, expanded_none, listed_none, one_in_rising}
 use Rattle.lg_answer.proofs.Narrowed.{inside, are_of}
 use Rattle.lg_answer.specs.Steps.{AreExpanded, AreListedOf, AreMade, IsOfTrees, IsWithin}
-use Rattle.lg_answer.specs.Wide.{KeepsFew, all_disjuncts}
+use Rattle.lg_sharpen.specs.Sharp.{IsSharpened}
+use Rattle.lg_answer.specs.Wide.{IsAsGood, KeepsFew, all_disjuncts}
 
 -- ---- what is left of the words of a position
 
@@ -353,6 +354,13 @@ made_keeps_linkages words nulls positions made =
       );
     }
 
+-- and so it is as good
+pub made_as_good : (words : List (List WordTree)) (positions : List (List Disjunct)) → AllZip AreMade words positions → IsAsGood (all_disjuncts words) positions
+made_as_good words positions made = record {
+  same_length = (made_keeps_linkages words 0 positions made).same_length;
+  keeps = λ g. (made_keeps_linkages words (unlinked g) positions made).same g (omega arith);
+}
+
 -- ---- the problem of what is within reach
 
 made_listed : (ws : List (List WordTree)) (ds : List (List Disjunct)) → AllZip AreMade ws ds → AllZip AreListedOf ws ds
@@ -371,3 +379,10 @@ near_problem near positions few made few_disjuncts =
 pub within_made : (live near : List (List WordTree)) (nulls : ℕ) → HaveFewer live near → ((g : Linkage) → IsLinkageOf live g → unlinked g ≤ nulls → HaveUsed g live near)
     → (positions : List (List Disjunct)) → AllZip AreMade near positions → IsProblem positions → IsWithin live nulls positions
 within_made live near nulls fewer used positions made limits = record { kept = near; fewer = fewer; used = used; listed = made_listed near positions made; limits = limits }
+
+-- and so is a sharper one
+pub sharpened_keeps : (positions left sharp : List (List Disjunct)) (nulls : ℕ) → KeepsFew positions nulls left → IsSharpened left nulls sharp → KeepsFew positions nulls sharp
+sharpened_keeps positions left sharp nulls keeps sharpened = record {
+  same_length = sharpened.same_length ∙ keeps.same_length;
+  same = λ g few. (λ good. (sharpened.same g few).0 ((keeps.same g few).0 good), λ good. (keeps.same g few).1 ((sharpened.same g few).1 good));
+}

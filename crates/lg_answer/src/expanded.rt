@@ -1,17 +1,19 @@
 //! The disjuncts of the words of each position.
-ghost use Rattle.std.specs.Prelude.{◌≡◌, ◌↔◌, All, IfOk, IsTrue};
+ghost use Rattle.std.specs.Prelude.{◌≡◌, ◌↔◌, All, IfOk, IsTrue, map};
 ghost use Rattle.std.specs.List.{AllZip, Contains};
 ghost use Rattle.std.specs.List.Sorted.{IsStrictlySortedBy};
 ghost use Rattle.std.specs.declared.cmp.Ordering.TheVariants.{Less};
+ghost use Rattle.lg_disj.specs.Outlines.{all_in, disjuncts_in};
 ghost use Rattle.lg_gram.specs.Disjuncts.{disjunct_cmp, AreDisjuncts};
 ghost use Rattle.lg_gram.specs.Problems.{FitsProblem};
 ghost use Rattle.lg_gram.specs.declared.disjunct.Disjunct.{Disjunct as Seen};
 ghost use Rattle.lg_answer.specs.Steps.{AreApart, AreToldApart, AreListedOf, AreMade, word_cmp};
 
 use lg_base::NoMemory;
-use lg_disj::expand;
+use lg_disj::{Outline, expand, outlined};
 use lg_eprune::{WordExpr, WordExprs};
 use lg_gram::{Disjunct, Disjuncts, Positions};
+use lg_member::Outlines;
 use std::alloc::Global;
 use std::cmp::Ordering;
 
@@ -27,17 +29,35 @@ pub(crate) fn expanded(alloc: Global, positions: &[WordExprs]) -> Result<Positio
     Ok(Positions::of(all))
 }
 
-/// The disjuncts of the words of each position, those of one word after those of another: the words increase, and so do they. The only
-/// error is running out of memory.
-pub(crate) fn spelled(alloc: Global, positions: &[WordExprs]) -> Result<Positions, NoMemory>
+/// The disjuncts of the words of each position in outline, those of one word after those of another: the words increase, and so do they.
+/// The only error is running out of memory.
+pub(crate) fn in_outline(alloc: Global, positions: &[WordExprs]) -> Result<Vec<Outlines>, NoMemory>
     requires { All (IsStrictlySortedBy word_cmp) positions.now }
-    ensures { IfOk result (AllZip AreMade positions.now) }
+    ensures { IfOk result (λ all. AllZip AreMade positions.now (map all_in all.items)) }
 {
     let mut all = Vec::with_capacity(alloc, positions.len())?;
     for words in positions {
-        all.push(Disjuncts::of(listed(alloc, words.items())?))?;
+        all.push(outlines_of(alloc, words.items())?)?;
     }
-    Ok(Positions::of(all))
+    Ok(all)
+}
+
+fn outlines_of(alloc: Global, words: &[WordExpr]) -> Result<Outlines, NoMemory>
+    requires { IsStrictlySortedBy word_cmp words.now }
+    ensures { IfOk result (λ outlines. AreMade words.now (all_in outlines)) }
+{
+    let mut outlines = Vec::with_capacity(alloc, words.len())?;
+    for word in words {
+        outlines.push(outline_of_word(alloc, word)?)?;
+    }
+    Ok(Outlines::of(outlines))
+}
+
+fn outline_of_word(alloc: Global, word: &WordExpr) -> Result<Outline, NoMemory>
+    ensures are { IfOk result (λ o. AreDisjuncts word.now.word word.now.tree (disjuncts_in o)) }
+    ensures fit { IfOk result (λ o. All FitsProblem (disjuncts_in o)) }
+{
+    outlined(alloc, &word.word, &word.formula)
 }
 
 /// Whether the words of each position increase by their bytes.

@@ -19,7 +19,7 @@ use lg_forest::{Forest, solve, solve_at, solve_at_by};
 use lg_gram::{Linkage, Problem};
 use lg_rank::Ranked;
 use lg_region::Key;
-use lg_sharpen::{sharpen, sharpened};
+use lg_sharpen::sharpened;
 use std::alloc::Global;
 use std::marker::Model;
 use std::thread::Threads;
@@ -132,9 +132,7 @@ impl Search {
         requires ready { IsReady wide }
         ensures { IfOk result (Begins (problem_of wide)) }
     {
-        let problem = wide.into_problem(alloc)?;
-        let words = words_of(&problem);
-        let sharp = sharpen(alloc, problem, words)?;
+        let sharp = wide.into_sharp(alloc)?;
         let search = Search::of_sharp(rt, alloc, sharp, workers)?;
         Ok(search)
     }
@@ -410,12 +408,6 @@ fn count_of(problem: &Problem) -> usize {
         count = count.saturating_add(position.items().len());
     }
     count
-}
-
-fn words_of(problem: &Problem) -> u32
-    ensures { result ≡ length problem.now }
-{
-    problem.positions().len() as u32
 }
 
 // Whether the sentence has a linkage in its forest, with at most so many unlinked words.

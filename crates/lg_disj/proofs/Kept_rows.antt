@@ -17,6 +17,7 @@ use Rattle.std.proofs.lemmas.List.Elements.{All-map, All-head, All-tail}
 use Rattle.lg_gram.specs.Connectors.{Connector, connector_cmp, ConnectorsToldApart}
 use Rattle.lg_gram.specs.Measures.{Choice}
 use Rattle.lg_disj.specs.declared.arena.Row.{Row}
+use Rattle.lg_disj.specs.declared.numbers.Numbered.{Numbered}
 use Rattle.lg_disj.specs.Choices.{lists_cmp, choice_cmp, IsSided, IsCheapest}
 use Rattle.lg_disj.specs.Grown.{IsPlaced}
 use Rattle.lg_disj.specs.Places.{no_places, leaf_at, choice_by, part, row_in, LiesIn}
@@ -124,7 +125,10 @@ module _ (leaves : List Connector) (ranks : List ℕ) (are : AreRanks leaves ran
   kept_placed rows kept lie placed h = All-map (IsPlaced leaves) (row_in places) kept (λ k d within. (kept_good rows kept lie placed h k d within).1)
 
 -- the rows that are kept by the ranks at their places
-pub kept_by : (ranks d places e ranked f : List ℕ) (rows g kept : List Row) → d ≡ ranks → e ≡ places → ranked ≡ map (λ (n : ℕ). get_or d n 0) e → f ≡ ranked → g ≡ rows →
-    IsKept f g kept → IsKept (map (λ (n : ℕ). get_or ranks n 0) places) rows kept
-kept_by ranks d places e r f rows g kept one two is three four h =
-    subst (λ r. IsKept r rows kept) (three ∙ is ∙ (λ i. map (λ (n : ℕ). get_or (one i) n 0) (two i))) (subst (λ rows. IsKept f rows kept) four h)
+pub kept_by : (ranks d places e ranked f : List ℕ) (rows g kept : List Row) (numbered h : List Numbered) → d ≡ ranks → e ≡ places → ranked ≡ map (λ (n : ℕ). get_or d n 0) e →
+    f ≡ ranked → g ≡ rows → h ≡ numbered → kept ≡ map (λ (k : Numbered). k.row) h → IsKept f g (map (λ (k : Numbered). k.row) numbered) →
+    IsKept (map (λ (n : ℕ). get_or ranks n 0) places) rows kept
+kept_by ranks d places e r f rows g kept numbered h one two is three four five all left =
+    subst (IsKept (map (λ (n : ℕ). get_or ranks n 0) places) rows) (sym (all ∙ ap (map (λ (k : Numbered). k.row)) five))
+    (subst (λ r. IsKept r rows (map (λ (k : Numbered). k.row) numbered)) (three ∙ is ∙ (λ i. map (λ (n : ℕ). get_or (one i) n 0) (two i)))
+    (subst (λ rows. IsKept f rows (map (λ (k : Numbered). k.row) numbered)) four left))

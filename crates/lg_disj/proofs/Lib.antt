@@ -8,6 +8,7 @@ pub mod Growing
 pub mod Kept
 pub mod Kept_rows
 pub mod Leaf
+pub mod Lines
 pub mod Members
 pub mod Numbering
 pub mod One_list
@@ -17,6 +18,6 @@ pub mod Products
 pub mod Ranked
 pub mod Rows
 pub mod Runs
-pub mod SharedLists
 pub mod Sided
+pub mod Spans
 pub mod Told_apart

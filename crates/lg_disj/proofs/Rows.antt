@@ -12,12 +12,12 @@ use Rattle.lg_base.specs.Costs.{IsWithinCosts}
 use Rattle.lg_disj.proofs.Parts.{at_back, in_front, from_map}
 use Rattle.lg_disj.proofs.Bounded.{small_sum}
 
-part_grown : (from to : ℕ) (xs ys : List ℕ) → from ≤ to → to ≤ length xs → part from to (xs ++ ys) ≡ part from to xs
+pub part_grown : {X : Type 0} (from to : ℕ) (xs ys : List X) → from ≤ to → to ≤ length xs → take (to - from) (drop from (xs ++ ys)) ≡ take (to - from) (drop from xs)
 part_grown from to xs ys low high =
     ap (take (to - from)) (drop-append-le from xs ys (omega (arith, low, high)))
     ∙ take-append-le (to - from) (drop from xs) ys (omega (arith, length-drop from xs, low, high))
 
-part_at : (from to : ℕ) (xs ys zs : List ℕ) → from ≡ length xs → to ≡ length (xs ++ ys) → part from to ((xs ++ ys) ++ zs) ≡ ys
+pub part_at : {X : Type 0} (from to : ℕ) (xs ys zs : List X) → from ≡ length xs → to ≡ length (xs ++ ys) → take (to - from) (drop from ((xs ++ ys) ++ zs)) ≡ ys
 part_at from to xs ys zs low high =
     let long : to - from ≡ length ys = omega (arith, low, high, length-append xs ys) in
     ap₂ (λ n m. take n (drop m ((xs ++ ys) ++ zs))) long low

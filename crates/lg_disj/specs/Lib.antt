@@ -1,6 +1,9 @@
 pub mod Choices
 pub mod Exist
 pub mod Grown
+pub mod Lists
+pub mod Made
+pub mod Outlines
 pub mod Picked
 pub mod Places
 pub mod Ranks

@@ -8,6 +8,7 @@ ghost use Rattle.lg_gram.specs.Trees.{tree_of};
 ghost use Rattle.lg_gram.specs.Measures.{choice_count};
 ghost use Rattle.lg_gram.specs.Disjuncts.{AreDisjuncts};
 ghost use Rattle.lg_gram.specs.Problems.{FitsProblem};
+ghost use Rattle.lg_disj.specs.Outlines.{disjuncts_in};
 
 mod arena;
 mod arrange;
@@ -15,21 +16,25 @@ mod cheapest;
 mod choices;
 mod guesses;
 pub mod law;
+mod lists;
 mod names;
 mod numbers;
+pub mod outline;
+mod outlining;
 mod product;
 mod ranks;
-mod sharing;
 
 use crate::arena::Choices;
-use crate::cheapest::{cheapest, disjuncts_of};
+use crate::cheapest::cheapest;
 use crate::choices::choices_of;
 use crate::guesses::Guesses;
+use crate::outlining::outline_of;
 pub use law::expressions_have_disjuncts;
 use lg_base::{NoMemory, Text};
 use lg_gram::law::choices_are_counted;
 use lg_gram::{Disjuncts, Formula};
 pub use names::see_names;
+pub use outline::{Line, Outline};
 use std::alloc::Global;
 
 /// The disjuncts of a word: the distinct pairs of lists among the choices of its formula, each at its least cost,
@@ -46,11 +51,22 @@ pub fn expand(alloc: Global, word: &Text, formula: &Formula) -> Result<Disjuncts
     ensures few { IfOk result (λ ds. length ds ≤ choice_count (tree_of formula.now)) }
     ensures limit { IfOk result (λ ds. length ds ≤ FORMULA_CHOICES) }
 {
+    let outline = outlined(alloc, word, formula)?;
+    outline.disjuncts(alloc)
+}
+
+/// The same in outline: no disjunct is made. Where most of them are taken away again, that takes less time and memory.
+pub fn outlined(alloc: Global, word: &Text, formula: &Formula) -> Result<Outline, NoMemory>
+    ensures disjuncts { IfOk result (λ o. AreDisjuncts word.now (tree_of formula.now) (disjuncts_in o)) }
+    ensures fits { IfOk result (λ o. All FitsProblem (disjuncts_in o)) }
+    ensures few { IfOk result (λ o. length (disjuncts_in o) ≤ choice_count (tree_of formula.now)) }
+    ensures limit { IfOk result (λ o. length (disjuncts_in o) ≤ FORMULA_CHOICES) }
+{
     choices_are_counted();
     let mut leaves = Vec::new(alloc);
     let mut all = Choices::new(alloc);
     let mut guesses = Guesses::new();
     choices_of(alloc, formula.expr(), &mut leaves, &mut guesses, &mut all)?;
     let kept = cheapest(alloc, &leaves, all)?;
-    disjuncts_of(alloc, word, &leaves, &kept)
+    outline_of(alloc, word, &leaves, &kept)
 }

@@ -7,7 +7,7 @@ use Rattle.std.proofs.lemmas.Grind.{elements}
 use Rattle.std.proofs.Math.Seq.{drop-cons}
 use Rattle.lg_gram.specs.Connectors.{Connector}
 use Rattle.lg_gram.specs.declared.disjunct.Disjunct.{Disjunct}
-use Rattle.lg_member.specs.Members.{seen_of, IsSideAt, IsKnown, Grows, AddsMembers, all_from}
+use Rattle.lg_member.specs.Members.{formed, seen_of, IsSideAt, IsKnown, Grows, AddsMembers, all_from}
 use Rattle.lg_member.specs.declared.side.Side.{Side}
 use Rattle.lg_member.specs.declared.member.Member.{Member}
 
@@ -20,7 +20,7 @@ grows_more a b c g h = record { more = g.more ++ h.more; added = h.added ∙ ap 
 get_still : (a b : List Side) (k : ℕ) (s : Side) → slice_get a k ≡ Some s → slice_get (a ++ b) k ≡ Some s
 get_still a b k s e = grind (arith, elements)
 
-side_grown : (a b : List Side) (k i : ℕ) (cs : List Connector) → Grows a b → IsSideAt a k i cs → IsSideAt b k i cs
+pub side_grown : (a b : List Side) (k i : ℕ) (cs : List Connector) → Grows a b → IsSideAt a k i cs → IsSideAt b k i cs
 side_grown a b k i cs g s = record {
   side = s.side;
   at = subst (λ z. slice_get z k ≡ Some s.side) (sym g.added) (get_still a g.more k s.side s.at);
@@ -28,10 +28,10 @@ side_grown a b k i cs g s = record {
   list = s.list;
 }
 
-known_grown : (a b c d : List Side) → Grows a c → Grows b d → (m : Member) → IsKnown a b m → IsKnown c d m
+pub known_grown : (a b c d : List Side) → Grows a c → Grows b d → (m : Member) → IsKnown a b m → IsKnown c d m
 known_grown a b c d g h m k = record {
-  left = side_grown a c m.left m.position m.disjunct.now.left g k.left;
-  right = side_grown b d m.right m.position m.disjunct.now.right h k.right;
+  left = side_grown a c m.left m.position (formed m.form).left g k.left;
+  right = side_grown b d m.right m.position (formed m.form).right h k.right;
 }
 
 pub adds_none : (i : ℕ) (lefts rights : List Side) (members : List Member) → AddsMembers i [] lefts rights lefts rights members members
@@ -48,7 +48,7 @@ abbrev at_position : ℕ → Disjunct → ℕ × Disjunct
 at_position i d = (i, d)
 
 pub adds_more : (i : ℕ) (ds : List Disjunct) (k : ℕ) (d : Disjunct) (l0 r0 l r l' r' : List Side) (old now new : List Member) (m : Member) → k < length ds → d ≡ get_or ds k d
-    → Grows l l' → Grows r r' → new ≡ now ++ m ∷ [] → m.position ≡ i → m.disjunct.now ≡ d → IsSideAt l' m.left i d.left → IsSideAt r' m.right i d.right
+    → Grows l l' → Grows r r' → new ≡ now ++ m ∷ [] → m.position ≡ i → formed m.form ≡ d → IsSideAt l' m.left i d.left → IsSideAt r' m.right i d.right
     → AddsMembers i (take k ds) l0 r0 l r old now → AddsMembers i (take (k + 1) ds) l0 r0 l' r' old new
 adds_more i ds k d l0 r0 l r l' r' old now new m h ed gl gr en ei em sl sr a =
     let taken : take (k + 1) ds ≡ take k ds ++ d ∷ [] = subst (λ z. take (k + 1) ds ≡ take k ds ++ z ∷ []) (sym ed) (take_more ds k d h) in

@@ -1,5 +1,6 @@
 pub mod Keeping
 pub mod Adding
+pub mod Outlining
 pub mod Written
 pub mod Using
 pub mod Same

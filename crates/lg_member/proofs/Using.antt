@@ -6,7 +6,7 @@ use Rattle.std.proofs.lemmas.Option.{slice_get_within}
 use Rattle.std.proofs.lemmas.List.{length-set, take_more}
 use Rattle.std.proofs.lemmas.List.Elements.{Contains-append_left, Contains-push, Contains-push_cases}
 use Rattle.std.proofs.lemmas.Grind.{elements}
-use Rattle.lg_member.specs.Members.{list_on, side_on, IsSideAt, IsKnown, AreUsed}
+use Rattle.lg_member.specs.Members.{formed, list_on, side_on, IsSideAt, IsKnown, AreUsed}
 use Rattle.lg_member.specs.declared.side.Side.{Side}
 use Rattle.lg_member.specs.declared.member.Member.{Member}
 
@@ -33,7 +33,7 @@ used_more right count ms i m k used h em ek l a =
     })
 
 -- the known side of a member
-side_known : (right : Bool) (lefts rights : List Side) (m : Member) → IsKnown lefts rights m → IsSideAt (cond right rights lefts) (side_on right m) m.position (list_on right m.disjunct.now)
+side_known : (right : Bool) (lefts rights : List Side) (m : Member) → IsKnown lefts rights m → IsSideAt (cond right rights lefts) (side_on right m) m.position (list_on right (formed m.form))
 side_known true lefts rights m k = k.right
 side_known false lefts rights m k = k.left
 

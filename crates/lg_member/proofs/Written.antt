@@ -14,7 +14,7 @@ use Rattle.lg_gram.specs.Disjuncts.{disjunct_cmp}
 use Rattle.lg_gram.specs.Problems.{FitsProblem, IsPosition, IsProblem}
 use Rattle.lg_gram.specs.declared.disjunct.Disjunct.{Disjunct}
 use Rattle.lg_member.specs.Laws.{RowsAreProblems}
-use Rattle.lg_member.specs.Members.{seen_of, all_from, row_at, AreMembers, AreLeft, Have}
+use Rattle.lg_member.specs.Members.{formed, seen_of, all_from, row_at, AreMembers, AreLeft, Have}
 use Rattle.lg_member.specs.declared.side.Side.{Side}
 use Rattle.lg_member.specs.declared.member.Member.{Member}
 use Rattle.lg_member.proofs.Keeping.{filter_in, filter_out, filter_twice}
@@ -23,7 +23,7 @@ abbrev at_position : ℕ → Disjunct → ℕ × Disjunct
 at_position i d = (i, d)
 
 abbrev disjunct_of : Member → Disjunct
-disjunct_of m = m.disjunct.now
+disjunct_of m = formed m.form
 
 abbrev is_at : ℕ → Member → Bool
 is_at i m = m.position == i
@@ -36,7 +36,7 @@ row_pick : (i : ℕ) (ms : List Member) → row_at ms i ≡ pick i (map seen_of 
 row_pick i [] = refl
 row_pick i (m ∷ ms) =
     let e = row_pick i ms in
-    elim (cases_Bool (m.position == i)) [ inl t ↦ rw t (ap (λ z. m.disjunct.now ∷ z) e) | inr t ↦ rw t e ]
+    elim (cases_Bool (m.position == i)) [ inl t ↦ rw t (ap (λ z. formed m.form ∷ z) e) | inr t ↦ rw t e ]
 
 pick_append : (i : ℕ) (xs ys : List (ℕ × Disjunct)) → pick i (xs ++ ys) ≡ pick i xs ++ pick i ys
 pick_append i xs ys = ap (map (λ (x : ℕ × Disjunct). x.1)) (filter-append (λ x. x.0 == i) xs ys) ∙ map-append (λ (x : ℕ × Disjunct). x.1) (filter (λ x. x.0 == i) xs) (filter (λ x. x.0 == i) ys)

@@ -1,10 +1,15 @@
 -- Members: disjuncts at positions, with the numbers of their two sides.
-use Rattle.std.specs.Prelude.{◌≡◌, ◌↔◌, ℕ, suc, Bool, true, false, cond, ◌&&◌, List, [], ◌∷◌, ◌++◌, ◌==◌, length, map, Some, slice_get, slice_index_or}
+use Rattle.std.specs.Prelude.{◌≡◌, ◌↔◌, ℕ, ◌+◌, suc, Bool, true, false, cond, ◌&&◌, List, [], ◌∷◌, ◌++◌, ◌==◌, length, map, Some, slice_get, slice_index_or}
 use Rattle.std.specs.List.{Contains, All, filter}
 use Rattle.lg_gram.specs.Connectors.{Connector}
 use Rattle.lg_gram.specs.declared.disjunct.Disjunct.{Disjunct}
+use Rattle.lg_member.specs.declared.form.Form.{Form}
 use Rattle.lg_member.specs.declared.side.Side.{Side}
 use Rattle.lg_member.specs.declared.member.Member.{Member}
+
+-- the disjunct that a form is of
+abbrev pub formed : Form → Disjunct
+formed f = record { word = f.word.now; left = f.left.now; right = f.right.now; cost = f.cost.now }
 
 -- the list of a disjunct to the right, or to the left
 abbrev pub list_on : Bool → Disjunct → List Connector
@@ -16,7 +21,7 @@ side_on right m = cond right m.right m.left
 
 -- a member as a disjunct at a position
 abbrev pub seen_of : Member → ℕ × Disjunct
-seen_of m = (m.position, m.disjunct.now)
+seen_of m = (m.position, formed m.form)
 
 -- the side of a number is this list of this position
 pub record IsSideAt (sides : List Side) (k i : ℕ) (cs : List Connector) : Type 0 where
@@ -26,17 +31,28 @@ pub record IsSideAt (sides : List Side) (k i : ℕ) (cs : List Connector) : Type
   pub list : side.list.now ≡ cs
 
 pub record IsKnown (lefts rights : List Side) (m : Member) : Type 0 where
-  pub left : IsSideAt lefts m.left m.position m.disjunct.now.left
-  pub right : IsSideAt rights m.right m.position m.disjunct.now.right
+  pub left : IsSideAt lefts m.left m.position (formed m.form).left
+  pub right : IsSideAt rights m.right m.position (formed m.form).right
 
 pub record Grows (old new : List Side) : Type 0 where
   pub more : List Side
   pub added : new ≡ old ++ more
 
+-- the sides from this number on are those of lists of position i
+pub record HasSides (i : ℕ) (lists : List (List Connector)) (first : ℕ) (sides : List Side) : Type 0 where
+  pub each : (k : ℕ) (cs : List Connector) → slice_get lists k ≡ Some cs → IsSideAt sides (first + k) i cs
+
 -- the disjuncts of position i are added as members
 pub record AddsMembers (i : ℕ) (ds : List Disjunct) (old_lefts old_rights lefts rights : List Side) (old new : List Member) : Type 0 where
   pub left : Grows old_lefts lefts
   pub right : Grows old_rights rights
+  pub more : List Member
+  pub added : new ≡ old ++ more
+  pub seen : map seen_of more ≡ map (λ d. (i, d)) ds
+  pub known : All (IsKnown lefts rights) more
+
+-- the same where the sides stay as they are
+pub record AddsLines (i : ℕ) (ds : List Disjunct) (lefts rights : List Side) (old new : List Member) : Type 0 where
   pub more : List Member
   pub added : new ≡ old ++ more
   pub seen : map seen_of more ≡ map (λ d. (i, d)) ds
@@ -58,7 +74,7 @@ pub record AreUsed (right : Bool) (count : ℕ) (members : List Member) (used : 
 
 -- a member has this disjunct at this position
 abbrev pub Have : List Member → ℕ → Disjunct → Type 0
-Have members i d = (m : Member) × Contains members m × (m.position ≡ i) × (m.disjunct.now ≡ d)
+Have members i d = (m : Member) × Contains members m × (m.position ≡ i) × (formed m.form ≡ d)
 
 -- both lists of a member are on, by their numbers
 abbrev pub are_on : List Bool → List Bool → Member → Bool
@@ -75,4 +91,4 @@ AreLeft old new = (test : Member → Bool) × Keeps test old new
 
 -- the disjuncts of members at a position
 abbrev pub row_at : List Member → ℕ → List Disjunct
-row_at members i = map (λ m. m.disjunct.now) (filter (λ m. m.position == i) members)
+row_at members i = map (λ m. formed m.form) (filter (λ m. m.position == i) members)

@@ -5,16 +5,21 @@
 #![tactic(auto)]
 
 pub mod cells;
+pub mod form;
 mod hints;
 pub mod law;
+mod made;
 pub mod member;
+pub mod outlines;
 pub mod rows;
 pub mod side;
 pub mod uses;
 
 pub use cells::{Cells, Wide, class_of};
+pub use form::Form;
 pub use law::{members_go_by_rounds, rows_are_problems};
 pub use member::{Member, members_of};
+pub use outlines::{Outlines, members_in};
 pub use rows::rows_of;
 pub use side::Side;
 pub use uses::{keep, used};

@@ -3,6 +3,7 @@ ghost use Rattle.std.specs.Prelude.{◌≡◌, ◌≤◌, ◌↔◌, length, IfO
 ghost use Rattle.lg_gram.specs.Limits.{POSITIONS};
 ghost use Rattle.lg_member.specs.Members.{AddsMembers, AreMembers, Grows, IsSideAt, side_on};
 
+use crate::form::{Form, form_of};
 use crate::hints::Hints;
 use crate::side::Side;
 use lg_base::NoMemory;
@@ -13,7 +14,7 @@ use std::alloc::Global;
 #[derive(Clone, Copy)]
 pub struct Member<'a> {
     pub position: u32,
-    pub disjunct: &'a Disjunct,
+    pub form: Form<'a>,
     pub left: usize,
     pub right: usize,
 }
@@ -85,7 +86,7 @@ fn push_members<'a>(
         let right = number_of(rights, right_hints, position, disjunct.right.items())?;
         members.push(Member {
             position,
-            disjunct,
+            form: form_of(disjunct),
             left,
             right,
         })?;

@@ -5,7 +5,7 @@ use Rattle.std.proofs.lemmas.Bool.{cases_Bool}
 use Rattle.std.proofs.lemmas.List.Filters.{length-filter_both}
 use Rattle.lg_gram.specs.declared.disjunct.Disjunct.{Disjunct}
 use Rattle.lg_member.specs.Laws.{MembersGoByRounds}
-use Rattle.lg_member.specs.Members.{AreLeft, Have}
+use Rattle.lg_member.specs.Members.{formed, AreLeft, Have}
 use Rattle.lg_member.specs.declared.member.Member.{Member}
 use Rattle.lg_pprune.specs.Supports.{IsSupported, KeepsSupported, KeepsAlive}
 
@@ -56,7 +56,7 @@ supported_here n now new k h i d v =
     let l = ap length f in
     let e : new ≡ now = f ∙ filter_whole k.left.0 now (omega arith) in
     let s = ((k.exactly v.0).0 v.1).1 in
-    subst (λ z. IsSupported n (Have z) i d) (sym e) (subst (λ z. IsSupported n (Have now) i z) v.3 (subst (λ z. IsSupported n (Have now) z v.0.disjunct.now) v.2 s))
+    subst (λ z. IsSupported n (Have z) i d) (sym e) (subst (λ z. IsSupported n (Have now) i z) v.3 (subst (λ z. IsSupported n (Have now) z (formed v.0.form)) v.2 s))
 
 pub settled_more : MembersGoByRounds → (n : ℕ) (old now new : List Member) (before after : ℕ) → SettledSoFar n old now before → KeepsSupported n now new → after ≡ length now → SettledSoFar n old new after
 settled_more law n old now new before after s k e =

@@ -8,7 +8,7 @@ use Rattle.lg_gram.specs.Connectors.{Connector, Match}
 use Rattle.lg_gram.specs.declared.disjunct.Disjunct.{Disjunct}
 use Rattle.lg_pprune.specs.Alive.{ArePartners}
 use Rattle.lg_pprune.specs.Sites.{IsSiteOf, Meets, MeetsOn, IsWider, Holds, IsHeld, IsTableOf, IsServed, AreServed}
-use Rattle.lg_member.specs.Members.{list_on, side_on, IsSideAt, IsKnown, AreUsed, Have, Keeps, are_on}
+use Rattle.lg_member.specs.Members.{formed, list_on, side_on, IsSideAt, IsKnown, AreUsed, Have, Keeps, are_on}
 use Rattle.lg_member.specs.Cells.{Table}
 use Rattle.lg_member.specs.declared.side.Side.{Side}
 use Rattle.lg_member.specs.declared.member.Member.{Member}
@@ -24,24 +24,24 @@ site_at_side right n side i cs q s ei ec is = subst (λ z. IsSiteOf right n side
 
 -- a table has the sites of members
 abbrev HasSite : Bool → ℕ → List Member → Site → Type 0
-HasSite right n ms s = (m : Member) × Contains ms m × (q : ℕ) × IsSiteOf right n m.position (list_on right m.disjunct.now) q s
+HasSite right n ms s = (m : Member) × Contains ms m × (q : ℕ) × IsSiteOf right n m.position (list_on right (formed m.form)) q s
 
 table_has : (right : Bool) (n : ℕ) (sides : List Side) (ms : List Member) (used : List Bool) (table : Table Site)
-    → ((m : Member) → Contains ms m → IsSideAt sides (side_on right m) m.position (list_on right m.disjunct.now)) → AreUsed right (length sides) ms used → IsTableOf right n sides used table
+    → ((m : Member) → Contains ms m → IsSideAt sides (side_on right m) m.position (list_on right (formed m.form))) → AreUsed right (length sides) ms used → IsTableOf right n sides used table
     → (s : Site) → Holds table s → HasSite right n ms s
 table_has right n sides ms used table known u t s h =
     let r = t.only s h in
     let o = (u.each r.0).0 r.1.on in
     let a = known o.0 o.1 in
     let e : r.1.side ≡ a.side = same_Some r.1.side a.side (sym r.1.at ∙ subst (λ z. slice_get sides z ≡ Some a.side) o.2 a.at) in
-    (o.0, o.1, r.1.place, site_of_side right n a.side o.0.position (list_on right o.0.disjunct.now) r.1.place s a.position a.list (subst (λ z. IsSiteOf right n z.position z.list.now r.1.place s) e r.1.is))
+    (o.0, o.1, r.1.place, site_of_side right n a.side o.0.position (list_on right (formed o.0.form)) r.1.place s a.position a.list (subst (λ z. IsSiteOf right n z.position z.list.now r.1.place s) e r.1.is))
 
 table_holds : (right : Bool) (n : ℕ) (sides : List Side) (ms : List Member) (used : List Bool) (table : Table Site)
-    → ((m : Member) → Contains ms m → IsSideAt sides (side_on right m) m.position (list_on right m.disjunct.now)) → AreUsed right (length sides) ms used → IsTableOf right n sides used table
+    → ((m : Member) → Contains ms m → IsSideAt sides (side_on right m) m.position (list_on right (formed m.form))) → AreUsed right (length sides) ms used → IsTableOf right n sides used table
     → (s : Site) → HasSite right n ms s → IsHeld table s
 table_holds right n sides ms used table known u t s r =
     let a = known r.0 r.1 in
-    let is = site_at_side right n a.side r.0.position (list_on right r.0.disjunct.now) r.2 s a.position a.list r.3 in
+    let is = site_at_side right n a.side r.0.position (list_on right (formed r.0.form)) r.2 s a.position a.list r.3 in
     t.held s (side_on right r.0) (record {
       side = a.side;
       at = a.at;
@@ -110,31 +110,31 @@ served_supported right n ms table has held i a = (
       let s = made right n i (list_on right a) p x.0 x.1 in
       let o = served p s.0 s.1 in
       let m = has o.0 o.1 in
-      (m.0.position, m.0.disjunct.now, m.2, (m.0, m.1, refl, refl), (meets_partners right n i a p s.0 m.0.position m.0.disjunct.now m.2 o.0 s.1 m.3).0 o.2)),
+      (m.0.position, formed m.0.form, m.2, (m.0, m.1, refl, refl), (meets_partners right n i a p s.0 m.0.position (formed m.0.form) m.2 o.0 s.1 m.3).0 o.2)),
   (λ supported p s is.
       let o = supported p (slice_get_within (list_on right a) p s.connector is.connector) in
       let m = o.3 in
       let r = subst (λ z. PartnersOn right n i a p m.0.position z o.2) (sym m.3) (subst (λ z. PartnersOn right n i a p z o.1 o.2) (sym m.2) o.4) in
-      let y = partner_place right n i a p m.0.position m.0.disjunct.now o.2 r in
-      let t = made (not right) n m.0.position (list_on (not right) m.0.disjunct.now) o.2 y.0 y.1 in
+      let y = partner_place right n i a p m.0.position (formed m.0.form) o.2 r in
+      let t = made (not right) n m.0.position (list_on (not right) (formed m.0.form)) o.2 y.0 y.1 in
       let w = held t.0 (m.0, m.1, o.2, t.1) in
-      (w.0, w.1, meets_wider right s t.0 w.0 w.2 ((meets_partners right n i a p s m.0.position m.0.disjunct.now o.2 t.0 is t.1).1 r))),
+      (w.0, w.1, meets_wider right s t.0 w.0 w.2 ((meets_partners right n i a p s m.0.position (formed m.0.form) o.2 t.0 is t.1).1 r))),
 )
 
 -- a side is good where each of its connectors has a partner
 good_supported : (right : Bool) (n : ℕ) (sides others : List Side) (ms : List Member) (used used_others : List Bool) (table : Table Site) (good : List Bool)
-    → ((m : Member) → Contains ms m → IsSideAt sides (side_on right m) m.position (list_on right m.disjunct.now))
-    → ((m : Member) → Contains ms m → IsSideAt others (side_on (not right) m) m.position (list_on (not right) m.disjunct.now))
+    → ((m : Member) → Contains ms m → IsSideAt sides (side_on right m) m.position (list_on right (formed m.form)))
+    → ((m : Member) → Contains ms m → IsSideAt others (side_on (not right) m) m.position (list_on (not right) (formed m.form)))
     → AreUsed right (length sides) ms used → AreUsed (not right) (length others) ms used_others → IsTableOf (not right) n others used_others table → AreServed right n table sides used good
-    → (m : Member) → Contains ms m → (slice_get good (side_on right m) ≡ Some true) ↔ IsSupportedOn right n (Have ms) m.position m.disjunct.now
+    → (m : Member) → Contains ms m → (slice_get good (side_on right m) ≡ Some true) ↔ IsSupportedOn right n (Have ms) m.position (formed m.form)
 good_supported right n sides others ms used used_others table good known known_others u v t g m c =
     let a = known m c in
     let on = (u.each (side_on right m)).1 (m, c, refl) in
     let w = g.each (side_on right m) a.side a.at on in
-    let w' : (slice_get good (side_on right m) ≡ Some true) ↔ IsServed right n table m.position (list_on right m.disjunct.now) =
+    let w' : (slice_get good (side_on right m) ≡ Some true) ↔ IsServed right n table m.position (list_on right (formed m.form)) =
     subst (λ z. (slice_get good (side_on right m) ≡ Some true) ↔ IsServed right n table m.position z) a.list
     (subst (λ z. (slice_get good (side_on right m) ≡ Some true) ↔ IsServed right n table z a.side.list.now) a.position w) in
-    let x = served_supported right n ms table (table_has (not right) n others ms used_others table known_others v t) (table_holds (not right) n others ms used_others table known_others v t) m.position m.disjunct.now in
+    let x = served_supported right n ms table (table_has (not right) n others ms used_others table known_others v t) (table_holds (not right) n others ms used_others table known_others v t) m.position (formed m.form) in
     ((λ h. x.0 (w'.0 h)), (λ h. w'.1 (x.1 h)))
 
 is_on : (good : List Bool) (k : ℕ) → (get_or good k false ≡ true) ↔ (slice_get good k ≡ Some true)
@@ -146,9 +146,9 @@ pub round_keeps : (n : ℕ) (lefts rights : List Side) (ms new : List Member) (l
     → AreUsed false (length lefts) ms lu → AreUsed true (length rights) ms ru → IsTableOf false n lefts lu lt → IsTableOf true n rights ru rt
     → AreServed false n rt lefts lu lg → AreServed true n lt rights ru rg → Keeps (are_on lg rg) ms new → KeepsSupported n ms new
 round_keeps n lefts rights ms new lu ru lg rg lt rt known ul ur tl tr gl gr keeps =
-    let kl : (m : Member) → Contains ms m → IsSideAt lefts m.left m.position m.disjunct.now.left = λ m c. (All-contains (IsKnown lefts rights) ms m known c).left in
-    let kr : (m : Member) → Contains ms m → IsSideAt rights m.right m.position m.disjunct.now.right = λ m c. (All-contains (IsKnown lefts rights) ms m known c).right in
-    let on : (m : Member) → Contains ms m → (are_on lg rg m ≡ true) ↔ IsSupported n (Have ms) m.position m.disjunct.now =
+    let kl : (m : Member) → Contains ms m → IsSideAt lefts m.left m.position (formed m.form).left = λ m c. (All-contains (IsKnown lefts rights) ms m known c).left in
+    let kr : (m : Member) → Contains ms m → IsSideAt rights m.right m.position (formed m.form).right = λ m c. (All-contains (IsKnown lefts rights) ms m known c).right in
+    let on : (m : Member) → Contains ms m → (are_on lg rg m ≡ true) ↔ IsSupported n (Have ms) m.position (formed m.form) =
     λ m c.
     let a = good_supported false n lefts rights ms lu ru rt lg kl kr ul ur tr gl m c in
     let b = good_supported true n rights lefts ms ru lu lt rg kr kl ur ul tl gr m c in

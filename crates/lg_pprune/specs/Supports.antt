@@ -2,7 +2,7 @@
 use Rattle.std.specs.Prelude.{◌↔◌, ℕ, ◌<◌, Bool, true, false, cond, List, length}
 use Rattle.std.specs.List.{Contains}
 use Rattle.lg_gram.specs.declared.disjunct.Disjunct.{Disjunct}
-use Rattle.lg_member.specs.Members.{list_on, AreLeft, Have}
+use Rattle.lg_member.specs.Members.{formed, list_on, AreLeft, Have}
 use Rattle.lg_member.specs.declared.member.Member.{Member}
 use Rattle.lg_pprune.specs.Alive.{ArePartners}
 
@@ -21,7 +21,7 @@ IsSupported n There i a = IsSupportedOn true n There i a × IsSupportedOn false 
 -- those members are left that others support
 pub record KeepsSupported (n : ℕ) (old new : List Member) : Type 0 where
   pub left : AreLeft old new
-  pub exactly : (m : Member) → Contains new m ↔ (Contains old m × IsSupported n (Have old) m.position m.disjunct.now)
+  pub exactly : (m : Member) → Contains new m ↔ (Contains old m × IsSupported n (Have old) m.position (formed m.form))
 
 -- those members are left that are in some set which supports itself
 pub record KeepsAlive (n : ℕ) (old new : List Member) : Type 0 where

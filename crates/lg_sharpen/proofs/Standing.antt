@@ -15,7 +15,7 @@ use Rattle.lg_sharpen.specs.Needs.{IsFar, AreNeeds}
 use Rattle.lg_sharpen.specs.Sites.{own, place_on, Holds, IsOpen, IsWider, IsTableOf, IsReach, AreStarted, AreStartedAll}
 use Rattle.lg_member.specs.Cells.{Table}
 use Rattle.lg_member.specs.Laws.{MembersGoByRounds}
-use Rattle.lg_member.specs.Members.{list_on, side_on, IsSideAt, IsKnown, AreUsed, Keeps, are_on}
+use Rattle.lg_member.specs.Members.{formed, list_on, side_on, IsSideAt, IsKnown, AreUsed, Keeps, are_on}
 use Rattle.lg_sharpen.specs.Bounds.{list_at, Fits, Needs, SetsNeeds, AllowsGaps, Allows, Covers, CoversAt, AllowsAll, NarrowsAll, AreOpen, AreChosen, CoversAll, Stands, KeepsStanding, KeepsNeeds, KeepsChosen}
 use Rattle.lg_member.specs.declared.side.Side.{Side}
 use Rattle.lg_sharpen.specs.declared.site.Site.{Site}
@@ -60,7 +60,7 @@ allows_wider g right l s w a is =
     }
 
 -- a member that a linkage uses at a position
-pub used_by : (g : Linkage) (i : ℕ) (d : Disjunct) (m : Member) → chosen_at g i ≡ Some d → m.position ≡ i → m.disjunct.now ≡ d → chosen_at g m.position ≡ Some m.disjunct.now
+pub used_by : (g : Linkage) (i : ℕ) (d : Disjunct) (m : Member) → chosen_at g i ≡ Some d → m.position ≡ i → formed m.form ≡ d → chosen_at g m.position ≡ Some (formed m.form)
 used_by g i d m e ei ed = ap (λ z. chosen_at g z) ei ∙ e ∙ ap (λ z. Some z) (sym ed)
 
 -- sites that cover are open
@@ -74,7 +74,7 @@ all_open most g f right i sites c =
     omega arith) sites (All-contains_itself sites)
 
 allows_all : (most : ℕ) (g : Linkage) → Fits most g → (right : Bool) (sides : List Side) (lists : List (List Site)) (table : Table Site) (ms : List Member) (used : List Bool) → AreChosen g ms
-    → ((m : Member) → Contains ms m → IsSideAt sides (side_on right m) m.position (list_on right m.disjunct.now)) → AreUsed right (length sides) ms used → IsTableOf sides used lists table → CoversAll g right lists ms
+    → ((m : Member) → Contains ms m → IsSideAt sides (side_on right m) m.position (list_on right (formed m.form))) → AreUsed right (length sides) ms used → IsTableOf sides used lists table → CoversAll g right lists ms
     → AllowsAll g right table
 allows_all most g f right sides lists table ms used chosen known u t covers l h =
     let j = joined most g f right l h in
@@ -86,7 +86,7 @@ allows_all most g f right sides lists table ms used chosen known u t covers l h 
     let w = t (side_on right m.0) s.side c.0 (place_on right l) x.0 s.at ((u.each (side_on right m.0)).1 (m.0, m.1, refl)) c.1 (all_open most g f right m.0.position c.0 c.2) x.1 in
     (w.0, subst (λ z. Holds table z w.0) (s.position ∙ m.2) w.1, allows_wider g right l x.0 w.0 x.2 w.2)
 
-is_flagged : (most : ℕ) (g : Linkage) → Fits most g → (right : Bool) (lists : List (List Site)) (flags : List Bool) (ms : List Member) (m : Member) → Contains ms m → chosen_at g m.position ≡ Some m.disjunct.now
+is_flagged : (most : ℕ) (g : Linkage) → Fits most g → (right : Bool) (lists : List (List Site)) (flags : List Bool) (ms : List Member) (m : Member) → Contains ms m → chosen_at g m.position ≡ Some (formed m.form)
     → CoversAll g right lists ms → AreOpen lists flags → get_or flags (side_on right m) false ≡ true
 is_flagged most g f right lists flags ms m has e covers are =
     let c = covers m has e in
@@ -94,7 +94,7 @@ is_flagged most g f right lists flags ms m has e covers are =
 
 -- narrowed lists still cover
 covers_narrowed : (most : ℕ) (g : Linkage) → Fits most g → (right : Bool) (gaps : Gaps) (sides : List Side) (table : Table Site) (old new : List (List Site)) (ms : List Member)
-    → ((m : Member) → Contains ms m → IsSideAt sides (side_on right m) m.position (list_on right m.disjunct.now)) → NarrowsAll right most gaps sides table old new → AllowsGaps g gaps → AllowsAll g (not right) table
+    → ((m : Member) → Contains ms m → IsSideAt sides (side_on right m) m.position (list_on right (formed m.form))) → NarrowsAll right most gaps sides table old new → AllowsGaps g gaps → AllowsAll g (not right) table
     → CoversAll g right old ms → CoversAll g right new ms
 covers_narrowed most g f right gaps sides table old new ms known n spans all covers m has e =
     let s = known m has in
@@ -106,8 +106,8 @@ pub round_keeps : (n most : ℕ) (lefts rights : List Side) (ll rl ll' rl' : Lis
     → AreUsed true (length rights) ms ru → IsTableOf lefts lu ll lt → NarrowsAll true most gaps rights lt rl rl' → IsTableOf rights ru rl' rt → NarrowsAll false most gaps lefts rt ll ll' → AreOpen ll' lo → AreOpen rl' ro
     → Keeps (are_on lo ro) ms new → KeepsStanding n most ll rl ms ll' rl' new
 round_keeps n most lefts rights ll rl ll' rl' gaps lt rt ms new lu ru lo ro known spans ul ur tl nr tr nl ol or' keeps =
-    let kl : (m : Member) → Contains ms m → IsSideAt lefts m.left m.position m.disjunct.now.left = λ m c. (All-contains (IsKnown lefts rights) ms m known c).left in
-    let kr : (m : Member) → Contains ms m → IsSideAt rights m.right m.position m.disjunct.now.right = λ m c. (All-contains (IsKnown lefts rights) ms m known c).right in
+    let kl : (m : Member) → Contains ms m → IsSideAt lefts m.left m.position (formed m.form).left = λ m c. (All-contains (IsKnown lefts rights) ms m known c).left in
+    let kr : (m : Member) → Contains ms m → IsSideAt rights m.right m.position (formed m.form).right = λ m c. (All-contains (IsKnown lefts rights) ms m known c).right in
     record {
       left = (are_on lo ro, keeps);
       long_left = nl.long;
@@ -215,11 +215,11 @@ starts_at most g f right n i end cs sites en e reach a = record {
 }
 
 starts : (most : ℕ) (g : Linkage) → Fits most g → (right : Bool) (n : ℕ) (sides : List Side) (lists : List (List Site)) (ms : List Member) → length g.chosen ≡ n
-    → ((m : Member) → Contains ms m → IsSideAt sides (side_on right m) m.position (list_on right m.disjunct.now)) → AreStartedAll right n sides lists → CoversAll g right lists ms
+    → ((m : Member) → Contains ms m → IsSideAt sides (side_on right m) m.position (list_on right (formed m.form))) → AreStartedAll right n sides lists → CoversAll g right lists ms
 starts most g f right n sides lists ms en known a m has e =
     let s = known m has in
     let r = a.each (side_on right m) s.side s.at in
-    (r.2, r.3, starts_at most g f right n m.position r.0 s.side.list.now r.2 en (list_of g right m.position m.disjunct.now e ∙ sym s.list) (subst (λ z. IsReach right n z r.0) s.position r.1) r.4)
+    (r.2, r.3, starts_at most g f right n m.position r.0 s.side.list.now r.2 en (list_of g right m.position (formed m.form) e ∙ sym s.list) (subst (λ z. IsReach right n z r.0) s.position r.1) r.4)
 
 pub settled : (n most : ℕ) (lefts rights : List Side) (ll rl ll' rl' : List (List Site)) (old new : List Member) → All (IsKnown lefts rights) old → AreStartedAll false n lefts ll → AreStartedAll true n rights rl
     → KeepsStanding n most ll rl old ll' rl' new → KeepsChosen n most old new

@@ -10,7 +10,7 @@ use Rattle.lg_gram.specs.Linkages.{Linkage, unlinked, link_length}
 use Rattle.lg_gram.specs.Rules.{HasLink, chosen_at}
 use Rattle.lg_gram.specs.declared.disjunct.Disjunct.{Disjunct}
 use Rattle.lg_gram.specs.declared.linkage.Link.{Link}
-use Rattle.lg_member.specs.Members.{side_on}
+use Rattle.lg_member.specs.Members.{formed, side_on}
 use Rattle.lg_member.specs.declared.member.Member.{Member}
 use Rattle.lg_sharpen.specs.Sites.{own}
 use Rattle.lg_sharpen.specs.Filling.{Gaps, flag_at, need_of, need_at, least_at, AreLeast, under, first_of, last_of, stuck_under, behind_under, void_in, left_over, AreSpans, AreGaps, Shuts}
@@ -62,7 +62,7 @@ need_met most g f right i [] c = inl refl
 need_met most g f right i (s ∷ ss) c = let k = covered most g f right i (s ∷ ss) c 0 s refl (omega arith) in inr (k.0, k.1, k.2, k.4.from)
 
 -- what a member that a linkage uses needs at least
-member_needs : (most : ℕ) (g : Linkage) → Fits most g → (right : Bool) (lists : List (List Site)) (ms : List Member) (m : Member) → Contains ms m → chosen_at g m.position ≡ Some m.disjunct.now → CoversAll g right lists ms
+member_needs : (most : ℕ) (g : Linkage) → Fits most g → (right : Bool) (lists : List (List Site)) (ms : List Member) (m : Member) → Contains ms m → chosen_at g m.position ≡ Some (formed m.form) → CoversAll g right lists ms
     → IsMet g right m.position (need_at lists (side_on right m))
 member_needs most g f right lists ms m has e covers =
     let c = covers m has e in

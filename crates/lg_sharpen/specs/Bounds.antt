@@ -3,12 +3,13 @@ use Rattle.std.specs.Prelude.{◌≡◌, ℕ, ◌<◌, ◌≤◌, ◌⊎◌, Boo
 use Rattle.std.specs.List.{All, Contains}
 use Rattle.lg_gram.specs.Connectors.{Connector}
 use Rattle.lg_gram.specs.Linkages.{Linkage, unlinked, link_length}
+use Rattle.lg_gram.specs.Problems.{IsProblem}
 use Rattle.lg_gram.specs.Rules.{Rules, IsConnected, IsLinked, HasLink, rights_of, lefts_of, chosen_at}
 use Rattle.lg_gram.specs.Walks.{LinkFrom}
 use Rattle.lg_gram.specs.declared.disjunct.Disjunct.{Disjunct}
 use Rattle.lg_gram.specs.declared.linkage.Link.{Link}
 use Rattle.lg_member.specs.Cells.{Table}
-use Rattle.lg_member.specs.Members.{AreLeft, Have, side_on}
+use Rattle.lg_member.specs.Members.{formed, AreLeft, AreMembers, Have, side_on}
 use Rattle.lg_sharpen.specs.Filling.{Gaps, MaySpan}
 use Rattle.lg_sharpen.specs.Sites.{own, place_on, Holds, IsOpen}
 use Rattle.lg_member.specs.declared.side.Side.{Side}
@@ -102,7 +103,7 @@ AreChosen g members = (i : ℕ) (d : Disjunct) → chosen_at g i ≡ Some d → 
 
 -- the lists, to the right, or to the left, of the members that the linkage uses have sites that allow all links
 abbrev pub CoversAll : Linkage → Bool → List (List Site) → List Member → Type 0
-CoversAll g right lists members = (m : Member) → Contains members m → chosen_at g m.position ≡ Some m.disjunct.now → CoversAt g right m.position lists (side_on right m)
+CoversAll g right lists members = (m : Member) → Contains members m → chosen_at g m.position ≡ Some (formed m.form) → CoversAt g right m.position lists (side_on right m)
 
 pub record Stands (g : Linkage) (left_lists right_lists : List (List Site)) (members : List Member) : Type 0 where
   pub chosen : AreChosen g members
@@ -126,3 +127,9 @@ pub record KeepsNeeds (old_left old_right : List (List Site)) (members : List Me
 pub record KeepsChosen (n most : ℕ) (old new : List Member) : Type 0 where
   pub left : AreLeft old new
   pub chosen : (g : Linkage) → Fits most g → length g.chosen ≡ n → AreChosen g old → AreChosen g new
+
+-- the members are those of a problem of n words
+pub record AreMembersOf (positions : List (List Disjunct)) (n : ℕ) (lefts rights : List Side) (members : List Member) : Type 0 where
+  pub is_problem : IsProblem positions
+  pub long : n ≡ length positions
+  pub all : AreMembers positions lefts rights members

@@ -11,4 +11,4 @@ mod start;
 mod table;
 
 pub use gaps::{Gaps, Ways};
-pub use problem::{sharpen, sharpened};
+pub use problem::{sharpen, sharpen_outlines, sharpened};

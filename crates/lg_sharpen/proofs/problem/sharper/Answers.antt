@@ -1,19 +1,16 @@
-use Rattle.std.proofs.Common.{length, refl, sym, subst}
-use Rattle.lg_gram.specs.Problems.{IsProblem}
-use Rattle.lg_sharpen.specs.Sharp.{IsSharpened}
-use Rattle.lg_sharpen.proofs.Pruned.{finished}
+use Rattle.std.proofs.Common.{refl, sym}
+use Rattle.lg_sharpen.proofs.Pruned.{are_members}
 use Rattle.lg_sharpen.proofs.problem.sharper.Goals as goal
 
-pub of_known-requires : goal.of_known-requires
-of_known-requires c =
-    let ps = c.positions-positions.result.now in
-    let p = finished c.rows_are_problems.ensures c.args.nulls _ (length ps) ps c.members_of.new.lefts.items c.members_of.new.rights.items c.in_ok-members.members.items c.settle.new.members.items c.deref-3.result.now c.in_ok-rows.rows refl refl
-    c.in_ok-members.ensures.members c.in_ok-settle.ensures (subst (λ z. IsProblem z) (sym c.positions-positions.ensures.value) c.positions-positions.ensures.limits) c.deref-3.ensures.value c.in_ok-rows.ensures in
-    p.is_problem
+pub left_of-requires : goal.left_of-requires
+left_of-requires c = (
+  c.args.problem.now,
+  are_members c.args.problem.now c.positions-positions.result.now _ c.members_of.new.lefts.items c.members_of.new.rights.items _ _ _ c.positions-positions.ensures.limits (sym c.positions-positions.ensures.value) refl
+      c.in_ok-members.ensures.members c.deref.ensures.value c.deref-2.ensures.value,
+)
 
 pub returns : goal.returns
 returns c =
-    let ps = c.positions-positions.result.now in
-    let p = finished c.rows_are_problems.ensures c.args.nulls _ (length ps) ps c.members_of.new.lefts.items c.members_of.new.rights.items c.in_ok-members.members.items c.settle.new.members.items c.deref-3.result.now c.in_ok-rows.rows refl refl
-    c.in_ok-members.ensures.members c.in_ok-settle.ensures (subst (λ z. IsProblem z) (sym c.positions-positions.ensures.value) c.positions-positions.ensures.limits) c.deref-3.ensures.value c.in_ok-rows.ensures in
-    subst (λ z. IsSharpened c.args.problem.now c.args.nulls z) (sym c.of_known.ensures) (subst (λ z. IsSharpened z c.args.nulls c.in_ok-rows.rows) c.positions-positions.ensures.value p)
+    c.left_of.ensures c.args.problem.now
+    (are_members c.args.problem.now c.positions-positions.result.now _ c.members_of.new.lefts.items c.members_of.new.rights.items _ _ _ c.positions-positions.ensures.limits (sym c.positions-positions.ensures.value) refl
+    c.in_ok-members.ensures.members c.deref.ensures.value c.deref-2.ensures.value)

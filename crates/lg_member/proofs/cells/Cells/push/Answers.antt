@@ -1,4 +1,4 @@
-use Rattle.std.proofs.Common.{◌≡◌, ◌<◌, length, map, set, Result, Err, Ok, OnErr, ◌∙◌, ap, sym, subst, arith}
+use Rattle.std.proofs.Common.{◌≡◌, ◌<◌, length, map, set, Result, Err, Ok, OnErr, ◌∙◌, ap, subst, arith}
 use Rattle.std.proofs.Math.Seq.{map-set_same}
 use Rattle.lg_member.specs.Cells.{Adds, cell_at, class_of}
 use Rattle.lg_member.proofs.Celling.{adds_site, tabled, items_of}

@@ -1,6 +1,0 @@
-use Rattle.std.proofs.Common.{◌≡◌, map, take}
-use Rattle.lg_disj.specs.Places.{leaf_at}
-use Rattle.lg_disj.proofs.sharing.connectors_at.Given as goal
-
-abbrev pub invariant-loop-place : goal.invariant-loop-place
-invariant-loop-place l = l.list.items ≡ map (leaf_at l.leaves) (take l.place-index l.places)
