@@ -284,17 +284,3 @@ table_added n s least old new are is added t x has =
       | inl was ↦ are t x was
       | inr (same, e) ↦ subst (λ z. IsLeast (HasUnlinked n z) x) (sym same) (subst (λ z. IsLeast (HasUnlinked n s) z) (sym e) is)
     ]
-
--- ---- what a slice of beginnings shows
-
-abbrev pub no_group : Group
-no_group = record { word = 0; left = 0; from = 0; to = 0 }
-
-pub same_groups : (n : Numbering) (gap : Gap) (word : ℕ) (xs ys : List Group) → xs ≡ ys → GroupsOfWord n gap word (length (get_or n.positions word [])) [] ys → GroupsOfWord n gap word (length (get_or n.positions word [])) [] xs
-same_groups n gap word xs ys e h = subst (λ z. GroupsOfWord n gap word (length (get_or n.positions word [])) [] z) (sym e) h
-
-abbrev pub no_beginning : Beginning
-no_beginning = record { nulls = 0; way = record { joint = None; near = 0; far = 0 } }
-
-pub same_begins : (n : Numbering) (gap : Gap) (group : Group) (xs ys : List Beginning) → xs ≡ ys → AreBeginnings n gap group 0 ys → AreBeginnings n gap group 0 xs
-same_begins n gap group xs ys e h = subst (AreBeginnings n gap group 0) (sym e) h

@@ -100,13 +100,14 @@ fn cut_at(
     ensures lowers { IfOk result (Lowers (IsCutSum lists.entry.now span (StandsAt word)) most) }
     ensures table { OnOk result (AreLeast lists.entry.now table.new) }
 {
-    let found = groups_at(alloc, lists, gap, word)?;
-    let groups = found.as_slice();
+    let spare = table.spare.take_groups(alloc);
+    let groups = groups_at(lists, gap, word, spare)?;
     let mut least = most;
     for index in 0..groups.len() {
         let group = &groups[index];
         least = cut_in(alloc, lists, table, span, gap, group, least)?;
     }
+    table.spare.keep_groups(groups);
     Ok(least)
 }
 
@@ -129,13 +130,14 @@ fn cut_in(
     ensures lowers { IfOk result (Lowers (IsCutSum lists.entry.now span (StandsIn group.now.word group.now.from group.now.to)) most) }
     ensures table { OnOk result (AreLeast lists.entry.now table.new) }
 {
-    let found = beginnings(alloc, lists, gap, group, 0)?;
-    let begins = found.as_slice();
+    let spare = table.spare.take_begins(alloc);
+    let begins = beginnings(lists, gap, group, 0, spare)?;
     let mut least = most;
     for index in 0..begins.len() {
         let begin = &begins[index];
         least = begin_with(alloc, lists, table, span, gap, group, begin, least)?;
     }
+    table.spare.keep_begins(begins);
     Ok(least)
 }
 

@@ -6,13 +6,16 @@ ghost use Rattle.lg_fewest.specs.declared.span.Span.{Span as SeenSpan};
 use crate::span::Span;
 use indexmap::IndexMap;
 use lg_base::NoMemory;
+use lg_region::Spare;
 use std::alloc::Global;
 use std::marker::Model;
 
-/// Spans, each with its least number of unlinked words, if it has a linkage. Contracts see the pairs.
+/// Spans, each with its least number of unlinked words, if it has a linkage. Contracts see the pairs. Beside them stand vectors that the
+/// search uses again.
 #[derive(Drop)]
 pub(crate) struct Table {
     found: IndexMap<Span, Option<u32>>,
+    pub(crate) spare: Spare,
 }
 
 impl Model for Table {
@@ -31,6 +34,7 @@ impl Table {
     {
         Table {
             found: IndexMap::new(alloc),
+            spare: Spare::new(alloc),
         }
     }
 

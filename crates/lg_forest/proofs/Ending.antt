@@ -1,5 +1,5 @@
 -- How the alternatives of a group end, and what is remembered of it.
-use Rattle.std.proofs.Common.{◌≡◌, ◌≢◌, ◌==◌, ◌-◌, ◌<◌, ◌≤◌, ◌⊎◌, inl, inr, ℕ, suc, true≢false, eq-eqb, refl, sym, ap, ◌∙◌, subst, List, [], ◌++◌, map, length, Some, Contains, slice_get, arith, None}
+use Rattle.std.proofs.Common.{◌≡◌, ◌≢◌, ◌==◌, ◌-◌, ◌<◌, ◌≤◌, ◌⊎◌, inl, inr, ℕ, suc, true≢false, eq-eqb, refl, sym, ap, ◌∙◌, subst, List, [], ◌++◌, map, length, Some, Contains, slice_get, arith}
 use Rattle.std.proofs.lemmas.Bool.{cases_Bool, eqb-true}
 use Rattle.std.proofs.lemmas.Option.{same_Some}
 use Rattle.std.specs.Map.{keys_of}
@@ -26,10 +26,6 @@ use Rattle.lg_forest.specs.declared.halves.Half.{Half}
 use Rattle.lg_forest.proofs.Among.{Among, alt_in, alt_out, among_all, among_next, among_none, ending_left, from_none}
 use Rattle.lg_forest.proofs.Asked.{asked_as, asked_same, asked_then, part_narrow}
 use Rattle.lg_forest.proofs.Once.{contains_at, contains_map, map_found, map_once}
-
--- what is read where nothing is
-abbrev pub no_right : Right
-no_right = record { disjunct = 0; way = record { joint = None; near = 0; far = 0 } }
 
 abbrev Entries : Type 0
 Entries = List (Key × List Alt)

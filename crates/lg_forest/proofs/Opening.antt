@@ -1,5 +1,5 @@
 -- Openings: how they begin, grow and are kept, and what they tell of a region.
-use Rattle.std.proofs.Common.{◌≡◌, ◌↔◌, ℕ, ◌+◌, ◌<◌, ◌≤◌, ◌⊎◌, inl, inr, refl, sym, ap, ◌∙◌, subst, List, [], Some, None, Option, IfSome, Contains, slice_get, arith, length, get_or}
+use Rattle.std.proofs.Common.{◌≡◌, ◌↔◌, ℕ, ◌+◌, ◌<◌, ◌≤◌, ◌⊎◌, inl, inr, refl, sym, ap, ◌∙◌, subst, List, [], Some, None, Option, IfSome, Contains, slice_get, arith}
 use Rattle.std.proofs.lemmas.Bool.{cases_lt}
 use Rattle.std.proofs.lemmas.List.Elements.{Contains-append_left, Contains-append_right, Contains-append_cases}
 use Rattle.std.specs.Map.{keys_of}
@@ -10,7 +10,7 @@ use Rattle.lg_region.specs.Chains.{class_at}
 use Rattle.lg_region.specs.Groups.{HaveLeft, IsNextLed, StandsBefore, StandsIn, left_lead}
 use Rattle.lg_region.specs.Keys.{IsAltOf}
 use Rattle.lg_region.specs.declared.chains.Side.TheVariants.{Right}
-use Rattle.lg_region.specs.Openings.{AreBeginnings, BeginsSo, GroupsOfWord, IsKeyOfGap, LeavesLeft, left_of}
+use Rattle.lg_region.specs.Openings.{BeginsSo, IsKeyOfGap, LeavesLeft, left_of}
 use Rattle.lg_region.specs.declared.key.Key.{Key}
 use Rattle.lg_region.specs.declared.key.Key.TheVariants.{Whole, Region as Between}
 use Rattle.lg_region.specs.declared.alternative.Alt.{Alt}
@@ -37,19 +37,6 @@ use Rattle.lg_forest.proofs.Once.{contains_at, contains_none}
 
 abbrev Entries : Type 0
 Entries = List (Key × List Alt)
-
--- what is read where nothing is
-abbrev pub no_beginning : Beginning
-no_beginning = record { nulls = 0; way = record { joint = None; near = 0; far = 0 } }
-
-abbrev pub no_group : Group
-no_group = record { word = 0; left = 0; from = 0; to = 0 }
-
-pub same_begins : (n : Numbering) (gap : Gap) (group : Group) (nulls : ℕ) (xs ys : List Beginning) → xs ≡ ys → AreBeginnings n gap group nulls ys → AreBeginnings n gap group nulls xs
-same_begins n gap group nulls xs ys e h = subst (AreBeginnings n gap group nulls) (sym e) h
-
-pub same_groups : (n : Numbering) (gap : Gap) (word : ℕ) (xs ys : List Group) → xs ≡ ys → GroupsOfWord n gap word (length (get_or n.positions word [])) [] ys → GroupsOfWord n gap word (length (get_or n.positions word [])) [] xs
-same_groups n gap word xs ys e h = subst (λ z. GroupsOfWord n gap word (length (get_or n.positions word [])) [] z) (sym e) h
 
 -- ---- a table that only grew
 

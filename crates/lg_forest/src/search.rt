@@ -15,7 +15,7 @@ use crate::known::Known;
 use crate::memory::Memory;
 use crate::table::Table;
 use lg_base::{NoMemory, Steps};
-use lg_region::{Alts, Key, Lists, gap_of};
+use lg_region::{Alts, Key, Lists, Spare, gap_of};
 use std::alloc::Global;
 
 /// What the search has found: the keys that were asked for, and what it remembers beside them.
@@ -24,6 +24,7 @@ pub(crate) struct Search {
     alloc: Global,
     table: Table,
     memory: Memory,
+    spare: Spare,
 }
 
 impl Search {
@@ -41,6 +42,7 @@ impl Search {
             alloc,
             table,
             memory,
+            spare: Spare::new(alloc),
         }
     }
 

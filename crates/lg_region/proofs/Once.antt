@@ -1,5 +1,5 @@
 -- Lists that have the values of a predicate, each once.
-use Rattle.std.proofs.Common.{◌≡◌, ◌↔◌, ℕ, zero, suc, ◌+◌, ◌<◌, ◌≤◌, List, [], ◌∷◌, ◌++◌, length, map, get_or, refl, sym, ◌∙◌, ap, subst, Some, ◌⊎◌, inl, inr, Contains, arith, append_assoc, append-nil, Result, Ok, Err, OnOk, IfOk, Bool, cond}
+use Rattle.std.proofs.Common.{◌≡◌, ◌↔◌, ℕ, zero, suc, ◌+◌, ◌<◌, ◌≤◌, List, [], ◌∷◌, ◌++◌, length, map, get_or, refl, sym, ◌∙◌, ap, subst, Some, ◌⊎◌, inl, inr, Contains, arith, append_assoc, append-nil, Result, Ok, Err, OnOk, IfOk}
 use Rattle.std.specs.List.{flat_map, slice_get}
 use Rattle.std.proofs.lemmas.Bool.{cases_lt}
 use Rattle.std.proofs.lemmas.List.Elements.{Contains-append_left, Contains-append_right, Contains-append_cases}

@@ -84,9 +84,8 @@ fn push_word(
     requires before { word < gap.now.right }
     ensures { OnOk result (AddsIn lists.entry.now gap.now word 0 (length (slice_index_or lists.entry.now.positions word [])) out.old.items out.new.items) }
 {
-    let found = groups_at(alloc, lists, gap, word)?;
-    let groups = found.as_slice();
-    for group in groups {
+    let groups = groups_at(lists, gap, word, Vec::new(alloc))?;
+    for group in groups.iter() {
         push_group(alloc, lists, gap, group, out)?;
     }
     Ok(())
@@ -105,10 +104,9 @@ fn push_group(
     ensures { OnOk result (AddsIn lists.entry.now gap.now group.now.word group.now.from group.now.to out.old.items out.new.items) }
 {
     lists.are_numbered();
-    let found = rights(alloc, lists, gap, group)?;
-    let rights = found.as_slice();
+    let rights = rights(lists, gap, group, Vec::new(alloc))?;
     for nulls in 0..gap.nulls + 1 {
-        push_level(alloc, lists, gap, group, nulls, rights, out)?;
+        push_level(alloc, lists, gap, group, nulls, &rights, out)?;
     }
     Ok(())
 }
@@ -129,9 +127,8 @@ fn push_level(
     ensures { OnOk result (AddsExactly out.old.items out.new.items (λ a. IsIn lists.entry.now gap.now group.now a × LeavesLeft nulls a)) }
 {
     lists.are_numbered();
-    let found = beginnings(alloc, lists, gap, group, nulls)?;
-    let begins = found.as_slice();
-    for begin in begins {
+    let begins = beginnings(lists, gap, group, nulls, Vec::new(alloc))?;
+    for begin in begins.iter() {
         push_ended(gap, group, begin, rights, out)?;
     }
     Ok(())

@@ -10,8 +10,6 @@ use crate::key::Key;
 use crate::lists::Lists;
 use crate::ways::{OnWay, Way, push_ways};
 use lg_base::NoMemory;
-use smallvec::SmallVec;
-use std::alloc::Global;
 
 /// The class of the disjuncts that can cut a region, on the side of the list that decides.
 #[derive(Clone, Copy, Debug)]
@@ -33,7 +31,7 @@ pub struct Gap {
 
 /// Disjuncts of a word, from one number up to another, of which those that can cut the region have the same left list, by its
 /// number.
-#[derive(Clone, Copy, Debug, Default)]
+#[derive(Clone, Copy, Debug)]
 pub struct Group {
     pub word: u32,
     pub left: u32,
@@ -42,7 +40,7 @@ pub struct Group {
 }
 
 /// A disjunct of a word by its number, and how its right list goes on.
-#[derive(Clone, Copy, Debug, Default)]
+#[derive(Clone, Copy, Debug)]
 pub struct Right {
     pub disjunct: u32,
     pub way: Way,
@@ -58,9 +56,6 @@ impl OnWay for Right {
         }
     }
 }
-
-/// Disjuncts with their ways on, of which most groups have few.
-pub type Rights = SmallVec<Right, 8>;
 
 impl Right {
     /// The right key of an alternative that cuts the region at the word of the group with this disjunct, and leaves so many words
@@ -126,18 +121,19 @@ pub(crate) fn group_at(lists: &Lists<'_>, gap: &Gap, word: u32, from: u32) -> Gr
 }
 
 /// The disjuncts of the group that can cut the region, with each way on of their right lists. They are the same for each region that
-/// ends here with the same list and looks for the same class of disjuncts.
+/// ends here with the same list and looks for the same class of disjuncts. They stand in this vector, and what it has is gone.
 pub fn rights(
-    alloc: Global,
     lists: &Lists<'_>,
     gap: &Gap,
     group: &Group,
-) -> Result<Rights, NoMemory>
+    spare: Vec<Right>,
+) -> Result<Vec<Right>, NoMemory>
     requires gap { IsKnownGap lists.now gap.now }
     requires group { IsGroup lists.now gap.now group.now }
     ensures { IfOk result (λ rights. AreExactly rights.items (IsRightOf lists.entry.now gap.now group.now)) }
 {
-    let mut rights = Rights::new(alloc);
+    let mut rights = spare;
+    rights.clear();
     let mut number = group.from;
     while number < group.to {
         let sides = lists.sides(group.word, number);

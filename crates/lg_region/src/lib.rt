@@ -15,11 +15,12 @@ mod matching;
 mod numbering;
 pub mod opening;
 mod small;
+pub mod spare;
 pub mod ways;
 
 pub use alternative::{Alt, Alts};
 pub use expand::expand_key;
-pub use group::{Gap, Group, Right, Rights, rights};
+pub use group::{Gap, Group, Right, rights};
 pub use key::{Joint, Key};
 pub use law::{
     alternatives_are_small, alternatives_decide, alternatives_end, cuts_are_valid,
@@ -28,6 +29,6 @@ pub use law::{
 };
 pub use lists::Lists;
 pub use opening::{
-    Beginning, Beginnings, Groups, Origin, beginnings, end_with, gap_of, groups_at, origin_of,
-    push_ended, push_endings,
+    Beginning, Origin, beginnings, end_with, gap_of, groups_at, origin_of, push_ended, push_endings,
 };
+pub use spare::Spare;

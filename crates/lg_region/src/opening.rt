@@ -14,7 +14,6 @@ use crate::key::Key;
 use crate::lists::Lists;
 use crate::ways::{OnWay, Way, has_way, push_ways};
 use lg_base::NoMemory;
-use smallvec::SmallVec;
 use std::alloc::Global;
 
 /// How regions begin that begin alike: the left end, the number of its list, and how many words are unlinked to the left of the
@@ -30,7 +29,7 @@ pub struct Origin {
 
 /// How the alternatives of a group begin that have one left key: how the two left lists go on, and how many words are unlinked on
 /// the left.
-#[derive(Clone, Copy, Debug, Default)]
+#[derive(Clone, Copy, Debug)]
 pub struct Beginning {
     pub nulls: u32,
     pub way: Way,
@@ -43,12 +42,6 @@ impl OnWay for Beginning {
         Beginning { nulls, way }
     }
 }
-
-/// Groups, of which most words have few.
-pub type Groups = SmallVec<Group, 4>;
-
-/// Beginnings, of which most groups have few.
-pub type Beginnings = SmallVec<Beginning, 4>;
 
 impl Beginning {
     /// The left key.
@@ -133,21 +126,33 @@ pub fn end_with(gap: &Gap, nulls: u32) -> u32
     gap.right.saturating_sub(gap.nulls - nulls)
 }
 
-/// The groups of a region at one of its words: each alternative that cuts it there stands in exactly one.
-pub fn groups_at(alloc: Global, lists: &Lists<'_>, gap: &Gap, word: u32) -> Result<Groups, NoMemory>
+/// The groups of a region at one of its words: each alternative that cuts it there stands in exactly one. They stand in this vector, and what
+/// it has is gone.
+pub fn groups_at(
+    lists: &Lists<'_>,
+    gap: &Gap,
+    word: u32,
+    spare: Vec<Group>,
+) -> Result<Vec<Group>, NoMemory>
     requires known { IsKnownGap lists.now gap.now }
     requires after { gap.now.left < word }
     requires before { word < gap.now.right }
     requires within { gap.now.right ≤ length lists.now.positions }
     ensures { IfOk result (λ groups. GroupsOfWord lists.entry.now gap.now word (length (slice_index_or lists.entry.now.positions word [])) [] groups.items) }
 {
-    let mut groups = Groups::new(alloc);
+    let mut groups = spare;
+    groups.clear();
     push_groups(lists, gap, word, &mut groups)?;
     Ok(groups)
 }
 
 // Adds the groups of a word.
-fn push_groups(lists: &Lists<'_>, gap: &Gap, word: u32, groups: &mut Groups) -> Result<(), NoMemory>
+fn push_groups(
+    lists: &Lists<'_>,
+    gap: &Gap,
+    word: u32,
+    groups: &mut Vec<Group>,
+) -> Result<(), NoMemory>
     requires known { IsKnownGap lists.now gap.now }
     requires after { gap.now.left < word }
     requires before { word < gap.now.right }
@@ -164,20 +169,22 @@ fn push_groups(lists: &Lists<'_>, gap: &Gap, word: u32, groups: &mut Groups) -> 
     Ok(())
 }
 
-/// How the alternatives of a group begin that leave so many words unlinked on the left, each way once, and no other.
+/// How the alternatives of a group begin that leave so many words unlinked on the left, each way once, and no other. They stand in this
+/// vector, and what it has is gone.
 pub fn beginnings(
-    alloc: Global,
     lists: &Lists<'_>,
     gap: &Gap,
     group: &Group,
     nulls: u32,
-) -> Result<Beginnings, NoMemory>
+    spare: Vec<Beginning>,
+) -> Result<Vec<Beginning>, NoMemory>
     requires gap { IsKnownGap lists.now gap.now }
     requires group { IsGroup lists.now gap.now group.now }
     ensures { IfOk result (λ begins. AreBeginnings lists.entry.now gap.now group.now nulls begins.items) }
 {
     lists.are_numbered();
-    let mut begins = Beginnings::new(alloc);
+    let mut begins = spare;
+    begins.clear();
     let room = has_room(gap, group.word, nulls);
     if !room {
         return Ok(begins);
@@ -242,8 +249,8 @@ pub fn push_endings(
     ensures endings { OnOk result (AddsExactly out.old.items out.new.items (λ a. IsAltOfRegion lists.entry.now.positions lists.entry.now.lists (region_of_gap lists.entry.now.lists gap.now) a × StandsIn group.now.word group.now.from group.now.to a × BeginsSo gap.now group.now begin.now a)) }
 {
     lists.are_numbered();
-    let rights = rights(alloc, lists, gap, group)?;
-    push_ended(gap, group, begin, rights.as_slice(), out)
+    let rights = rights(lists, gap, group, Vec::new(alloc))?;
+    push_ended(gap, group, begin, &rights, out)
 }
 
 /// Adds the alternatives of a group that begin so and go on with these disjuncts. The only error is running out of memory: what the

@@ -6,12 +6,9 @@ ghost use Rattle.lg_region.specs.declared.ways.Way.{Way as SeenWay};
 use crate::key::Joint;
 use crate::lists::Lists;
 use lg_base::NoMemory;
-use smallvec::SmallVec;
-use std::alloc::Global;
-use std::default::MadeWith;
 
 /// The joint between the last connectors of two lists, or none, and the numbers of the lists behind it.
-#[derive(Clone, Copy, Debug, Default)]
+#[derive(Clone, Copy, Debug)]
 pub struct Way {
     pub joint: Option<Joint>,
     pub near: u32,
@@ -84,13 +81,13 @@ pub(crate) fn has_way(lists: &Lists<'_>, near: u32, far: u32, apart: bool) -> bo
 
 /// Adds what is made of the ways on of two lists, each once: with a joint where their last connectors match, and, where `apart` is
 /// true, without one.
-pub(crate) fn push_ways<T: OnWay + MadeWith<Global>, const N: usize>(
+pub(crate) fn push_ways<T: OnWay>(
     lists: &Lists<'_>,
     number: u32,
     near: u32,
     far: u32,
     apart: bool,
-    out: &mut SmallVec<T, N>,
+    out: &mut Vec<T>,
 ) -> Result<(), NoMemory>
     requires near { near ≤ length lists.now.lists }
     requires far { far ≤ length lists.now.lists }
@@ -110,12 +107,12 @@ pub(crate) fn push_ways<T: OnWay + MadeWith<Global>, const N: usize>(
 }
 
 // The ways on with a joint.
-fn push_joints<T: OnWay + MadeWith<Global>, const N: usize>(
+fn push_joints<T: OnWay>(
     lists: &Lists<'_>,
     number: u32,
     near: u32,
     far: u32,
-    out: &mut SmallVec<T, N>,
+    out: &mut Vec<T>,
 ) -> Result<(), NoMemory>
     requires near { near ≤ length lists.now.lists }
     requires far { far ≤ length lists.now.lists }
@@ -133,11 +130,11 @@ fn push_joints<T: OnWay + MadeWith<Global>, const N: usize>(
     push_joined(number, &first, &second, out)
 }
 
-fn push_joined<T: OnWay + MadeWith<Global>, const N: usize>(
+fn push_joined<T: OnWay>(
     number: u32,
     near: &End,
     far: &End,
-    out: &mut SmallVec<T, N>,
+    out: &mut Vec<T>,
 ) -> Result<(), NoMemory>
     ensures { OnOk result (out.new.items ≡ out.old.items ++ map (T.on number) (joined_ways near.now far.now)) }
 {
@@ -152,12 +149,12 @@ fn push_joined<T: OnWay + MadeWith<Global>, const N: usize>(
     Ok(())
 }
 
-fn push_with<T: OnWay + MadeWith<Global>, const N: usize>(
+fn push_with<T: OnWay>(
     number: u32,
     joint: Joint,
     near: u32,
     rests: &[u32],
-    out: &mut SmallVec<T, N>,
+    out: &mut Vec<T>,
 ) -> Result<(), NoMemory>
     ensures { OnOk result (out.new.items ≡ out.old.items ++ map (T.on number) (map (way_of joint near) rests.now)) }
 {

@@ -12,7 +12,7 @@ use super::Search;
 use crate::halves::Half;
 use crate::openings::Start;
 use lg_base::{NoMemory, Steps};
-use lg_region::{Alt, Gap, Lists, Rights, alternatives_end, push_ended, rights};
+use lg_region::{Alt, Gap, Lists, Right, alternatives_end, push_ended, rights};
 
 impl Search {
     // Adds the live alternatives that start so, where their left key has a linkage: those whose right key has one too.
@@ -45,12 +45,14 @@ impl Search {
             return push_ended(gap, &start.group, &start.begin, rights, live);
         }
         let found = self.explore_rights(lists, gap, start, nulls, steps)?;
-        let rights = found.as_slice();
-        if rights.is_empty() {
+        if found.is_empty() {
+            self.spare.keep_rights(found);
             return self.memory.shut.add(&half);
         }
-        push_ended(gap, &start.group, &start.begin, rights, live)?;
-        self.memory.halves.put(half, rights)
+        push_ended(gap, &start.group, &start.begin, &found, live)?;
+        self.memory.halves.put(half, &found)?;
+        self.spare.keep_rights(found);
+        Ok(())
     }
 
     // The disjuncts of the group of a start whose right key has a linkage, with so many words unlinked behind their word.
@@ -62,7 +64,7 @@ impl Search {
         start: &Start,
         nulls: u32,
         steps: &mut Steps<L>,
-    ) -> Result<Rights, NoMemory>
+    ) -> Result<Vec<Right>, NoMemory>
         requires ready { IsReady lists.now (gap_width gap.now) self.old steps.old }
         requires gap { IsValidGap lists.now gap.now }
         requires start { IsStart lists.now gap.now start.now }
@@ -73,9 +75,10 @@ impl Search {
     {
         alternatives_end();
         lists.are_numbered();
-        let found = rights(self.alloc, lists, gap, &start.group)?;
-        let all = found.as_slice();
-        let mut live = Rights::new(self.alloc);
+        let spare = self.spare.take_rights(self.alloc);
+        let all = rights(lists, gap, &start.group, spare)?;
+        let mut live = self.spare.take_rights(self.alloc);
+        live.clear();
         for index in 0..all.len() {
             let right = &all[index];
             let rkey = right.key(gap, &start.group, nulls);
@@ -83,6 +86,7 @@ impl Search {
                 live.push(*right)?;
             }
         }
+        self.spare.keep_rights(all);
         Ok(live)
     }
 }

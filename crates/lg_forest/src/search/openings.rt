@@ -163,12 +163,13 @@ impl Search {
         ensures later { steps.old ≤ steps.new }
     {
         lists.keep_limits();
-        let found = groups_at(self.alloc, lists, gap, word)?;
-        let groups = found.as_slice();
+        let spare = self.spare.take_groups(self.alloc);
+        let groups = groups_at(lists, gap, word, spare)?;
         for index in 0..groups.len() {
             let group = &groups[index];
             self.open_group(lists, gap, group, nulls, &mut opening.starts, steps)?;
         }
+        self.spare.keep_groups(groups);
         opening.done = word + 1;
         Ok(())
     }
@@ -191,8 +192,8 @@ impl Search {
         ensures goes { let n = lists.entry.now in OnOk result (Goes n (AsksLeft n (key_of gap.now) nulls (StandsIn group.now.word group.now.from group.now.to)) 0 self.old steps.old self.new steps.new) }
         ensures later { steps.old ≤ steps.new }
     {
-        let found = beginnings(self.alloc, lists, gap, group, nulls)?;
-        let begins = found.as_slice();
+        let spare = self.spare.take_begins(self.alloc);
+        let begins = beginnings(lists, gap, group, nulls, spare)?;
         for index in 0..begins.len() {
             let begin = &begins[index];
             let lkey = begin.key(gap, group);
@@ -203,6 +204,7 @@ impl Search {
                 })?;
             }
         }
+        self.spare.keep_begins(begins);
         Ok(())
     }
 }

@@ -1,9 +1,8 @@
-use Rattle.std.proofs.Common.{◌+◌, ◌∙◌, refl, sym, subst, get_or, arith, rules}
-use Rattle.std.proofs.lemmas.Option.{slice_get-get_or}
+use Rattle.std.proofs.Common.{◌+◌, ◌∙◌, refl, sym, subst, arith, rules}
 use Rattle.lg_region.specs.Keys.{IsValidKey}
 use Rattle.lg_region.specs.Openings.{IsGapOf}
 use Rattle.lg_fewest.specs.Spans.{HasUnlinked, IsEnding, span_before}
-use Rattle.lg_fewest.specs.Least.{IsLeast}
+use Rattle.lg_fewest.specs.Least.{AreLeast, IsLeast}
 use Rattle.lg_fewest.proofs.Cutting as cut
 use Rattle.lg_fewest.proofs.search.+search.Goals as goal
 
@@ -67,60 +66,63 @@ cut_at-groups_at-requires-clause-within t c = c.requires.gap.within
 
 pub cut_at-loop-index-init : goal.cut_at-loop-index-init
 cut_at-loop-index-init t c = record {
-  lowers = cut.sums_none c.args.lists.now c.args.span _ c.args.most (cut.among_none cut.In c.as_slice-groups.result.now);
-  table = c.requires.table;
+  lowers = cut.sums_none c.args.lists.now c.args.span _ c.args.most (cut.among_none cut.In c.in_ok-groups.groups.items);
+  table = subst (AreLeast c.args.lists.now) (sym c.table.view_is) c.requires.table;
 }
 
 pub cut_at-cut_in-requires : goal.cut_at-cut_in-requires
 cut_at-cut_in-requires t c =
-    let gs = c.as_slice-groups.result.now in
+    let gs = c.in_ok-groups.groups.items in
+    let i = c.loop-index.index in
     let test = c.loop-index-test.true in
-    let at = slice_get-get_or gs c.loop-index.index cut.no_group (omega arith) in
-    let is = cut.group_is c.args.lists.now c.args.span c.args.gap.now c.requires.gap c.args.word gs (cut.same_groups c.args.lists.now c.args.gap.now c.args.word _ _ c.as_slice-groups.ensures c.in_ok-found.ensures) c.loop-index.index (get_or gs c.loop-index.index cut.no_group) at in
+    let at = cut.at_of gs i c.index-group.result.now (omega arith) c.index-group.ensures in
+    let is = cut.group_is c.args.lists.now c.args.span c.args.gap.now c.requires.gap c.args.word gs c.in_ok-groups.ensures i c.index-group.result.now at in
     (search rules, (c.requires.law, (c.requires.span, (c.requires.gap, (is, c.loop-index.invariant.table)))))
 
 pub cut_at-loop-index-preserved : goal.cut_at-loop-index-preserved
 cut_at-loop-index-preserved t c =
-    let gs = c.as_slice-groups.result.now in
+    let gs = c.in_ok-groups.groups.items in
     let i = c.loop-index.index in
+    let g = c.index-group.result.now in
     let test = c.loop-index-test.true in
-    let at = slice_get-get_or gs i cut.no_group (omega arith) in
+    let at = cut.at_of gs i g (omega arith) c.index-group.ensures in
     record {
-      lowers = cut.sums_then c.args.lists.now c.args.span (cut.Among cut.In gs i) (cut.In (get_or gs c.loop-index.index cut.no_group)) (cut.Among cut.In gs (i + 1)) c.args.most _ _ (cut.among_next cut.In gs i (i + 1) (get_or gs c.loop-index.index cut.no_group) refl at)
+      lowers = cut.sums_then c.args.lists.now c.args.span (cut.Among cut.In gs i) (cut.In g) (cut.Among cut.In gs (i + 1)) c.args.most _ _ (cut.among_next cut.In gs i (i + 1) g refl at)
           c.loop-index.invariant.lowers c.in_ok-least.ensures.lowers;
       table = c.in_ok-least.ensures.table;
     }
 
 pub cut_at-returns-clause-lowers : goal.cut_at-returns-clause-lowers
 cut_at-returns-clause-lowers t c =
-    let gs = c.as_slice-groups.result.now in
+    let gs = c.in_ok-groups.groups.items in
     let test = c.loop-index-test.false in
-    cut.groups_all c.args.lists.now c.args.span c.args.gap.now c.requires.gap c.args.word gs (cut.same_groups c.args.lists.now c.args.gap.now c.args.word _ _ c.as_slice-groups.ensures c.in_ok-found.ensures) c.loop-index.index c.args.most c.loop-index.least (omega arith) c.loop-index.invariant.lowers
+    cut.groups_all c.args.lists.now c.args.span c.args.gap.now c.requires.gap c.args.word gs c.in_ok-groups.ensures c.loop-index.index c.args.most c.loop-index.least (omega arith) c.loop-index.invariant.lowers
 
 -- ---- beginning by beginning
 
 pub cut_in-loop-index-init : goal.cut_in-loop-index-init
 cut_in-loop-index-init t c = record {
-  lowers = cut.sums_none c.args.lists.now c.args.span _ c.args.most (cut.among_none (IsEnding c.args.gap.now c.args.group.now) c.as_slice-begins.result.now);
-  table = c.requires.table;
+  lowers = cut.sums_none c.args.lists.now c.args.span _ c.args.most (cut.among_none (IsEnding c.args.gap.now c.args.group.now) c.in_ok-begins.begins.items);
+  table = subst (AreLeast c.args.lists.now) (sym c.table.view_is) c.requires.table;
 }
 
 pub cut_in-begin_with-requires : goal.cut_in-begin_with-requires
 cut_in-begin_with-requires t c =
-    let bs = c.as_slice-begins.result.now in
+    let bs = c.in_ok-begins.begins.items in
     let i = c.loop-index.index in
+    let b = c.index-begin.result.now in
     let test = c.loop-index-test.true in
-    let at = slice_get-get_or bs i cut.no_beginning (omega arith) in
-    let of = (cut.same_begins c.args.lists.now c.args.gap.now c.args.group.now _ _ c.as_slice-begins.ensures c.in_ok-found.ensures).each (get_or bs i cut.no_beginning) (cut.contains_at bs i (get_or bs i cut.no_beginning) at) in
+    let at = cut.at_of bs i b (omega arith) c.index-begin.ensures in
+    let of = c.in_ok-begins.ensures.each b (cut.contains_at bs i b at) in
     (search rules, (c.requires.law, (c.requires.span, (c.requires.gap, (c.requires.group, (of, c.loop-index.invariant.table))))))
 
 pub cut_in-loop-index-preserved : goal.cut_in-loop-index-preserved
 cut_in-loop-index-preserved t c =
-    let bs = c.as_slice-begins.result.now in
+    let bs = c.in_ok-begins.begins.items in
     let i = c.loop-index.index in
+    let b = c.index-begin.result.now in
     let test = c.loop-index-test.true in
-    let b = get_or bs i cut.no_beginning in
-    let at = slice_get-get_or bs i cut.no_beginning (omega arith) in
+    let at = cut.at_of bs i b (omega arith) c.index-begin.ensures in
     record {
       lowers = cut.sums_then c.args.lists.now c.args.span (cut.Among (IsEnding c.args.gap.now c.args.group.now) bs i) (IsEnding c.args.gap.now c.args.group.now b) (cut.Among (IsEnding c.args.gap.now c.args.group.now) bs (i + 1)) c.args.most _ _
           (cut.among_next (IsEnding c.args.gap.now c.args.group.now) bs i (i + 1) b refl at) c.loop-index.invariant.lowers c.in_ok-least.ensures.lowers;
@@ -129,10 +131,9 @@ cut_in-loop-index-preserved t c =
 
 pub cut_in-returns-clause-lowers : goal.cut_in-returns-clause-lowers
 cut_in-returns-clause-lowers t c =
-    let bs = c.as_slice-begins.result.now in
+    let bs = c.in_ok-begins.begins.items in
     let test = c.loop-index-test.false in
-    cut.begins_all c.args.lists.now c.args.span c.args.gap.now c.requires.gap c.args.group.now bs (cut.same_begins c.args.lists.now c.args.gap.now c.args.group.now _ _ c.as_slice-begins.ensures c.in_ok-found.ensures)
-    c.loop-index.index c.args.most c.loop-index.least (omega arith) c.loop-index.invariant.lowers
+    cut.begins_all c.args.lists.now c.args.span c.args.gap.now c.requires.gap c.args.group.now bs c.in_ok-begins.ensures c.loop-index.index c.args.most c.loop-index.least (omega arith) c.loop-index.invariant.lowers
 
 pub begin_with-least-requires : goal.begin_with-least-requires
 begin_with-least-requires t c =

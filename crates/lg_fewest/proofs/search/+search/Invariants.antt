@@ -44,14 +44,14 @@ invariant-least_cut-loop-word l = record {
 -- in the groups so far
 abbrev pub invariant-cut_at-loop-index : goal.invariant-cut_at-loop-index
 invariant-cut_at-loop-index l = record {
-  lowers : Lowers (IsCutSum l.lists l.span (Among In l.groups l.index)) l.fn.most l.least;
+  lowers : Lowers (IsCutSum l.lists l.span (Among In l.groups.items l.index)) l.fn.most l.least;
   table : AreLeast l.lists l.table;
 }
 
 -- with the beginnings so far
 abbrev pub invariant-cut_in-loop-index : goal.invariant-cut_in-loop-index
 invariant-cut_in-loop-index l = record {
-  lowers : Lowers (IsCutSum l.lists l.span (Among (IsEnding l.gap l.group) l.begins l.index)) l.fn.most l.least;
+  lowers : Lowers (IsCutSum l.lists l.span (Among (IsEnding l.gap l.group) l.begins.items l.index)) l.fn.most l.least;
   table : AreLeast l.lists l.table;
 }
 

@@ -6,7 +6,7 @@ pub loop-number-init : goal.loop-number-init
 loop-number-init c = record {
   later = omega arith;
   led = c.requires.group.first;
-  rights = rights_none c.args.lists.now c.args.gap.now c.args.group.now c.new-rights.result.items c.new-rights.ensures.items;
+  rights = rights_none c.args.lists.now c.args.gap.now c.args.group.now _ (search rules);
 }
 
 pub loop-number-preserved : goal.loop-number-preserved
@@ -49,4 +49,4 @@ push_ways-requires c =
     let a = c.loop-number-test.true in
     let b = c.requires.group.listed in
     let l : c.loop-number.number < length (get_or c.args.lists.now.positions c.args.group.now.word []) = omega arith in
-    (search rules, (right_known c.args.lists.now c.args.group.now.word c.loop-number.number c.sides-sides.result l c.sides-sides.ensures, c.requires.gap.rlist))
+    record { near = right_known c.args.lists.now c.args.group.now.word c.loop-number.number c.sides-sides.result l c.sides-sides.ensures; far = c.requires.gap.rlist }

@@ -10,7 +10,7 @@ returns-then-not-room c =
     (λ a h l. let q = c.has_room-room.ensures.1 (room_of n gap g _ c.requires.group refl c.are_numbered.ensures c.requires.gap.llist c.requires.gap.led c.args.nulls a h l) in
     let e = c.if-not-room.true in
     absurd cc)
-    c.new-begins.result.items c.new-begins.ensures.items
+    c.clear.new.self.items c.clear.ensures.items
 
 pub returns-then-not-found : goal.returns-then-not-found
 returns-then-not-found c =
@@ -20,12 +20,12 @@ returns-then-not-found c =
     let t = c.has_right-found.ensures.1 q.4 in
     let e = c.if-not-found.true in
     absurd cc)
-    c.new-begins.result.items c.new-begins.ensures.items
+    c.clear.new.self.items c.clear.ensures.items
 
 pub returns : goal.returns
 returns c =
     let n = c.args.lists.now in let gap = c.args.gap.now in let g = c.args.group.now in
     let pushed = c.in_ok-push_ways.ensures in
-    subst (λ z. AreBeginnings n gap g c.args.nulls z) (sym (pushed.added ∙ ap (λ z. z ++ map (begins_at c.args.nulls) pushed.ways) c.new-begins.ensures.items))
+    subst (λ z. AreBeginnings n gap g c.args.nulls z) (sym (pushed.added ∙ ap (λ z. z ++ map (begins_at c.args.nulls) pushed.ways) c.clear.ensures.items))
     (begins_are n gap g _ c.requires.group refl c.are_numbered.ensures c.requires.gap.llist c.requires.gap.led pushed.ways c.args.nulls pushed.exactly
     (c.has_right-found.ensures.0 c.if-not-found.false) (c.has_room-room.ensures.0 c.if-not-room.false))

@@ -19,7 +19,7 @@ loop-from-preserved c =
     record {
       led = c.group_at-group.ensures.led;
       added = groups_more c.args.lists.now c.args.gap.now c.args.word g.left c.loop-from.from g.to c.args.groups.now.items c.loop-from.groups.items c.push.new.self.items (omega arith)
-          (subst (IsGroup c.args.lists.now c.args.gap.now) is c.group_at-group.ensures.group) c.loop-from.invariant.added (c.in_ok-push.ensures.ok ∙ ap (λ h. c.loop-from.groups.items ++ h ∷ []) is);
+          (subst (IsGroup c.args.lists.now c.args.gap.now) is c.group_at-group.ensures.group) c.loop-from.invariant.added (c.in_ok-push.ensures.items ∙ ap (λ h. c.loop-from.groups.items ++ h ∷ []) is);
     }
 
 pub returns : goal.returns

@@ -12,7 +12,7 @@ returns g c =
     let lists = c.args.lists.now in
     -- the way without a joint stands there where it may
     let start : c.if-apart.out.items ≡ old ++ map make (plain_ways c.args.apart near far) = elim c.if-apart.branch [
-      | then-apart+in_ok-push w ↦ plain_added c.args.apart true near far make old c.if-apart.out.items w.if-apart.true (ap (λ v. v.items) w.out-is ∙ w.in_ok-push.ensures.ok ∙ ap (λ z. old ++ z ∷ []) w.on.ensures)
+      | then-apart+in_ok-push w ↦ plain_added c.args.apart true near far make old c.if-apart.out.items w.if-apart.true (ap (λ v. v.items) w.out-is ∙ w.in_ok-push.ensures.items ∙ ap (λ z. old ++ z ∷ []) w.on.ensures)
       | else-apart w ↦ plain_added c.args.apart false near far make old c.if-apart.out.items w.if-apart.false (ap (λ v. v.items) w.out-is ∙ sym (append-nil old))
     ] in
     ways_added lists.positions lists.lists near far make old c.if-apart.out.items c.push_joints.new.out.items c.args.apart c.are_numbered.ensures c.requires.near c.requires.far start c.in_ok-push_joints.ensures

@@ -1,6 +1,5 @@
-use Rattle.std.proofs.Common.{inl, inr, refl, [], List, ◌≡◌, ◌↔◌, ◌+◌, ◌-◌, ◌<◌, ◌≤◌, ◌∙◌, true≢false, Option, subst, sym, ap, Some, IsTrue, IfOk, MatchOption, OnOk, IfSome, length, take, slice_get, get_or, Contains, map, append-nil, eqb-true, arith, rules}
+use Rattle.std.proofs.Common.{inl, inr, refl, [], List, ◌≡◌, ◌↔◌, ◌+◌, ◌-◌, ◌<◌, ◌≤◌, ◌∙◌, true≢false, Option, subst, sym, ap, Some, IsTrue, IfOk, MatchOption, OnOk, IfSome, length, take, slice_get, Contains, map, append-nil, eqb-true, arith, rules}
 use Rattle.std.proofs.lemmas.List.{nil_from_length}
-use Rattle.std.proofs.lemmas.Option.{slice_get-get_or}
 use Rattle.lg_region.specs.Groups.{key_behind}
 use Rattle.lg_region.specs.Keys.{IsValidKey, kept}
 use Rattle.lg_region.specs.declared.group.Right.{Right}
@@ -35,8 +34,8 @@ use Rattle.lg_forest.proofs.Once.{contains_at, contains_map}
 use Rattle.lg_forest.proofs.search.Search.+search.Goals as goal
 use Rattle.lg_forest.proofs.search.Search.+search.Goals.{explore_rights-then-branch+in_ok-push, explore_rights-else-branch, open_group-then-branch+in_ok-push, open_group-else-branch, open-in-Some, open-in-None}
 use Rattle.lg_forest.proofs.KeyRows.{valid_small}
-use Rattle.lg_forest.proofs.Opening.{no_beginning, no_group, none_starts, opening_kept, opening_new, opening_some, start_there, same_begins, same_groups, word_opened, words_all, words_first, words_next}
-use Rattle.lg_forest.proofs.Ending.{no_right, all_asked, all_live, ended_asked, ended_live, ends_asked, ends_here, ends_known, first_asked, next_asked, right_valid}
+use Rattle.lg_forest.proofs.Opening.{none_starts, opening_kept, opening_new, opening_some, start_there, word_opened, words_all, words_first, words_next}
+use Rattle.lg_forest.proofs.Ending.{all_asked, all_live, ended_asked, ended_live, ends_asked, ends_here, ends_known, first_asked, next_asked, right_valid}
 use Rattle.lg_forest.proofs.Levels.{LeavesFewer, fewer_apart, fewer_next, fewer_none, levels_asked, levels_live}
 use Rattle.lg_forest.proofs.Starting.{IsOfGroup, OfFirst, SoFar, opening_asked, opening_live, start_asked, group_asked, group_started, group_there, groups_apart, groups_started, left_asked, lefts_as, lefts_then, start_dropped, start_kept, at_word, word_started}
 
@@ -218,16 +217,17 @@ explore_gap-of-requires g t c = λ a h.
 
 pub open_group-loop-index-init : goal.open_group-loop-index-init
 open_group-loop-index-init g t c = record {
-  starts = part.adds_none c.args.starts.now.items _ (λ s (u, m, v). part.among_none (λ (b : Beginning) (d : Beginning). b ≡ d) c.as_slice-begins.result.now s.begin m);
-  goes = goes_none c.requires.ready (part.asked_start c.args.lists.now _ c.args.self.now.table c.requires.ready.table (λ k m. part.among_none (λ (b : Beginning) (k : Key). left_of c.args.gap.now c.args.group.now b ≡ k) c.as_slice-begins.result.now k m));
+  starts = part.adds_none c.args.starts.now.items _ (λ s (u, m, v). part.among_none (λ (b : Beginning) (d : Beginning). b ≡ d) c.in_ok-begins.begins.items s.begin m);
+  goes = goes_none c.requires.ready (part.asked_start c.args.lists.now _ c.args.self.now.table c.requires.ready.table (λ k m. part.among_none (λ (b : Beginning) (k : Key). left_of c.args.gap.now c.args.group.now b ≡ k) c.in_ok-begins.begins.items k m));
 }
 
 pub open_group-visit-requires : goal.open_group-visit-requires
 open_group-visit-requires g t c κs within =
+    let end : c.len-index-end.result ≡ length c.in_ok-begins.begins.items = c.len-index-end.ensures ∙ c.in_ok-begins.begins.ok.0 in
     let test = c.loop-index-test.true in
-    let at = slice_get-get_or c.as_slice-begins.result.now c.loop-index.index no_beginning (omega arith) in
-    let of = (same_begins c.args.lists.now c.args.gap.now c.args.group.now c.args.nulls _ _ c.as_slice-begins.ensures c.in_ok-found.ensures).each (get_or c.as_slice-begins.result.now c.loop-index.index no_beginning) (contains_at c.as_slice-begins.result.now c.loop-index.index (get_or c.as_slice-begins.result.now c.loop-index.index no_beginning) at) in
-    let valid = part.left_valid c.args.lists.now (key_of c.args.gap.now) c.args.gap.now c.args.group.now (get_or c.as_slice-begins.result.now c.loop-index.index no_beginning) c.key-lkey.result c.requires.ready.decided c.requires.gap.valid refl c.key-lkey.ensures of in
+    let at = part.at_of c.in_ok-begins.begins.items c.loop-index.index c.index-begin.result.now (omega arith) c.index-begin.ensures in
+    let of = c.in_ok-begins.ensures.each c.index-begin.result.now (contains_at c.in_ok-begins.begins.items c.loop-index.index c.index-begin.result.now at) in
+    let valid = part.left_valid c.args.lists.now (key_of c.args.gap.now) c.args.gap.now c.args.group.now c.index-begin.result.now c.key-lkey.result c.requires.ready.decided c.requires.gap.valid refl c.key-lkey.ensures of in
     let narrow : key_width c.args.lists.now.positions c.key-lkey.result < gap_width c.args.gap.now = valid.1 in
     (search rules, (search rules, (ready_after c.requires.ready c.loop-index.invariant.goes (omega arith), valid.0)))
 
@@ -236,16 +236,17 @@ open_group-loop-index-preserved g t c =
     let n = c.args.lists.now in
     let gap = c.args.gap.now in
     let group = c.args.group.now in
-    let bs = c.as_slice-begins.result.now in
+    let bs = c.in_ok-begins.begins.items in
     let i = c.loop-index.index in
-    let b = get_or bs i no_beginning in
+    let b = c.index-begin.result.now in
+    let end : c.len-index-end.result ≡ length c.in_ok-begins.begins.items = c.len-index-end.ensures ∙ c.in_ok-begins.begins.ok.0 in
     let test = c.loop-index-test.true in
-    let at = slice_get-get_or bs i no_beginning (omega arith) in
+    let at = part.at_of bs i c.index-begin.result.now (omega arith) c.index-begin.ensures in
     let key = c.key-lkey.ensures in
     record {
       starts = elim c.if-branch.branch [
         | open_group-then-branch+in_ok-push w ↦ subst (λ z. AddsExactly c.args.starts.now.items z (OfFirst n gap group bs (i + 1))) (sym (ap (λ v. v.items) w.starts-is))
-            (start_kept n gap group bs i (i + 1) b (omega arith) at c.args.starts.now.items c.loop-index.starts.items _ (record { group = group; begin = b }) (same_begins c.args.lists.now c.args.gap.now c.args.group.now c.args.nulls _ _ c.as_slice-begins.ensures c.in_ok-found.ensures).once refl refl
+            (start_kept n gap group bs i (i + 1) b (omega arith) at c.args.starts.now.items c.loop-index.starts.items _ (record { group = group; begin = b }) c.in_ok-begins.ensures.once refl refl
             (subst (λ z. HasLinkageUnder n.positions n.lists z) key (c.in_ok-visit.ensures.found.0 w.if-branch.true)) w.in_ok-push.ensures.items c.loop-index.invariant.starts)
         | open_group-else-branch w ↦ subst (λ z. AddsExactly c.args.starts.now.items z (OfFirst n gap group bs (i + 1))) (sym (ap (λ v. v.items) w.starts-is))
             (start_dropped n gap group bs i (i + 1) b (omega arith) at c.args.starts.now.items c.loop-index.starts.items (λ l. true≢false (sym (c.in_ok-visit.ensures.found.1 (subst (λ z. HasLinkageUnder n.positions n.lists z) (sym key) l)) ∙ w.if-branch.false)) c.loop-index.invariant.starts)
@@ -256,59 +257,65 @@ open_group-loop-index-preserved g t c =
 
 pub open_group-returns-clause-starts : goal.open_group-returns-clause-starts
 open_group-returns-clause-starts g t c =
-    let bs = c.as_slice-begins.result.now in
+    let bs = c.in_ok-begins.begins.items in
+    let end : c.len-index-end.result ≡ length c.in_ok-begins.begins.items = c.len-index-end.ensures ∙ c.in_ok-begins.begins.ok.0 in
     let test = c.loop-index-test.false in
-    group_started c.args.lists.now (key_of c.args.gap.now) c.args.gap.now c.args.group.now c.args.nulls refl bs (same_begins c.args.lists.now c.args.gap.now c.args.group.now c.args.nulls _ _ c.as_slice-begins.ensures c.in_ok-found.ensures) c.loop-index.index (omega arith) c.args.starts.now.items c.loop-index.starts.items c.loop-index.invariant.starts
+    group_started c.args.lists.now (key_of c.args.gap.now) c.args.gap.now c.args.group.now c.args.nulls refl bs c.in_ok-begins.ensures c.loop-index.index (omega arith) c.args.starts.now.items c.loop-index.starts.items c.loop-index.invariant.starts
 
 pub open_group-returns-clause-goes : goal.open_group-returns-clause-goes
 open_group-returns-clause-goes g t c =
-    let bs = c.as_slice-begins.result.now in
+    let bs = c.in_ok-begins.begins.items in
+    let end : c.len-index-end.result ≡ length c.in_ok-begins.begins.items = c.len-index-end.ensures ∙ c.in_ok-begins.begins.ok.0 in
     let test = c.loop-index-test.false in
     goes_as c.loop-index.invariant.goes
-    (group_asked c.args.lists.now (key_of c.args.gap.now) c.args.gap.now c.args.group.now c.args.nulls refl bs (same_begins c.args.lists.now c.args.gap.now c.args.group.now c.args.nulls _ _ c.as_slice-begins.ensures c.in_ok-found.ensures) c.loop-index.index (omega arith) c.args.self.now.table c.loop-index.self.table c.loop-index.invariant.goes.asked)
+    (group_asked c.args.lists.now (key_of c.args.gap.now) c.args.gap.now c.args.group.now c.args.nulls refl bs c.in_ok-begins.ensures c.loop-index.index (omega arith) c.args.self.now.table c.loop-index.self.table c.loop-index.invariant.goes.asked)
 
 pub open_word-loop-index-init : goal.open_word-loop-index-init
 open_word-loop-index-init g t c = record {
-  starts = part.adds_none c.args.opening.now.starts.items _ (λ s m. part.among_none (IsOfGroup c.args.lists.now c.args.gap.now c.args.nulls) c.as_slice-groups.result.now s m);
-  goes = goes_none c.requires.ready (part.asked_start c.args.lists.now _ c.args.self.now.table c.requires.ready.table (λ k (a, alt, m, e). part.among_none In c.as_slice-groups.result.now a m));
+  starts = part.adds_none c.args.opening.now.starts.items _ (λ s m. part.among_none (IsOfGroup c.args.lists.now c.args.gap.now c.args.nulls) c.in_ok-groups.groups.items s m);
+  goes = goes_none c.requires.ready (part.asked_start c.args.lists.now _ c.args.self.now.table c.requires.ready.table (λ k (a, alt, m, e). part.among_none In c.in_ok-groups.groups.items a m));
 }
 
 pub open_word-open_group-requires : goal.open_word-open_group-requires
 open_word-open_group-requires g t c κs within =
-    let gs = c.as_slice-groups.result.now in
+    let gs = c.in_ok-groups.groups.items in
+    let end : c.len-index-end.result ≡ length c.in_ok-groups.groups.items = c.len-index-end.ensures ∙ c.in_ok-groups.groups.ok.0 in
     let test = c.loop-index-test.true in
-    let at = slice_get-get_or gs c.loop-index.index no_group (omega arith) in
-    let of = group_there c.args.lists.now c.args.gap.now c.args.word gs (same_groups c.args.lists.now c.args.gap.now c.args.word _ _ c.as_slice-groups.ensures c.in_ok-found.ensures) (get_or gs c.loop-index.index no_group) (contains_at gs c.loop-index.index (get_or gs c.loop-index.index no_group) at) in
+    let at = part.at_of gs c.loop-index.index c.index-group.result.now (omega arith) c.index-group.ensures in
+    let of = group_there c.args.lists.now c.args.gap.now c.args.word gs c.in_ok-groups.ensures c.index-group.result.now (contains_at gs c.loop-index.index c.index-group.result.now at) in
     (search rules, (search rules, (ready_after c.requires.ready c.loop-index.invariant.goes (omega arith), (c.requires.gap, of.0))))
 
 pub open_word-loop-index-preserved : goal.open_word-loop-index-preserved
 open_word-loop-index-preserved g t c =
     let n = c.args.lists.now in
-    let gs = c.as_slice-groups.result.now in
+    let gs = c.in_ok-groups.groups.items in
     let i = c.loop-index.index in
+    let end : c.len-index-end.result ≡ length c.in_ok-groups.groups.items = c.len-index-end.ensures ∙ c.in_ok-groups.groups.ok.0 in
     let test = c.loop-index-test.true in
-    let at = slice_get-get_or gs i no_group (omega arith) in
-    let step = part.among_next In gs i (i + 1) (get_or gs c.loop-index.index no_group) (omega arith) at in
+    let at = part.at_of gs i c.index-group.result.now (omega arith) c.index-group.ensures in
+    let step = part.among_next In gs i (i + 1) c.index-group.result.now (omega arith) at in
     record {
-      starts = groups_started n c.args.gap.now c.args.nulls gs (groups_apart n c.args.gap.now c.args.word gs (same_groups c.args.lists.now c.args.gap.now c.args.word _ _ c.as_slice-groups.ensures c.in_ok-found.ensures)) i (i + 1) (get_or gs c.loop-index.index no_group) (omega arith) at c.args.opening.now.starts.items c.loop-index.opening.starts.items c.open_group.new.starts.items c.loop-index.invariant.starts c.in_ok-open_group.ensures.starts;
+      starts = groups_started n c.args.gap.now c.args.nulls gs (groups_apart n c.args.gap.now c.args.word gs c.in_ok-groups.ensures) i (i + 1) c.index-group.result.now (omega arith) at c.args.opening.now.starts.items c.loop-index.opening.starts.items c.open_group.new.starts.items c.loop-index.invariant.starts c.in_ok-open_group.ensures.starts;
       goes = goes_then c.loop-index.invariant.goes c.in_ok-open_group.ensures.goes
-          (lefts_then n (key_of c.args.gap.now) c.args.nulls (Among In gs i) (In (get_or gs c.loop-index.index no_group)) (Among In gs (i + 1)) step c.args.self.now.table c.loop-index.self.table c.open_group.new.self.table c.loop-index.invariant.goes.asked c.in_ok-open_group.ensures.goes.asked);
+          (lefts_then n (key_of c.args.gap.now) c.args.nulls (Among In gs i) (In c.index-group.result.now) (Among In gs (i + 1)) step c.args.self.now.table c.loop-index.self.table c.open_group.new.self.table c.loop-index.invariant.goes.asked c.in_ok-open_group.ensures.goes.asked);
     }
 
 pub open_word-returns-clause-opens : goal.open_word-returns-clause-opens
 open_word-returns-clause-opens g t c =
-    let gs = c.as_slice-groups.result.now in
+    let gs = c.in_ok-groups.groups.items in
+    let end : c.len-index-end.result ≡ length c.in_ok-groups.groups.items = c.len-index-end.ensures ∙ c.in_ok-groups.groups.ok.0 in
     let test = c.loop-index-test.false in
-    word_started c.args.lists.now c.args.gap.now c.args.nulls c.args.word gs (same_groups c.args.lists.now c.args.gap.now c.args.word _ _ c.as_slice-groups.ensures c.in_ok-found.ensures) c.loop-index.index (omega arith) c.args.opening.now (record { done = c.args.word + 1; starts = c.loop-index.opening.starts }) refl c.loop-index.invariant.starts
+    word_started c.args.lists.now c.args.gap.now c.args.nulls c.args.word gs c.in_ok-groups.ensures c.loop-index.index (omega arith) c.args.opening.now (record { done = c.args.word + 1; starts = c.loop-index.opening.starts }) refl c.loop-index.invariant.starts
 
 pub open_word-returns-clause-goes : goal.open_word-returns-clause-goes
 open_word-returns-clause-goes g t c =
     let n = c.args.lists.now in
-    let gs = c.as_slice-groups.result.now in
+    let gs = c.in_ok-groups.groups.items in
+    let end : c.len-index-end.result ≡ length c.in_ok-groups.groups.items = c.len-index-end.ensures ∙ c.in_ok-groups.groups.ok.0 in
     let test = c.loop-index-test.false in
     goes_as c.loop-index.invariant.goes
     (lefts_as n (key_of c.args.gap.now) c.args.nulls (Among In gs c.loop-index.index) (StandsAt c.args.word)
-    (λ a alt. at_word n c.args.gap.now c.args.word gs (same_groups c.args.lists.now c.args.gap.now c.args.word _ _ c.as_slice-groups.ensures c.in_ok-found.ensures) c.loop-index.index (omega arith) (key_of c.args.gap.now) refl a alt.0) c.args.self.now.table c.loop-index.self.table c.loop-index.invariant.goes.asked)
+    (λ a alt. at_word n c.args.gap.now c.args.word gs c.in_ok-groups.ensures c.loop-index.index (omega arith) (key_of c.args.gap.now) refl a alt.0) c.args.self.now.table c.loop-index.self.table c.loop-index.invariant.goes.asked)
 
 pub open-loop-word-init : goal.open-loop-word-init
 open-loop-word-init g t c =
@@ -532,10 +539,10 @@ explore_opening-open-requires g t c κs within = (search rules, (search rules, (
 pub explore_rights-loop-index-init : goal.explore_rights-loop-index-init
 explore_rights-loop-index-init g t c =
     let n = c.args.lists.now in
-    let all = c.as_slice-all.result.now in
+    let all = c.in_ok-all.all.items in
     record {
       goes = goes_none c.requires.ready (first_asked n c.args.gap.now c.args.start.now.group c.args.nulls all c.args.self.now.table c.requires.ready.table);
-      live = subst (λ z. AddsExactly [] z (λ r. HasLinkageUnder n.positions n.lists (key_behind c.args.gap.now c.args.start.now.group c.args.nulls r) × Among (λ (x : Right) (y : Right). x ≡ y) all 0 r)) (sym c.new-live.ensures.items)
+      live = subst (λ z. AddsExactly [] z (λ r. HasLinkageUnder n.positions n.lists (key_behind c.args.gap.now c.args.start.now.group c.args.nulls r) × Among (λ (x : Right) (y : Right). x ≡ y) all 0 r)) (sym c.clear.ensures.items)
           (part.adds_none [] _ (λ r (l, m). part.among_none (λ (x : Right) (y : Right). x ≡ y) all r m));
     }
 
@@ -544,12 +551,13 @@ explore_rights-visit-requires g t c κs within =
     let n = c.args.lists.now in
     let gap = c.args.gap.now in
     let s = c.args.start.now in
-    let all = c.as_slice-all.result.now in
+    let all = c.in_ok-all.all.items in
+    let end : c.len-index-end.result ≡ length c.in_ok-all.all.items = c.len-index-end.ensures ∙ c.in_ok-all.all.ok.0 in
     let test = c.loop-index-test.true in
-    let at = slice_get-get_or all c.loop-index.index no_right (omega arith) in
+    let at = part.at_of all c.loop-index.index c.index-right.result.now (omega arith) c.index-right.ensures in
     let ends = c.alternatives_end.ensures n gap s.group s.begin c.are_numbered.ensures c.requires.gap.is_gap.known c.requires.start.group c.requires.start.some in
-    let valid = right_valid n gap s.group s.begin (key_of gap) refl ends c.requires.ready.decided c.requires.gap.valid (get_or all c.loop-index.index no_right) (((exactly_same _ _ c.as_slice-all.ensures c.in_ok-found.ensures).each (get_or all c.loop-index.index no_right)).0 (contains_at all c.loop-index.index (get_or all c.loop-index.index no_right) at)) in
-    let same : key_behind gap s.group (gap.nulls - s.begin.nulls) (get_or all c.loop-index.index no_right) ≡ c.key-rkey.result = ap (λ z. key_behind gap s.group z (get_or all c.loop-index.index no_right)) (sym c.requires.nulls) ∙ sym c.key-rkey.ensures in
+    let valid = right_valid n gap s.group s.begin (key_of gap) refl ends c.requires.ready.decided c.requires.gap.valid c.index-right.result.now ((c.in_ok-all.ensures.each c.index-right.result.now).0 (contains_at all c.loop-index.index c.index-right.result.now at)) in
+    let same : key_behind gap s.group (gap.nulls - s.begin.nulls) c.index-right.result.now ≡ c.key-rkey.result = ap (λ z. key_behind gap s.group z c.index-right.result.now) (sym c.requires.nulls) ∙ sym c.key-rkey.ensures in
     let narrow : key_width n.positions c.key-rkey.result < gap_width gap = subst (λ z. key_width n.positions z < gap_width gap) same valid.1 in
     (search rules, (search rules, (ready_after c.requires.ready c.loop-index.invariant.goes (omega arith), subst (IsValidKey n.positions n.lists) same valid.0)))
 
@@ -559,11 +567,12 @@ explore_rights-loop-index-preserved g t c =
     let gap = c.args.gap.now in
     let group = c.args.start.now.group in
     let nulls = c.args.nulls in
-    let all = c.as_slice-all.result.now in
+    let all = c.in_ok-all.all.items in
     let i = c.loop-index.index in
-    let r = (get_or all c.loop-index.index no_right) in
+    let r = c.index-right.result.now in
+    let end : c.len-index-end.result ≡ length c.in_ok-all.all.items = c.len-index-end.ensures ∙ c.in_ok-all.all.ok.0 in
     let test = c.loop-index-test.true in
-    let at = slice_get-get_or all i no_right (omega arith) in
+    let at = part.at_of all i c.index-right.result.now (omega arith) c.index-right.ensures in
     let Live : Right → Type 0 = λ z. HasLinkageUnder n.positions n.lists (key_behind gap group nulls z) in
     record {
       goes = goes_then c.loop-index.invariant.goes c.in_ok-visit.ensures.goes
@@ -571,22 +580,24 @@ explore_rights-loop-index-preserved g t c =
           (subst (λ z. Asked n (λ k. k ≡ z) c.loop-index.self.table c.visit.new.self.table) c.key-rkey.ensures c.in_ok-visit.ensures.goes.asked));
       live = elim c.if-branch.branch [
         | explore_rights-then-branch+in_ok-push w ↦ subst (λ z. AddsExactly [] z (λ x. Live x × Among (λ (u v : Right). u ≡ v) all (i + 1) x)) (sym (ap (λ v. v.items) w.live-is))
-            (part.one_kept Live all i (i + 1) r (omega arith) at (exactly_same _ _ c.as_slice-all.ensures c.in_ok-found.ensures).once [] c.loop-index.live.items _ (subst (HasLinkageUnder n.positions n.lists) c.key-rkey.ensures (c.in_ok-visit.ensures.found.0 w.if-branch.true)) w.in_ok-push.ensures.ok c.loop-index.invariant.live)
+            (part.one_kept Live all i (i + 1) r (omega arith) at c.in_ok-all.ensures.once [] c.loop-index.live.items _ (subst (HasLinkageUnder n.positions n.lists) c.key-rkey.ensures (c.in_ok-visit.ensures.found.0 w.if-branch.true)) w.in_ok-push.ensures.items c.loop-index.invariant.live)
         | explore_rights-else-branch w ↦ subst (λ z. AddsExactly [] z (λ x. Live x × Among (λ (u v : Right). u ≡ v) all (i + 1) x)) (sym (ap (λ v. v.items) w.live-is))
-            (part.one_dropped Live all i (i + 1) r (omega arith) at (exactly_same _ _ c.as_slice-all.ensures c.in_ok-found.ensures).once [] c.loop-index.live.items (λ l. true≢false (sym (c.in_ok-visit.ensures.found.1 (subst (HasLinkageUnder n.positions n.lists) (sym c.key-rkey.ensures) l)) ∙ w.if-branch.false)) c.loop-index.invariant.live)
+            (part.one_dropped Live all i (i + 1) r (omega arith) at c.in_ok-all.ensures.once [] c.loop-index.live.items (λ l. true≢false (sym (c.in_ok-visit.ensures.found.1 (subst (HasLinkageUnder n.positions n.lists) (sym c.key-rkey.ensures) l)) ∙ w.if-branch.false)) c.loop-index.invariant.live)
       ];
     }
 
 pub explore_rights-returns-clause-live : goal.explore_rights-returns-clause-live
 explore_rights-returns-clause-live g t c =
+    let end : c.len-index-end.result ≡ length c.in_ok-all.all.items = c.len-index-end.ensures ∙ c.in_ok-all.all.ok.0 in
     let test = c.loop-index-test.false in
-    all_live c.args.lists.now c.args.gap.now c.args.start.now.group c.args.nulls c.as_slice-all.result.now (exactly_same _ _ c.as_slice-all.ensures c.in_ok-found.ensures) c.loop-index.index (omega arith) [] c.loop-index.live.items refl c.loop-index.invariant.live
+    all_live c.args.lists.now c.args.gap.now c.args.start.now.group c.args.nulls c.in_ok-all.all.items c.in_ok-all.ensures c.loop-index.index (omega arith) [] c.loop-index.live.items refl c.loop-index.invariant.live
 
 pub explore_rights-returns-clause-goes : goal.explore_rights-returns-clause-goes
 explore_rights-returns-clause-goes g t c =
+    let end : c.len-index-end.result ≡ length c.in_ok-all.all.items = c.len-index-end.ensures ∙ c.in_ok-all.all.ok.0 in
     let test = c.loop-index-test.false in
     goes_as c.loop-index.invariant.goes
-    (all_asked c.args.lists.now c.args.gap.now c.args.start.now.group c.args.nulls c.as_slice-all.result.now (exactly_same _ _ c.as_slice-all.ensures c.in_ok-found.ensures) c.loop-index.index (omega arith) c.args.self.now.table c.loop-index.self.table c.loop-index.invariant.goes.asked)
+    (all_asked c.args.lists.now c.args.gap.now c.args.start.now.group c.args.nulls c.in_ok-all.all.items c.in_ok-all.ensures c.loop-index.index (omega arith) c.args.self.now.table c.loop-index.self.table c.loop-index.invariant.goes.asked)
 
 pub explore_ending-of-half-requires-clause-word : goal.explore_ending-of-half-requires-clause-word
 explore_ending-of-half-requires-clause-word g t c =
@@ -676,10 +687,10 @@ explore_ending-returns-then-is_empty-clause-live g t c =
     let gap = c.args.gap.now in
     let s = c.args.start.now in
     let ends = c.alternatives_end.ensures n gap s.group s.begin c.are_numbered.ensures c.requires.gap.is_gap.known c.requires.start.group c.requires.start.some in
-    let rights = c.as_slice-rights.result.now in
-    let none : rights ≡ [] = nil_from_length rights (eqb-true (length rights) 0 (sym c.is_empty.ensures ∙ c.if-is_empty.true)) in
+    let rights = c.in_ok-found.found.items in
+    let none : rights ≡ [] = nil_from_length rights (sym c.in_ok-found.found.ok.0 ∙ eqb-true _ 0 (sym c.is_empty.ensures ∙ c.if-is_empty.true)) in
     part.ok_any c.add.result _
-    (ended_live n gap s.group s.begin (key_of gap) refl ends c.requires.left [] (subst (λ z. AreExactly z (IsLiveRight n gap s.group (gap.nulls - s.begin.nulls))) none (exactly_same _ _ c.as_slice-rights.ensures c.in_ok-found.ensures.live)) c.args.live.now.items c.args.live.now.items
+    (ended_live n gap s.group s.begin (key_of gap) refl ends c.requires.left [] (subst (λ z. AreExactly z (IsLiveRight n gap s.group (gap.nulls - s.begin.nulls))) none c.in_ok-found.ensures.live) c.args.live.now.items c.args.live.now.items
     (sym (append-nil c.args.live.now.items)))
 
 pub explore_ending-returns-then-is_empty-clause-goes : goal.explore_ending-returns-then-is_empty-clause-goes
@@ -688,15 +699,15 @@ explore_ending-returns-then-is_empty-clause-goes g t c =
     let gap = c.args.gap.now in
     let s = c.args.start.now in
     let nulls = gap.nulls - s.begin.nulls in
-    let rights = c.as_slice-rights.result.now in
-    let none : rights ≡ [] = nil_from_length rights (eqb-true (length rights) 0 (sym c.is_empty.ensures ∙ c.if-is_empty.true)) in
+    let rights = c.in_ok-found.found.items in
+    let none : rights ≡ [] = nil_from_length rights (sym c.in_ok-found.found.ok.0 ∙ eqb-true _ 0 (sym c.is_empty.ensures ∙ c.if-is_empty.true)) in
     let goes = goes_from refl (ap (λ z. record c.args.self.now.memory { shut = z }) c.has.ensures.same) c.in_ok-found.ensures.goes in
     let table = c.explore_rights.new.self.table in
     let half = c.of-half.result in
     let with = subst (λ z. EndsWith n z gap s.group) (sym c.of-half.ensures) (ends_here n (key_of gap) gap s.group nulls c.requires.gap.is_gap) in
     let same : half.nulls ≡ nulls = ap (λ (h : Half). h.nulls) c.of-half.ensures in
     let new : AreEnds n table half [] = ends_known n table half gap s.group [] with
-    (subst (λ z. AreExactly [] (IsLiveRight n gap s.group z)) (sym same) (subst (λ z. AreExactly z (IsLiveRight n gap s.group nulls)) none (exactly_same _ _ c.as_slice-rights.ensures c.in_ok-found.ensures.live)))
+    (subst (λ z. AreExactly [] (IsLiveRight n gap s.group z)) (sym same) (subst (λ z. AreExactly z (IsLiveRight n gap s.group nulls)) none c.in_ok-found.ensures.live))
     (λ r of. subst (λ z. Contains (keys_of table) (key_behind gap s.group z r)) (sym same) (goes.asked.there (key_behind gap s.group nulls r) (r, of, refl))) in
     on_ok_as c.add.result _ _
     (λ added. record {
@@ -724,10 +735,9 @@ explore_ending-returns-clause-live g t c =
     let gap = c.args.gap.now in
     let s = c.args.start.now in
     let ends = c.alternatives_end.ensures n gap s.group s.begin c.are_numbered.ensures c.requires.gap.is_gap.known c.requires.start.group c.requires.start.some in
-    let rights = c.as_slice-rights.result.now in
-    part.ok_any c.put.result _
-    (ended_live n gap s.group s.begin (key_of gap) refl ends c.requires.left rights (exactly_same _ _ c.as_slice-rights.ensures c.in_ok-found.ensures.live) c.args.live.now.items c.push_ended-2.new.out.items
-    c.in_ok-push_ended.ensures.added)
+    let rights = c.deref.result.now in
+    ended_live n gap s.group s.begin (key_of gap) refl ends c.requires.left rights (exactly_same _ _ c.deref.ensures.value c.in_ok-found.ensures.live) c.args.live.now.items c.push_ended-2.new.out.items
+    c.in_ok-push_ended.ensures.added
 
 pub explore_ending-returns-clause-goes : goal.explore_ending-returns-clause-goes
 explore_ending-returns-clause-goes g t c =
@@ -735,25 +745,24 @@ explore_ending-returns-clause-goes g t c =
     let gap = c.args.gap.now in
     let s = c.args.start.now in
     let nulls = gap.nulls - s.begin.nulls in
-    let rights = c.as_slice-rights.result.now in
+    let rights = c.in_ok-found.found.items in
     let goes = goes_from refl (ap (λ z. record c.args.self.now.memory { shut = z }) c.has.ensures.same) c.in_ok-found.ensures.goes in
     let table = c.explore_rights.new.self.table in
     let half = c.of-half.result in
     let with = subst (λ z. EndsWith n z gap s.group) (sym c.of-half.ensures) (ends_here n (key_of gap) gap s.group nulls c.requires.gap.is_gap) in
     let same : half.nulls ≡ nulls = ap (λ (h : Half). h.nulls) c.of-half.ensures in
     let new : AreEnds n table half rights = ends_known n table half gap s.group rights with
-    (subst (λ z. AreExactly rights (IsLiveRight n gap s.group z)) (sym same) (exactly_same _ _ c.as_slice-rights.ensures c.in_ok-found.ensures.live))
+    (subst (λ z. AreExactly rights (IsLiveRight n gap s.group z)) (sym same) c.in_ok-found.ensures.live)
     (λ r of. subst (λ z. Contains (keys_of table) (key_behind gap s.group z r)) (sym same) (goes.asked.there (key_behind gap s.group nulls r) (r, of, refl))) in
-    on_ok_as c.put.result _ _
-    (λ put. record {
+    record {
       asked = goes.asked;
       left = record {
         known = record {
           known = goes.left.known.known;
           opened = goes.left.known.opened;
-          ended = λ h x has. elim (put h x has) [
+          ended = λ h x has. elim (c.in_ok-put.ensures.put h x has) [
             | inl k ↦ goes.left.known.ended h x k
-            | inr (e, f) ↦ subst (λ z. AreEnds n table z x) (sym e) (subst (λ z. AreEnds n table half z) (sym f) new)
+            | inr (e, f) ↦ subst (λ z. AreEnds n table z x) (sym e) (subst (λ z. AreEnds n table half z) (sym (f ∙ c.deref-2.ensures.value)) new)
           ];
           shut = goes.left.known.shut;
         };
@@ -761,8 +770,7 @@ explore_ending-returns-clause-goes g t c =
       };
       steps = goes.steps;
       later = goes.later;
-    })
-    c.put.ensures.put
+    }
 
 pub open-none-none-requires : goal.open-none-none-requires
 open-none-none-requires g t c =

@@ -78,8 +78,8 @@ invariant-explore_gap-loop-nulls g l = record {
 -- the disjuncts of the group so far
 abbrev pub invariant-explore_rights-loop-index : goal.invariant-explore_rights-loop-index
 invariant-explore_rights-loop-index g l = record {
-  goes : Goes l.lists (AsksFirst l.gap l.start.group l.nulls l.all l.index) 0 l.fn.self l.fn.steps l.self l.steps;
-  live : AddsExactly [] l.live.items (λ r. HasLinkageUnder l.lists.positions l.lists.lists (key_behind l.gap l.start.group l.nulls r) × Among (λ (x : Right) (y : Right). x ≡ y) l.all l.index r);
+  goes : Goes l.lists (AsksFirst l.gap l.start.group l.nulls l.all.items l.index) 0 l.fn.self l.fn.steps l.self l.steps;
+  live : AddsExactly [] l.live.items (λ r. HasLinkageUnder l.lists.positions l.lists.lists (key_behind l.gap l.start.group l.nulls r) × Among (λ (x : Right) (y : Right). x ≡ y) l.all.items l.index r);
 }
 
 -- the starts so far; the opening stands by the table
@@ -102,13 +102,13 @@ invariant-open-loop-word g l = record {
 -- the groups of the word so far
 abbrev pub invariant-open_word-loop-index : goal.invariant-open_word-loop-index
 invariant-open_word-loop-index g l = record {
-  starts : AddsExactly l.fn.opening.starts.items l.opening.starts.items (Among (IsOfGroup l.lists l.gap l.nulls) l.groups l.index);
-  goes : Goes l.lists (AsksLeft l.lists (key_of l.gap) l.nulls (Among In l.groups l.index)) 0 l.fn.self l.fn.steps l.self l.steps;
+  starts : AddsExactly l.fn.opening.starts.items l.opening.starts.items (Among (IsOfGroup l.lists l.gap l.nulls) l.groups.items l.index);
+  goes : Goes l.lists (AsksLeft l.lists (key_of l.gap) l.nulls (Among In l.groups.items l.index)) 0 l.fn.self l.fn.steps l.self l.steps;
 }
 
 -- the beginnings of the group so far
 abbrev pub invariant-open_group-loop-index : goal.invariant-open_group-loop-index
 invariant-open_group-loop-index g l = record {
-  starts : AddsExactly l.fn.starts.items l.starts.items (OfFirst l.lists l.gap l.group l.begins l.index);
-  goes : Goes l.lists (LeftOfFirst l.gap l.group l.begins l.index) 0 l.fn.self l.fn.steps l.self l.steps;
+  starts : AddsExactly l.fn.starts.items l.starts.items (OfFirst l.lists l.gap l.group l.begins.items l.index);
+  goes : Goes l.lists (LeftOfFirst l.gap l.group l.begins.items l.index) 0 l.fn.self l.fn.steps l.self l.steps;
 }
