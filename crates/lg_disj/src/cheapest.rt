@@ -18,7 +18,8 @@ use lg_gram::law::connectors_are_ordered;
 use std::alloc::Global;
 use std::cmp::Ordering;
 
-/// Choices that are left. Where lists stand is told again by the numbers of lists, which are the same where lists are.
+/// The choices that are left, and beside each the numbers by which it was sorted: one for its left list and one for its right list. Two
+/// choices have the same number on a side where their lists there are the same.
 #[derive(Debug, Drop)]
 pub(crate) struct Kept {
     pub(crate) choices: Choices,

@@ -1,10 +1,9 @@
 -- Members are the disjuncts of outlines, in order.
-use Rattle.std.proofs.Common.{◌≡◌, ℕ, ◌+◌, ◌<◌, List, [], ◌∷◌, ◌++◌, length, get_or, take, map, refl, sym, ap, ◌∙◌, subst, append_assoc, append-nil, Some, inl, inr, Bool, true, false, cond, arith}
+use Rattle.std.proofs.Common.{◌≡◌, ℕ, ◌+◌, ◌<◌, List, [], ◌∷◌, ◌++◌, length, get_or, take, map, refl, sym, ap, ◌∙◌, subst, Some, inl, inr, Bool, true, false, cond, arith}
 use Rattle.std.specs.List.{All, slice_get}
 use Rattle.std.proofs.lemmas.Bool.{cases_lt}
 use Rattle.std.proofs.lemmas.Option.{slice_get-get_or, slice_get_within, get_or_from_slice_get}
 use Rattle.std.proofs.lemmas.List.{map-append, length-append, length-map, get_or-map, take_more, map_more, flat_map_more}
-use Rattle.std.proofs.lemmas.List.Elements.{All-nil, All-append, All-push, All-weaker}
 use Rattle.std.proofs.lemmas.Grind.{elements}
 use Rattle.lg_gram.specs.Connectors.{Connector}
 use Rattle.lg_gram.specs.declared.disjunct.Disjunct.{Disjunct}
@@ -13,7 +12,7 @@ use Rattle.lg_disj.specs.declared.outline.Line.{Line}
 use Rattle.lg_member.specs.Members.{seen_of, IsSideAt, IsKnown, Grows, HasSides, AddsMembers, AddsLines}
 use Rattle.lg_member.specs.declared.side.Side.{Side}
 use Rattle.lg_member.specs.declared.member.Member.{Member}
-use Rattle.lg_member.proofs.Adding.{grows_none, grows_more, side_grown, known_grown, MembersSoFar, members_more}
+use Rattle.lg_member.proofs.Adding.{grows_none, grows_more, side_grown, lines_none, lines_then, line_one, adds_then, MembersSoFar, members_more}
 
 -- the first n lists of a word are sides of position i
 pub record SidesSoFar (i : ℕ) (lists : List (List Connector)) (n : ℕ) (old now : List Side) : Type 0 where
@@ -90,40 +89,15 @@ line_member i o l lefts rights sl sr m a b ei ew el er ec =
       };
     }
 
-pub lines_none : (i : ℕ) (lefts rights : List Side) (members : List Member) → AddsLines i [] lefts rights members members
-lines_none i lefts rights members = record { more = []; added = sym (append-nil members); seen = refl; known = All-nil (IsKnown lefts rights) }
-
-abbrev at_position : ℕ → Disjunct → ℕ × Disjunct
-at_position i d = (i, d)
-
 pub lines_more : (i : ℕ) (o : Outlined) (ls : List Line) (k : ℕ) (l : Line) (lefts rights : List Side) (old now new : List Member) (m : Member) → k < length ls → l ≡ get_or ls k l
     → new ≡ now ++ m ∷ [] → IsMemberOf i o l lefts rights m
     → AddsLines i (map (disjunct_on o) (take k ls)) lefts rights old now → AddsLines i (map (disjunct_on o) (take (k + 1) ls)) lefts rights old new
 lines_more i o ls k l lefts rights old now new m h ek en is a =
     let taken : map (disjunct_on o) (take (k + 1) ls) ≡ map (disjunct_on o) (take k ls) ++ disjunct_on o l ∷ [] =
     subst (λ z. map (disjunct_on o) (take (k + 1) ls) ≡ map (disjunct_on o) (take k ls) ++ disjunct_on o z ∷ []) (sym ek) (map_more (disjunct_on o) ls k l h) in
-    record {
-      more = a.more ++ m ∷ [];
-      added = en ∙ ap (λ z. z ++ m ∷ []) a.added ∙ append_assoc old a.more (m ∷ []);
-      seen = map-append seen_of a.more (m ∷ []) ∙ ap (λ z. z ++ seen_of m ∷ []) a.seen ∙ ap (λ z. map (at_position i) (map (disjunct_on o) (take k ls)) ++ z ∷ []) is.seen
-          ∙ sym (map-append (at_position i) (map (disjunct_on o) (take k ls)) (disjunct_on o l ∷ [])) ∙ ap (map (at_position i)) (sym taken);
-      known = All-push (IsKnown lefts rights) a.more m a.known is.known;
-    }
-
-pub adds_outline : (i : ℕ) (ds : List Disjunct) (l0 r0 l r : List Side) (old new : List Member) → Grows l0 l → Grows r0 r → AddsLines i ds l r old new → AddsMembers i ds l0 r0 l r old new
-adds_outline i ds l0 r0 l r old new gl gr a = record { left = gl; right = gr; more = a.more; added = a.added; seen = a.seen; known = a.known }
-
--- one after another
-adds_then : (i : ℕ) (ds es : List Disjunct) (l0 r0 l r l' r' : List Side) (old now new : List Member) → AddsMembers i ds l0 r0 l r old now → AddsMembers i es l r l' r' now new
-    → AddsMembers i (ds ++ es) l0 r0 l' r' old new
-adds_then i ds es l0 r0 l r l' r' old now new a b = record {
-  left = grows_more l0 l l' a.left b.left;
-  right = grows_more r0 r r' a.right b.right;
-  more = a.more ++ b.more;
-  added = b.added ∙ ap (λ z. z ++ b.more) a.added ∙ append_assoc old a.more b.more;
-  seen = map-append seen_of a.more b.more ∙ ap (λ z. z ++ map seen_of b.more) a.seen ∙ ap (λ z. map (at_position i) ds ++ z) b.seen ∙ sym (map-append (at_position i) ds es);
-  known = All-append (IsKnown l' r') a.more b.more (All-weaker (IsKnown l r) (IsKnown l' r') (known_grown l r l' r' b.left b.right) a.more a.known) b.known;
-}
+    subst (λ z. AddsLines i z lefts rights old new) (sym taken)
+    (lines_then i (map (disjunct_on o) (take k ls)) (disjunct_on o l ∷ []) lefts rights lefts rights old now new (grows_none lefts) (grows_none rights) a
+    (line_one i (disjunct_on o l) lefts rights now new m en is.seen is.known))
 
 pub outlines_more : (i : ℕ) (os : List Outlined) (k : ℕ) (o : Outlined) (l0 r0 l r l' r' : List Side) (old now new : List Member) → k < length os → o ≡ get_or os k o
     → AddsMembers i (disjuncts_in o) l r l' r' now new → AddsMembers i (all_in (take k os)) l0 r0 l r old now → AddsMembers i (all_in (take (k + 1) os)) l0 r0 l' r' old new

@@ -42,21 +42,18 @@ pub record Grows (old new : List Side) : Type 0 where
 pub record HasSides (i : ℕ) (lists : List (List Connector)) (first : ℕ) (sides : List Side) : Type 0 where
   pub each : (k : ℕ) (cs : List Connector) → slice_get lists k ≡ Some cs → IsSideAt sides (first + k) i cs
 
--- the disjuncts of position i are added as members
-pub record AddsMembers (i : ℕ) (ds : List Disjunct) (old_lefts old_rights lefts rights : List Side) (old new : List Member) : Type 0 where
-  pub left : Grows old_lefts lefts
-  pub right : Grows old_rights rights
-  pub more : List Member
-  pub added : new ≡ old ++ more
-  pub seen : map seen_of more ≡ map (λ d. (i, d)) ds
-  pub known : All (IsKnown lefts rights) more
-
--- the same where the sides stay as they are
+-- the disjuncts of position i are added as members, whose sides are there
 pub record AddsLines (i : ℕ) (ds : List Disjunct) (lefts rights : List Side) (old new : List Member) : Type 0 where
   pub more : List Member
   pub added : new ≡ old ++ more
   pub seen : map seen_of more ≡ map (λ d. (i, d)) ds
   pub known : All (IsKnown lefts rights) more
+
+-- the same where the sides may grow
+pub record AddsMembers (i : ℕ) (ds : List Disjunct) (old_lefts old_rights lefts rights : List Side) (old new : List Member) : Type 0 where
+  pub left : Grows old_lefts lefts
+  pub right : Grows old_rights rights
+  pub lines : AddsLines i ds lefts rights old new
 
 -- all disjuncts of the positions from i on
 abbrev pub all_from : ℕ → List (List Disjunct) → List (ℕ × Disjunct)

@@ -1,5 +1,5 @@
 -- Where a link of some length ends, and the known sites that may be its partner there.
-use Rattle.std.specs.Prelude.{◌≡◌, ℕ, ◌+◌, ◌-◌, ◌≤◌, min, Bool, true, ltb, cond, ◌&&◌}
+use Rattle.std.specs.Prelude.{◌≡◌, ℕ, ◌+◌, ◌-◌, ◌<◌, ◌≤◌, min, Bool, true, ltb, cond, ◌&&◌}
 use Rattle.lg_gram.specs.Connectors.{Connector, Match}
 use Rattle.lg_member.specs.Cells.{Stands, class_of}
 use Rattle.lg_sharpen.specs.Filling.{MaySpan}
@@ -23,6 +23,11 @@ far_end right i n = cond right (i + n) (i - n)
 -- the two match, the first to the right of its word or to the left
 abbrev pub MatchOn : Bool → Connector → Connector → Type 0
 MatchOn right c other = cond right (Match c other) (Match other c)
+
+-- the class is that of the connector's capital letters
+pub record IsClassOf (c : Connector) (class : ℕ) : Type 0 where
+  pub value : class ≡ class_of c.caps
+  pub small : class < 64
 
 -- A link of the connector that is this long may end at the site, which reaches back. Where it is too long to be the nearest of both its ends, the site is not alone.
 pub record IsPartner (c : Connector) (long : Bool) (n : ℕ) (site : Site) : Type 0 where

@@ -4,7 +4,7 @@ ghost use Rattle.std.specs.List.{Any};
 ghost use Rattle.lg_gram.specs.Linkages.{Linkage};
 ghost use Rattle.lg_sharpen.specs.Filling.{MaySpan};
 ghost use Rattle.lg_reach.specs.Ends.{EndsSo, IsNear, Suits};
-ghost use Rattle.lg_reach.specs.Partners.{HasPartner, IsPartner, MatchOn, MayEnd, bound_on, far_end, is_long};
+ghost use Rattle.lg_reach.specs.Partners.{HasPartner, IsClassOf, IsPartner, MatchOn, MayEnd, bound_on, far_end, is_long};
 
 use crate::known::Known;
 use crate::site::{Site, Sites};
@@ -50,21 +50,36 @@ impl Stand<'_> {
         requires { end ≡ bound_on connector.now.right self.now }
         ensures { (n : ℕ) → MayEnd self.now known.now connector.now next.first n → next.least ≤ n → n < end → IsNear n result }
     {
+        let class = class_of(connector.caps());
         for length in next.least..end {
-            if self.may_end(known, connector, next.first, length) {
+            if self.may_end(known, connector, class, next.first, length) {
                 return Some(length);
             }
         }
         None
     }
 
-    // Whether a link of the connector may be so long.
-    fn may_end(&self, known: &Known, connector: &Connector, first: bool, length: usize) -> bool
-        requires { length < bound_on connector.now.right self.now }
+    // Whether a link of the connector, whose capital letters are of this class, may be so long.
+    fn may_end(
+        &self,
+        known: &Known,
+        connector: &Connector,
+        class: usize,
+        first: bool,
+        length: usize,
+    ) -> bool
+        requires length { length < bound_on connector.now.right self.now }
+        requires class { IsClassOf connector.now class }
         ensures { IsTrue result ↔ MayEnd self.now known.now connector.now first length }
     {
         self.is_open(known, connector, first, length)
-            && self.meets(&known.sites, connector, self.is_long(first, length), length)
+            && self.meets(
+                &known.sites,
+                connector,
+                class,
+                self.is_long(first, length),
+                length,
+            )
     }
 
     // Whether the nearest link may be so long, where nothing comes before the connector.
@@ -85,13 +100,21 @@ impl Stand<'_> {
     }
 
     // Whether a partner of the connector stands so far away, and reaches back.
-    fn meets(&self, sites: &Sites, connector: &Connector, long: bool, length: usize) -> bool
-        requires { length < bound_on connector.now.right self.now }
+    fn meets(
+        &self,
+        sites: &Sites,
+        connector: &Connector,
+        class: usize,
+        long: bool,
+        length: usize,
+    ) -> bool
+        requires length { length < bound_on connector.now.right self.now }
+        requires class { IsClassOf connector.now class }
         ensures { IsTrue result ↔ HasPartner sites.now self.now.position connector.now long length }
     {
         let right = connector.is_right();
         let position = self.far(right, length);
-        let others = sites.at(!right, position, class_of(connector.caps()));
+        let others = sites.at(!right, position, class);
         has_partner(connector, long, length, others)
     }
 

@@ -10,7 +10,7 @@ use Rattle.std.proofs.lemmas.List.{map-append}
 use Rattle.lg_gram.specs.Connectors.{Connector}
 use Rattle.lg_member.specs.Cells.{Table, Stands, Adds, class_of}
 use Rattle.lg_member.specs.declared.side.Side.{Side}
-use Rattle.lg_sharpen.specs.Sites.{MatchOn, MeetsOver, MayBeLone, IsWider, across, IsHeld, AddsSites, AddsOpen, IsOpen, IsTableOf, HasPartner, IsStarted, AreStarted, IsReach, items_in}
+use Rattle.lg_sharpen.specs.Sites.{MatchOn, MeetsOver, MayBeLone, IsWider, across, IsHeld, AddsSites, AddsOpen, IsOpen, IsPartner, IsTableOf, HasPartner, IsStarted, AreStarted, IsReach, items_in}
 use Rattle.lg_sharpen.specs.Filling.{Gaps, MaySpan}
 use Rattle.lg_sharpen.specs.declared.site.Site.{Site}
 
@@ -97,22 +97,29 @@ partner_in right most gaps i table s d j class cell ej ec at p =
     let e : class_of x.connector.caps ≡ class = ap class_of (same_caps right s.connector x.connector is.match_at) ∙ sym ec in
     (at x).1 (subst (λ z. Stands table j z x) e (subst (λ z. Stands table z (class_of x.connector.caps) x) (sym ej) p.1))
 
-pub partner_found : (right : Bool) (most : ℕ) (gaps : Gaps) (i : ℕ) (table : Table Site) (s : Site) (d j class : ℕ) (cell : List Site) (lone r : Bool) → ((lone ≡ true) ↔ MayBeLone right most gaps i d s.nearest) → j ≡ across right i d → class ≡ class_of s.connector.caps → ((x : Site) → Contains cell x ↔ Stands table j class x)
-    → ((r ≡ true) ↔ Any (MeetsOver right lone d s) cell) → HasPartner right most gaps i table s d → r ≡ true
-partner_found right most gaps i table s d j class cell lone r one ej ec at found p =
-    let is = p.2 in
-    let c = partner_in right most gaps i table s d j class cell ej ec at p in
-    found.1 (c.0, p.0, c.1, c.2, record { from = is.from; end = is.end; nearest = λ n. one.1 (is.lone n); later = is.later; before = is.before; behind = is.behind; beyond = is.beyond; match_at = is.match_at })
+pub partner_there : (right : Bool) (most : ℕ) (gaps : Gaps) (i : ℕ) (table : Table Site) (s : Site) (d j class : ℕ) (cell : List Site) → j ≡ across right i d → class ≡ class_of s.connector.caps → ((x : Site) → Contains cell x ↔ Stands table j class x)
+    → HasPartner right most gaps i table s d → Any (IsPartner right most gaps i d s) cell
+partner_there right most gaps i table s d j class cell ej ec at p = let c = partner_in right most gaps i table s d j class cell ej ec at p in (c.0, p.0, c.1, c.2, p.2)
 
 -- no partner is there where the cell has no site
 pub none_there : (right : Bool) (most : ℕ) (gaps : Gaps) (i : ℕ) (table : Table Site) (s : Site) (d j class : ℕ) (cell : List Site) → j ≡ across right i d → class ≡ class_of s.connector.caps → ((x : Site) → Contains cell x ↔ Stands table j class x)
     → length cell ≡ 0 → HasPartner right most gaps i table s d → ⊥
 none_there right most gaps i table s d j class cell ej ec at none p = let c = partner_in right most gaps i table s d j class cell ej ec at p in let w = c.1 in omega arith
 
--- no partner is there over a gap that is shut
-pub shut_off : (right : Bool) (most : ℕ) (gaps : Gaps) (i : ℕ) (table : Table Site) (s : Site) (d : ℕ) (near : Bool) → ((near ≡ true) ↔ (s.nearest ≡ true → MaySpan right gaps i d)) → near ≡ false
-    → HasPartner right most gaps i table s d → ⊥
-shut_off right most gaps i table s d near iff off p = let is = p.2 in let f : ◌≡◌ {A = Bool} true false = sym (iff.1 is.own) ∙ off in absurd cc
+-- a site is a partner where it meets this one, and the link may be the nearest where it is to be
+pub partner_met : (right : Bool) (most : ℕ) (gaps : Gaps) (i : ℕ) (s : Site) (d : ℕ) (cell : List Site) (near lone r : Bool) → ((near ≡ true) ↔ (s.nearest ≡ true → MaySpan right gaps i d)) → near ≡ true
+    → ((lone ≡ true) ↔ MayBeLone right most gaps i d s.nearest) → ((r ≡ true) ↔ Any (MeetsOver right lone d s) cell) → (r ≡ true) ↔ Any (IsPartner right most gaps i d s) cell
+partner_met right most gaps i s d cell near lone r may is one found = (
+  λ t. (let a = found.0 t in let m = a.4 in
+      (a.0, a.1, a.2, a.3, record { from = m.from; end = m.end; own = may.0 is; lone = λ n. one.0 (m.nearest n); later = m.later; before = m.before; behind = m.behind; beyond = m.beyond; match_at = m.match_at })),
+  λ a. (let m = a.4 in
+      found.1 (a.0, a.1, a.2, a.3, record { from = m.from; end = m.end; nearest = λ n. one.1 (m.lone n); later = m.later; before = m.before; behind = m.behind; beyond = m.beyond; match_at = m.match_at })),
+)
+
+-- none is a partner over a gap that is shut
+pub shut_off : (right : Bool) (most : ℕ) (gaps : Gaps) (i : ℕ) (s : Site) (d : ℕ) (cell : List Site) (near : Bool) → ((near ≡ true) ↔ (s.nearest ≡ true → MaySpan right gaps i d)) → near ≡ false
+    → Any (IsPartner right most gaps i d s) cell → ⊥
+shut_off right most gaps i s d cell near iff off a = let f : ◌≡◌ {A = Bool} true false = sym (iff.1 a.4.own) ∙ off in absurd cc
 
 -- the sites of a list before anything is known
 pub record StartedUpTo (cs : List Connector) (end p : ℕ) (sites : List Site) : Type 0 where

@@ -3,7 +3,7 @@ ghost use Rattle.std.specs.Prelude.{◌≡◌, ◌↔◌, ◌≤◌, true, not, 
 ghost use Rattle.std.specs.List.{Any};
 ghost use Rattle.lg_member.specs.Cells.{IsEmpty};
 ghost use Rattle.lg_sharpen.specs.Filling.{MaySpan};
-ghost use Rattle.lg_sharpen.specs.Sites.{AddsOpen, AddsSites, HasPartner, IsColumnOf, IsTableOf, MayBeLone, MeetsOver, across as position_across, items_in};
+ghost use Rattle.lg_sharpen.specs.Sites.{AddsOpen, AddsSites, HasPartner, IsColumnOf, IsPartner, IsTableOf, MayBeLone, MeetsOver, across as position_across, items_in};
 
 use crate::gaps::Gaps;
 use crate::site::{Site, are_open, meets};
@@ -85,7 +85,9 @@ pub(crate) fn column_of<'a>(cells: &'a Cells<Site>, site: &Site) -> Column<'a>
     Column { cells, class }
 }
 
-/// Whether the table has a partner of a site of the position, of a list to the right, or to the left, over this distance.
+/// Whether the table has a partner of a site of the position, of a list to the right, or to the left, over this distance. Most cells
+/// have no site, and then little is done.
+#[inline]
 pub(crate) fn has_partner(
     right: bool,
     most: u64,
@@ -104,6 +106,21 @@ pub(crate) fn has_partner(
     if others.is_empty() {
         return false;
     }
+    has_partner_in(right, most, gaps, position, site, distance, others)
+}
+
+// The same of the sites that lie this far away.
+fn has_partner_in(
+    right: bool,
+    most: u64,
+    gaps: &Gaps,
+    position: u32,
+    site: &Site,
+    distance: u32,
+    others: &[Site],
+) -> bool
+    ensures { IsTrue result ↔ Any (IsPartner right most gaps.now position distance site.now) others.now }
+{
     if !may_be_nearest(right, gaps, position, distance, site.nearest) {
         return false;
     }
