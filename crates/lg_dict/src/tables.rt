@@ -52,7 +52,7 @@ pub(crate) fn gather(
     ensures { IfOk result (λ g. AreGathered entries.items g.formulas.items g.words g.macros) }
 {
     let mut formulas = Vec::with_capacity(alloc, entries.len())?;
-    let mut words = IndexMap::with_capacity_and_hasher(alloc, entries.len(), salted)?;
+    let mut words = IndexMap::with_capacity_and_hasher(alloc, word_count(&entries), salted)?;
     let mut macros = IndexMap::with_hasher(alloc, salted);
     for entry in entries {
         // the call tells that the formula is within the limits
@@ -70,6 +70,15 @@ pub(crate) fn gather(
         words,
         macros,
     })
+}
+
+// How many words the entries have, for the room that their table wants.
+fn word_count(entries: &[Entry]) -> usize {
+    let mut count: usize = 0;
+    for entry in entries {
+        count = count.saturating_add(entry.words.items().len());
+    }
+    count
 }
 
 // Gives each name the value. None of the names is there yet.
@@ -138,11 +147,23 @@ pub(crate) fn list_table(
 ) -> Result<Table<Vec<usize>>, NoMemory>
     ensures { IfOk result (Lists by (text_keys words.now)) }
 {
-    let mut lists = IndexMap::with_hasher(alloc, *words.hasher());
+    let count = listed_count(by, words);
+    let mut lists = IndexMap::with_capacity_and_hasher(alloc, count, *words.hasher())?;
     for number in 0..words.len() {
         list_word(alloc, by, &mut lists, word_at(words, number), number)?;
     }
     Ok(lists)
+}
+
+// How many words are listed, for the room that their table wants: there are no more keys.
+fn listed_count(by: By, words: &Table<usize>) -> usize {
+    let mut count: usize = 0;
+    for word in words.keys() {
+        if key_under(by, word.as_slice()).is_some() {
+            count = count.saturating_add(1);
+        }
+    }
+    count
 }
 
 // The key by which a word is listed, if it is. No memory.
