@@ -1,7 +1,7 @@
 //! Alternatives of a key.
-ghost use Rattle.std.specs.Prelude.{◌≡◌, ◌<◌, ◌↔◌, IsTrue, [], length, Some, slice_get, IfOk, Contains};
+ghost use Rattle.std.specs.Prelude.{◌≡◌, ◌<◌, ◌↔◌, IsTrue, [], length, map, Some, slice_get, IfOk, Contains};
 ghost use Rattle.lg_region.specs.Keys.{kept};
-ghost use Rattle.lg_region.specs.Small.{IsSmall};
+ghost use Rattle.lg_region.specs.Small.{IsSmall, full};
 ghost use Rattle.lg_region.specs.declared.alternative.Alt.{Alt};
 
 use crate::key::{Joint, Key};
@@ -46,15 +46,17 @@ impl Model for Alts {
 }
 
 impl Alts {
-    /// The list of these alternatives.
+    /// The list of these alternatives. Most keys have none, and then nothing is called.
+    #[inline]
     pub fn of(alloc: Global, alts: &[Alt]) -> Result<Alts, NoMemory>
         requires { (a : Alt) → Contains alts.now a → IsSmall a }
         ensures { IfOk result (λ list. list ≡ alts.now) }
     {
-        let mut items = Vec::new(alloc);
-        for alt in alts {
-            items.push(Small::of(*alt))?;
+        if alts.is_empty() {
+            let items = Vec::new(alloc);
+            return Ok(Alts { items });
         }
+        let items = small_of(alloc, alts)?;
         Ok(Alts { items })
     }
 
@@ -104,4 +106,16 @@ impl Alts {
         items.truncate(count);
         Alts { items }
     }
+}
+
+// The same, each in few bytes.
+fn small_of(alloc: Global, alts: &[Alt]) -> Result<Vec<Small>, NoMemory>
+    requires { (a : Alt) → Contains alts.now a → IsSmall a }
+    ensures { IfOk result (λ items. map full items.items ≡ alts.now) }
+{
+    let mut items = Vec::with_capacity(alloc, alts.len())?;
+    for alt in alts {
+        items.push(Small::of(*alt))?;
+    }
+    Ok(items)
 }
