@@ -1,5 +1,5 @@
 -- The nodes of the keys of a forest make a listing.
-use Rattle.std.proofs.Common.{◌≡◌, ℕ, zero, suc, ◌<◌, ◌≤◌, true≢false, List, [], ◌∷◌, ◌++◌, length, map, replicate, get_or, Option, Some, None, slice_get, Contains, inl, inr, refl, sym, ap, ◌∙◌, subst, arith, pos, ◌+ℤ◌, length-append}
+use Rattle.std.proofs.Common.{◌≡◌, ℕ, zero, suc, ◌<◌, ◌≤◌, true≢false, List, [], ◌∷◌, ◌++◌, length, map, replicate, get_or, Option, Some, None, slice_get, Contains, refl, sym, ap, ◌∙◌, subst, arith, pos, ◌+ℤ◌}
 use Rattle.std.specs.Map.{keys_of}
 use Rattle.std.proofs.lemmas.List.{length-map, length-replicate}
 use Rattle.std.proofs.lemmas.Option.{slice_get_within, get_or_from_slice_get, slice_get-get_or}
@@ -13,7 +13,7 @@ use Rattle.lg_region.specs.declared.alternative.Alt.{Alt}
 use Rattle.lg_region.specs.Laws.{CutsAreValid, AlternativesDecide, WholeAlternativesDecide, NumbersTellListsApart}
 use Rattle.lg_forest.specs.Drafts.{HasAlt}
 use Rattle.lg_forest.specs.Forests.{Forest, IsForest}
-use Rattle.lg_rank.specs.Keyed.{subject_of, subjects_of, GetsNodeBy, ArePlaced, IsRootKey, IsAltFor, HasPartsBelow, AreWaysOf, IsFresh, AreNodesOf}
+use Rattle.lg_rank.specs.Keyed.{subject_of, subjects_of, GetsNodeBy, ArePlaced, IsRootKey, IsAltFor, AreInOrder, AreWaysOf, IsFresh, AreNodesOf}
 use Rattle.lg_rank.specs.Meanings.{IsCodeOf, IsPacked, unlinked_of, Subject, IsSubject, Cutting, IsWayFor, IsCutting, IsForestOf}
 use Rattle.lg_rank.specs.Nodes.{Has, no_way, ways_of, way_at}
 use Rattle.lg_rank.specs.Queues.{least_part}
@@ -27,29 +27,12 @@ use Rattle.lg_rank.proofs.Gluing.{none_at}
 use Rattle.lg_rank.proofs.Keyed.{alt_for, live_cutting, cutting_live, cutting_has, one_alt, one_cutting, subject_at}
 use Rattle.lg_rank.proofs.Meaning.{in_forest}
 use Rattle.lg_rank.proofs.Places.{map_at}
-use Rattle.lg_rank.proofs.Walking.{alt_of, at_cases}
+use Rattle.lg_rank.proofs.Walking.{alt_of}
 
 -- ---- the ways of one node
 -- a way stands for each cut that its alternative stands for
 abbrev pub StandsFor : List (List Disjunct) → List Key → ℕ → Key → Alt → Way → Type 0
-StandsFor positions keys k key a w = (lists : List (List Connector)) (c : Cutting) → IsAltFor positions lists key c a → IsCutting positions (subject_of lists key) c → HasPartsBelow keys k a → IsWayFor positions (subjects_of lists keys) k (subject_of lists key) w c
-
--- the ways of the first n alternatives
-pub record Ways (positions : List (List Disjunct)) (keys : List Key) (k : ℕ) (key : Key) (alts : List Alt) (n : ℕ) (ways : List Way) : Type 0 where
-  pub long : length ways ≡ n
-  pub each : (p : ℕ) (w : Way) → slice_get ways p ≡ Some w → (a : Alt) × (slice_get alts p ≡ Some a) × StandsFor positions keys k key a w
-
-more_ways : (positions : List (List Disjunct)) (keys : List Key) (k : ℕ) (key : Key) (alts : List Alt) (n m : ℕ) (ways : List Way) (a : Alt) (w : Way) → m ≡ suc n → slice_get alts n ≡ Some a → StandsFor positions keys k key a w → Ways positions keys k key alts n ways → Ways positions keys k key alts m (ways ++ w ∷ [])
-more_ways positions keys k key alts n m ways a w next at stands is = record {
-  long = (let e = length-append ways (w ∷ []) in let f = is.long in omega arith);
-  each = λ p v here. elim (at_cases ways w p v here) [
-    | inl e ↦ is.each p v e
-    | inr e ↦ (a, subst (λ z. slice_get alts z ≡ Some a) (sym is.long ∙ sym e.0) at, subst (λ z. StandsFor positions keys k key a z) e.1 stands)
-  ];
-}
-
-pub ways_more : (positions : List (List Disjunct)) (keys : List Key) (k : ℕ) (key : Key) (alts : List Alt) (n m : ℕ) (ways new : List Way) (a : Alt) (w : Way) → m ≡ suc n → slice_get alts n ≡ Some a → StandsFor positions keys k key a w → new ≡ ways ++ w ∷ [] → Ways positions keys k key alts n ways → Ways positions keys k key alts m new
-ways_more positions keys k key alts n m ways new a w next at stands e is = subst (λ z. Ways positions keys k key alts m z) (sym e) (more_ways positions keys k key alts n m ways a w next at stands is)
+StandsFor positions keys k key a w = (lists : List (List Connector)) (c : Cutting) → IsAltFor positions lists key c a → IsCutting positions (subject_of lists key) c → IsWayFor positions (subjects_of lists keys) k (subject_of lists key) w c
 
 -- the laws that are needed
 pub record Laws (positions : List (List Disjunct)) (lists : List (List Connector)) : Type 0 where
@@ -80,7 +63,7 @@ module _ (positions : List (List Disjunct)) (from : ℕ) (forest : Forest) (is :
   for_way a w has stands =
       let alt = alt_of positions from forest is key a has in
       let c = alt_for positions is.lists key a gets.links alt.0 in
-      (c.0, c.1, stands is.lists c.0 c.1 (live_cutting positions is.lists key c.0 a c.1 alt.1) (λ part h. placed.below k key at a part has h))
+      (c.0, c.1, stands is.lists c.0 c.1 (live_cutting positions is.lists key c.0 a c.1 alt.1))
 
   -- and for no other
   own_cut : (a : Alt) (w : Way) (c : Cutting) → HasAlt forest key a → StandsFor positions keys k key a w → ForWay w c → IsAltFor positions is.lists key c a
@@ -88,7 +71,7 @@ module _ (positions : List (List Disjunct)) (from : ℕ) (forest : Forest) (is :
       let r = for_way a w has stands in
       subst (λ z. IsAltFor positions is.lists key z a) (one_cutting positions Subjects k Own w r.0 c r.2 way) r.1
 
-  pub ways_all : (alts : List Alt) (n : ℕ) (ways : List Way) → Contains forest.entries (key, alts) → length alts ≤ n → Ways positions keys k key alts n ways → AreWaysOf positions (subjects_of is.lists keys) k ways
+  pub ways_all : (alts : List Alt) (n : ℕ) (ways : List Way) → Contains forest.entries (key, alts) → length alts ≤ n → AreInOrder (StandsFor positions keys k key) alts n ways → AreWaysOf positions (subjects_of is.lists keys) k ways
   ways_all alts n ways here end all =
       let live = is.alts key alts here in
       let alt_at : (p : ℕ) (a : Alt) → slice_get alts p ≡ Some a → HasAlt forest key a = λ p a e. (alts, here, (p, slice_get_within alts p a e, get_or_from_slice_get alts p a a e)) in record {
@@ -115,7 +98,7 @@ module _ (positions : List (List Disjunct)) (from : ℕ) (forest : Forest) (is :
             let f : slice_get alts i.0 ≡ Some a.alt = slice_get-get_or alts i.0 a.alt i.1 ∙ ap Some i.2 in
             let same : a.alt ≡ s.0 = (let g = s.1 in cc) in
             let for : IsAltFor positions is.lists key c s.0 = subst (λ z. IsAltFor positions is.lists key c z) {y = s.0} same a.for in
-            let r = s.2 is.lists c for cut_own (λ part h. placed.below k key at s.0 part (alt_at i.0 s.0 s.1) h) in
+            let r = s.2 is.lists c for cut_own in
             (i.0, w, e, subst (λ z. IsWayFor positions Subjects k z w c) (sym own) r);
       }
 
@@ -126,18 +109,6 @@ module _ (positions : List (List Disjunct)) (from : ℕ) (forest : Forest) (is :
     once = λ p q v w c h. absurd cc;
     all = λ c cut. absurd (none ((is.nodes key).1 (gets.demanded, cutting_has laws.regions laws.wholes positions is.lists key c gets.links (subst (λ z. IsCutting positions z c) own cut))));
   })
-
--- ---- the nodes
-
-pub nodes_more : (positions : List (List Disjunct)) (subjects : ℕ → Subject) (n m : ℕ) (nodes new : List Node) (node : Node) → m ≡ suc n → new ≡ nodes ++ node ∷ [] → AreWaysOf positions subjects n node.ways.items → IsFresh node → AreNodesOf positions subjects n nodes → AreNodesOf positions subjects m new
-nodes_more positions subjects n m nodes new node next e ways fresh is = subst (λ z. AreNodesOf positions subjects m z) (sym e) (record {
-  long = (let f = length-append nodes (node ∷ []) in let g = is.long in omega arith);
-  ways = λ k t at. elim (at_cases nodes node k t at) [
-    | inl h ↦ is.ways k t h
-    | inr h ↦ subst (λ z. AreWaysOf positions subjects k z.ways.items) h.1 (subst (λ z. AreWaysOf positions subjects z node.ways.items) (sym is.long ∙ sym h.0) ways)
-  ];
-  fresh = λ k t at. elim (at_cases nodes node k t at) [ inl h ↦ is.fresh k t h | inr h ↦ subst (λ z. IsFresh z) h.1 fresh ];
-})
 
 -- ---- the part in which nothing is linked
 no_costs : (n : ℕ) → cost_sum (replicate n None) ≡ pos 0

@@ -1,5 +1,5 @@
 -- Ways of the alternatives of a key stand for its cuts.
-use Rattle.std.proofs.Common.{◌≡◌, ℕ, suc, ◌-◌, ◌<◌, List, [], length, get_or, Option, Some, None, IfSome, slice_get, Contains, ◌⊎◌, inl, inr, refl, sym, ap, ◌∙◌, subst, arith}
+use Rattle.std.proofs.Common.{◌≡◌, ℕ, suc, ◌-◌, ◌<◌, List, [], length, get_or, Option, Some, None, slice_get, Contains, inl, inr, refl, sym, ap, ◌∙◌, subst, arith}
 use Rattle.std.proofs.lemmas.Bool.{cases_lt}
 use Rattle.std.proofs.lemmas.Cmp.{tied_itself}
 use Rattle.std.proofs.lemmas.List.{get_or_past, get_or_default}
@@ -21,7 +21,7 @@ use Rattle.lg_region.specs.Parts.{Region}
 use Rattle.lg_region.specs.Whole.{First, first}
 use Rattle.lg_forest.specs.Demands.{HasLinkageUnder}
 use Rattle.lg_forest.specs.Forests.{IsLive}
-use Rattle.lg_rank.specs.Keyed.{subject_of, subjects_of, IsNothing, IsBefore, IsNumberFor, near_link, far_link, IsFirstAlt, IsSplitAlt, IsAltFor, HasPartsBelow}
+use Rattle.lg_rank.specs.Keyed.{subject_of, subjects_of, IsNumberFor, near_link, far_link, IsFirstAlt, IsSplitAlt, IsAltFor}
 use Rattle.lg_rank.specs.Meanings.{IsCodeOf, Subject, whole, region, IsSubject, joint_link, IsPartFor, IsWord, Cutting, split_at, begins_at, IsWayFor, IsCutting}
 use Rattle.lg_rank.specs.declared.part.Way.{Way}
 use Rattle.lg_rank.proofs.Meaning.{no_cut}
@@ -251,23 +251,6 @@ way_for laws positions lists keys k (Between left right llist rlist nulls) (spli
       left = part_for laws positions lists keys k is.lkey w.left c.lkey l_wide is.means.before cut.1 (subst (λ z. IsNumberFor keys k z w.left) e.4 l);
       right = part_for laws positions lists keys k is.rkey w.right c.rkey r_wide is.means.behind cut.2 (subst (λ z. IsNumberFor keys k z w.right) e.5 r);
     }
-
-part_below : (keys : List Key) (k : ℕ) (o : Option Key) → ((part : Key) → o ≡ Some part → IsNothing part ⊎ IsBefore keys k part) → IfSome o (λ part. IsNothing part ⊎ IsBefore keys k part)
-part_below keys k None h = tt
-part_below keys k (Some m) h = h m refl
-
--- the way that is made of an alternative
-pub way_is : RegionsAreCutOnce → (positions : List (List Disjunct)) (lists : List (List Connector)) (keys : List Key) (k : ℕ) (key : Key) (c : Cutting) (a : Alt) (word number : ℕ) (to_left to_right : Option Joint) (lkey rkey : Option Key) (near far : Option Link) (lower upper : Option ℕ) (w : Way)
-    → a ≡ At word number to_left to_right lkey rkey → near ≡ near_link key word to_left → far ≡ far_link key word to_right → ((d : Disjunct) → IsDisjunctAt positions word number d → IsWord positions w word d near far) → w.left ≡ lower → w.right ≡ upper
-    → ((j : ℕ) → IfSome lkey (λ part. IsNothing part ⊎ IsBefore keys j part) → IsNumberFor keys j lkey lower) → ((j : ℕ) → IfSome rkey (λ part. IsNothing part ⊎ IsBefore keys j part) → IsNumberFor keys j rkey upper)
-    → IsAltFor positions lists key c a → IsCutting positions (subject_of lists key) c → HasPartsBelow keys k a → IsWayFor positions (subjects_of lists keys) k (subject_of lists key) w c
-way_is laws positions lists keys k key c a word number to_left to_right lkey rkey near far lower upper w is near_is far_is is_word left_is right_is l r for cut parts =
-    let below = subst (λ z. HasPartsBelow keys k z) is parts in
-    way_for laws positions lists keys k key c word number to_left to_right lkey rkey w
-    (λ d at. subst (λ z. IsWord positions w word d (near_link key word to_left) z) far_is (subst (λ z. IsWord positions w word d z far) near_is (is_word d at)))
-    (subst (λ z. IsNumberFor keys k lkey z) (sym left_is) (l k (part_below keys k lkey (λ part e. below part (inl e)))))
-    (subst (λ z. IsNumberFor keys k rkey z) (sym right_is) (r k (part_below keys k rkey (λ part e. below part (inr e)))))
-    (subst (λ z. IsAltFor positions lists key c z) is for) cut
 
 -- the disjunct of an alternative is listed
 pub number_within : (positions : List (List Disjunct)) (lists : List (List Connector)) (key : Key) (c : Cutting) (a : Alt) (word number : ℕ) (to_left to_right : Option Joint) (lkey rkey : Option Key) → a ≡ At word number to_left to_right lkey rkey → IsAltFor positions lists key c a → number < length (get_or positions word [])

@@ -33,4 +33,5 @@ pub mod Walking
 pub mod Building
 pub mod Numbers
 pub mod Nexts
+pub mod Noding
 pub mod Following

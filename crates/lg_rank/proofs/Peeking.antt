@@ -1,16 +1,15 @@
 -- The least part of a node that is not begun: it is found alone.
-use Rattle.std.proofs.Common.{◌≡◌, ◌≢◌, ℕ, suc, ◌+◌, ◌<◌, ◌≤◌, ◌⊎◌, inl, inr, Bool, true, false, List, [], ◌∷◌, ◌++◌, length, get_or, map, set, slice_get, take, Option, Some, None, IfOk, Result, Ok, Err, refl, sym, ap, ◌∙◌, subst, Less, arith, length-take-le}
-use Rattle.std.specs.BinaryHeap.{heap_items}
+use Rattle.std.proofs.Common.{◌≡◌, ℕ, suc, ◌+◌, ◌<◌, ◌≤◌, inl, inr, Bool, true, false, List, [], ◌∷◌, ◌++◌, length, get_or, map, set, slice_get, take, Option, Some, None, IfOk, Result, Ok, Err, refl, sym, ap, ◌∙◌, subst, arith, length-take-le}
 use Rattle.std.specs.Cmp.{IsTotalOrder}
 use Rattle.std.specs.List.Sorted.{IsPermutation}
 use Rattle.std.proofs.lemmas.List.Sorted.{Contains-permutation, length_permutation}
 use Rattle.std.proofs.Math.Seq.{take-suc}
 use Rattle.std.proofs.lemmas.List.{take_all}
 use Rattle.std.proofs.lemmas.Option.{get_or_from_slice_get, slice_get_within}
-use Rattle.lg_rank.specs.Fronts.{AtMost, Extends, IsAll, IsFront, IsIn}
+use Rattle.lg_rank.specs.Fronts.{Extends, IsAll, IsFront, IsIn}
 use Rattle.lg_rank.specs.Nodes.{Has, IsForest, setting, way_at, ways_of}
 use Rattle.lg_rank.specs.Queues.{IsLeastOf, IsLesser, IsWaiting, MakesAt, least_part, waiting_list}
-use Rattle.lg_rank.specs.Tables.{Grown, IsIdle, IsNode, IsNth, IsPeeked, IsTable, RowsOf, Shows, forest_of, held_by, parts, ready_at, ready_in, ready_of, seen, values_of}
+use Rattle.lg_rank.specs.Tables.{Grown, IsIdle, IsNode, IsNth, IsPeeked, IsTable, Shows, forest_of, held_by, parts, ready_at, ready_in, ready_of, seen}
 use Rattle.lg_rank.specs.Values.{Value, value_cmp, value_of}
 use Rattle.lg_rank.specs.declared.node.Node.{Node}
 use Rattle.lg_rank.specs.declared.node.Row.{Row}

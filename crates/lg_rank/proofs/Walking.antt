@@ -1,8 +1,6 @@
 -- The keys that get nodes, parts before wholes.
-use Rattle.std.proofs.Common.{◌≡◌, ℕ, zero, suc, ◌-◌, ◌<◌, ◌≤◌, Result, Ok, Err, List, [], ◌∷◌, ◌++◌, length, map, Some, None, slice_get, Contains, ◌⊎◌, inl, inr, refl, sym, ap, ◌∙◌, subst, arith}
-use Rattle.std.specs.Result.{OnOk}
-use Rattle.std.proofs.lemmas.Bool.{cases_lt}
-use Rattle.std.proofs.lemmas.Option.{slice_get_within, get_or_from_slice_get, slice_get-get_or}
+use Rattle.std.proofs.Common.{◌≡◌, ℕ, zero, suc, ◌-◌, ◌<◌, ◌≤◌, List, [], ◌∷◌, ◌++◌, length, map, Some, None, slice_get, Contains, ◌⊎◌, inl, inr, refl, sym, ap, subst, arith}
+use Rattle.std.proofs.lemmas.Option.{slice_get_within, get_or_from_slice_get}
 use Rattle.lg_gram.specs.Connectors.{Connector}
 use Rattle.lg_gram.specs.declared.disjunct.Disjunct.{Disjunct}
 use Rattle.lg_region.specs.declared.key.Key.{Key}
@@ -19,16 +17,8 @@ use Rattle.lg_forest.specs.Drafts.{HasAlt}
 use Rattle.lg_forest.specs.Forests.{Forest, IsForest, IsLive}
 use Rattle.lg_forest.specs.Search.{key_width, alt_bound}
 use Rattle.lg_rank.specs.Fronts.{IsIn, Extends}
-use Rattle.lg_rank.specs.Keyed.{subject_of, IsNothing, AddsKey, IsBefore, GetsNodeBy, GetsNode, EachPart, ArePlaced}
+use Rattle.lg_rank.specs.Keyed.{subject_of, IsNothing, IsBefore, GetsNodeBy, GetsNode, EachPart, ArePlaced}
 use Rattle.lg_rank.specs.Meanings.{IsSubject}
-
-pub on_ok_as : {T E : Type 0} (r : Result T E) (P Q : Type 0) → (P → Q) → OnOk r P → OnOk r Q
-on_ok_as (Ok x) P Q f h = f h
-on_ok_as (Err e) P Q f h = tt
-
-pub on_ok_both : {T E : Type 0} (r : Result T E) (P Q R : Type 0) → (P → Q → R) → OnOk r P → OnOk r Q → OnOk r R
-on_ok_both (Ok x) P Q R f h g = f h g
-on_ok_both (Err e) P Q R f h g = tt
 
 pub has_alt : (forest : Forest) (key : Key) (alts : List Alt) (i : ℕ) (a : Alt) → Contains forest.entries (key, alts) → slice_get alts i ≡ Some a → HasAlt forest key a
 has_alt forest key alts i a here at = (alts, here, (i, slice_get_within alts i a at, get_or_from_slice_get alts i a a at))
@@ -139,28 +129,14 @@ extends_all xs i x e = e
 pub extends_then : {A : Type 0} (xs ys zs : List A) → Extends xs ys → Extends ys zs → Extends xs zs
 extends_then xs ys zs f g i x e = g i x (f i x e)
 
-pub in_more : (old new : List Key) (m : Key) → Extends old new → IsNothing m ⊎ IsIn old m → IsNothing m ⊎ IsIn new m
-in_more old new m more h = elim h [ inl n ↦ inl n | inr at ↦ inr (at.0, more at.0 m at.1) ]
-
-pub adds_more : (old : List Key) (key : Key) (new : List Key) → AddsKey old key new → Extends old new
-adds_more old key new adds = elim adds [
-  | inl e ↦ subst (λ z. Extends old z) (sym e) (λ i x at. at_front old (key ∷ []) i x at)
-  | inr h ↦ subst (λ z. Extends old z) (sym h.0) (extends_all old)
-]
-
-pub adds_there : (old : List Key) (key : Key) (new : List Key) → AddsKey old key new → IsIn new key
-adds_there old key new adds = elim adds [
-  | inl e ↦ (length old, ap (λ z. slice_get z (length old)) e ∙ at_end old key)
-  | inr h ↦ (h.1.0, ap (λ z. slice_get z h.1.0) h.0 ∙ h.1.1)
-]
-
 before_more : (old new : List Key) (k : ℕ) (m : Key) → Extends old new → IsNothing m ⊎ IsBefore old k m → IsNothing m ⊎ IsBefore new k m
 before_more old new k m more h = elim h [ inl n ↦ inl n | inr at ↦ inr (at.0, at.1, more at.0 m at.2) ]
 
 before_end : (old new : List Key) (m : Key) → Extends old new → IsNothing m ⊎ IsIn old m → IsNothing m ⊎ IsBefore new (length old) m
 before_end old new m more h = elim h [ inl n ↦ inl n | inr at ↦ inr (at.0, slice_get_within old at.0 m at.1, more at.0 m at.1) ]
 
-placed_pushed : (positions : List (List Disjunct)) (forest : Forest) (old : List Key) (key : Key) → ArePlaced positions forest old → GetsNode positions forest key → EachPart forest key (IsIn old) → ArePlaced positions forest (old ++ key ∷ [])
+-- keys with one more at the end, all of whose parts are there
+pub placed_pushed : (positions : List (List Disjunct)) (forest : Forest) (old : List Key) (key : Key) → ArePlaced positions forest old → GetsNode positions forest key → EachPart forest key (IsIn old) → ArePlaced positions forest (old ++ key ∷ [])
 placed_pushed positions forest old key placed gets parts =
     let more : Extends old (old ++ key ∷ []) = λ i x at. at_front old (key ∷ []) i x at in record {
       each = λ k m at. elim (at_cases old key k m at) [ inl e ↦ placed.each k m e | inr e ↦ subst (λ z. GetsNode positions forest z) e.1 gets ];
@@ -171,44 +147,6 @@ placed_pushed positions forest old key placed gets parts =
             subst (λ z. IsNothing part ⊎ IsBefore (old ++ key ∷ []) z part) (sym e.0) r)
       ];
     }
-
-pub placed_adds : (positions : List (List Disjunct)) (forest : Forest) (old : List Key) (key : Key) (new : List Key) → ArePlaced positions forest old → GetsNode positions forest key → EachPart forest key (IsIn old) → AddsKey old key new → ArePlaced positions forest new
-placed_adds positions forest old key new placed gets parts adds = elim adds [
-  | inl e ↦ subst (λ z. ArePlaced positions forest z) (sym e) (placed_pushed positions forest old key placed gets parts)
-  | inr h ↦ subst (λ z. ArePlaced positions forest z) (sym h.0) placed
-]
-
--- ---- the alternatives of a key, one after another
-abbrev pub PartsIn : List Alt → ℕ → List Key → Type 0
-PartsIn alts n keys = (p : ℕ) (a : Alt) (part : Key) → p < n → slice_get alts p ≡ Some a → HasKey a part → IsNothing part ⊎ IsIn keys part
-
-pub record Visited (positions : List (List Disjunct)) (forest : Forest) (old : List Key) (alts : List Alt) (n : ℕ) (keys : List Key) : Type 0 where
-  pub placed : ArePlaced positions forest keys
-  pub grown : Extends old keys
-  pub parts : PartsIn alts n keys
-
-pub visited_more : (positions : List (List Disjunct)) (forest : Forest) (old : List Key) (alts : List Alt) (n m : ℕ) (a : Alt) (keys new : List Key) → m ≡ suc n → slice_get alts n ≡ Some a → Visited positions forest old alts n keys
-    → ArePlaced positions forest new → Extends keys new → ((part : Key) → HasKey a part → IsNothing part ⊎ IsIn new part) → Visited positions forest old alts m new
-visited_more positions forest old alts n m a keys new next at v placed more parts = record {
-  placed = placed;
-  grown = extends_then old keys new v.grown more;
-  parts = λ p b part less here has. elim (cases_lt p n) [
-    | inl lt ↦ in_more keys new part more (v.parts p b part lt here has)
-    | inr past ↦ (
-        let e : n ≡ p = omega arith in
-        let f : slice_get alts p ≡ Some a = subst (λ z. slice_get alts z ≡ Some a) e at in
-        let same : a ≡ b = cc in
-        parts part (subst (λ z. HasKey z part) (sym same) has))
-  ];
-}
-
--- all live alternatives of the key were visited
-pub visited_all : (positions : List (List Disjunct)) (from : ℕ) (forest : Forest) → IsForest positions from forest → (key : Key) (old : List Key) (alts : List Alt) (n : ℕ) (keys : List Key) → Contains forest.entries (key, alts) → length alts ≤ n → Visited positions forest old alts n keys → EachPart forest key (IsIn keys)
-visited_all positions from forest is key old alts n keys here end v a part at has =
-    let i = ((is.alts key alts here).exactly a).1 (alt_of positions from forest is key a at) in
-    let e = slice_get-get_or alts i.0 a i.1 in
-    let lt = i.1 in
-    v.parts i.0 a part (omega arith) (e ∙ ap Some i.2) has
 
 -- a key that is not in the forest has no alternative
 pub contains_map : {X Y : Type 0} (f : X → Y) (xs : List X) (x : X) → Contains xs x → Contains (map f xs) (f x)

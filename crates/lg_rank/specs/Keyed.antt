@@ -1,11 +1,14 @@
 -- Nodes for the keys of a forest.
 use Rattle.std.specs.BinaryHeap.{heap_items}
-use Rattle.std.specs.Prelude.{◌≡◌, ℕ, ◌<◌, ◌≤◌, false, List, [], ◌∷◌, ◌++◌, length, Option, None, Some, slice_get, slice_index_or, ◌⊎◌}
+use Rattle.std.specs.Prelude.{◌≡◌, ℕ, ◌<◌, ◌≤◌, Bool, true, false, List, [], ◌∷◌, ◌++◌, length, Option, None, Some, slice_get, slice_index_or, ◌⊎◌}
 use Rattle.lg_gram.specs.Connectors.{Connector}
 use Rattle.lg_gram.specs.declared.disjunct.Disjunct.{Disjunct}
 use Rattle.lg_gram.specs.declared.linkage.Link.{Link}
 use Rattle.lg_region.specs.Cuts.{Split}
-use Rattle.lg_region.specs.Keys.{region_of_numbers, IsFirstOf, IsSplitOf, IsValidKey}
+use Rattle.std.specs.Global.{Vec}
+use Rattle.std.specs.List.{Contains}
+use Rattle.std.specs.Map.{keys_of}
+use Rattle.lg_region.specs.Keys.{region_of_numbers, IsDisjunctAt, IsFirstOf, IsSplitOf, IsValidKey}
 use Rattle.lg_region.specs.Laws.{HasKey}
 use Rattle.lg_region.specs.Parts.{Region}
 use Rattle.lg_region.specs.Whole.{First}
@@ -17,8 +20,7 @@ use Rattle.lg_region.specs.declared.key.Key.TheVariants.{Whole, Region as Betwee
 use Rattle.lg_forest.specs.Demands.{IsDemanded}
 use Rattle.lg_forest.specs.Drafts.{HasAlt}
 use Rattle.lg_forest.specs.Forests.{Forest, IsForest}
-use Rattle.lg_rank.specs.Fronts.{IsIn}
-use Rattle.lg_rank.specs.Meanings.{Subject, whole, region, IsSubject, joint_link, Cutting, split_at, begins_at, IsWayFor, IsCutting}
+use Rattle.lg_rank.specs.Meanings.{Subject, whole, region, IsSubject, joint_link, Cutting, IsWord, split_at, begins_at, IsWayFor, IsCutting}
 use Rattle.lg_rank.specs.declared.node.Node.{Node}
 use Rattle.lg_rank.specs.declared.part.Way.{Way}
 
@@ -40,9 +42,10 @@ IsNothing (Between left right llist rlist nulls) = (llist ≡ 0) × (rlist ≡ 0
 abbrev pub IsFirstPlace : List Key → Key → ℕ → Type 0
 IsFirstPlace keys key k = (slice_get keys k ≡ Some key) × ((j : ℕ) → slice_get keys j ≡ Some key → k ≤ j)
 
--- the key comes to the end, or was there
-abbrev pub AddsKey : List Key → Key → List Key → Type 0
-AddsKey old key new = (new ≡ old ++ key ∷ []) ⊎ ((new ≡ old) × IsIn old key)
+-- the key has this number: it is new and comes to the end, or it was there
+abbrev pub AddsKey : List Key → Key → List Key → ℕ → Bool → Type 0
+AddsKey old key new number true = (new ≡ old ++ key ∷ []) × (number ≡ length old)
+AddsKey old key new number false = (new ≡ old) × (slice_get old number ≡ Some key)
 
 -- the key stands before place k
 abbrev pub IsBefore : List Key → ℕ → Key → Type 0
@@ -110,10 +113,6 @@ IsAltFor positions lists (Whole nulls) (begins_at c) a = IsFirstAlt positions li
 IsAltFor positions lists (Between left right llist rlist nulls) (split_at c) a = IsSplitAlt positions lists (region_of_numbers lists left right llist rlist nulls) c a
 IsAltFor positions lists _ _ a = ⊥
 
--- the keys of the parts of an alternative stand before place k, but for those under which nothing can be linked
-abbrev pub HasPartsBelow : List Key → ℕ → Alt → Type 0
-HasPartsBelow keys k a = (part : Key) → HasKey a part → IsNothing part ⊎ IsBefore keys k part
-
 -- the ways of node k stand for its cuts that some linkage has, each once
 pub record AreWaysOf (positions : List (List Disjunct)) (subjects : ℕ → Subject) (k : ℕ) (ways : List Way) : Type 0 where
   pub each : (p : ℕ) (w : Way) → slice_get ways p ≡ Some w → (c : Cutting) × IsWayFor positions subjects k (subjects k) w c
@@ -130,4 +129,42 @@ pub record IsFresh (node : Node) : Type 0 where
 pub record AreNodesOf (positions : List (List Disjunct)) (subjects : ℕ → Subject) (count : ℕ) (nodes : List Node) : Type 0 where
   pub long : length nodes ≡ count
   pub ways : (k : ℕ) (node : Node) → slice_get nodes k ≡ Some node → AreWaysOf positions subjects k node.ways.items
+  pub fresh : (k : ℕ) (node : Node) → slice_get nodes k ≡ Some node → IsFresh node
+
+-- a way of node k stands for an alternative of its key: it has the word, the links of the joints, and the lower nodes of the parts
+pub record IsWayOf (positions : List (List Disjunct)) (keys : List Key) (k : ℕ) (key : Key) (a : Alt) (w : Way) : Type 0 where
+  pub word : ℕ
+  pub number : ℕ
+  pub to_left : Option Joint
+  pub to_right : Option Joint
+  pub lkey : Option Key
+  pub rkey : Option Key
+  pub is : a ≡ At word number to_left to_right lkey rkey
+  pub has_word : (d : Disjunct) → IsDisjunctAt positions word number d → IsWord positions w word d (near_link key word to_left) (far_link key word to_right)
+  pub left : IsNumberFor keys k lkey w.left
+  pub right : IsNumberFor keys k rkey w.right
+
+-- a way for each of the first n alternatives, in order
+pub record AreInOrder (Stands : Alt → Way → Type 0) (alts : List Alt) (n : ℕ) (ways : List Way) : Type 0 where
+  pub long : length ways ≡ n
+  pub each : (p : ℕ) (w : Way) → slice_get ways p ≡ Some w → (a : Alt) × (slice_get alts p ≡ Some a) × Stands a w
+
+-- the ways of all alternatives of a key: none where the forest does not have the key
+abbrev pub HasWays : List (List Disjunct) → Forest → List Key → ℕ → Key → List Way → Type 0
+HasWays positions forest keys k key ways =
+    ((Contains (keys_of forest.entries) key → ⊥) × (ways ≡ []))
+    ⊎ ((alts : List Alt) × Contains forest.entries (key, alts) × AreInOrder (IsWayOf positions keys k key) alts (length alts) ways)
+
+-- a key has this number: it is new and comes to the end with its node, of which nothing was made; or it was there, and nothing changes
+pub record PutsNode (old : List Key) (old_nodes : List Node) (key : Key) (ways : Vec Way) (keys : List Key) (nodes : List Node) (number : ℕ) : Type 0 where
+  pub is_new : Bool
+  pub adds : AddsKey old key keys number is_new
+  pub known : is_new ≡ false → nodes ≡ old_nodes
+  pub made : is_new ≡ true → (node : Node) × (nodes ≡ old_nodes ++ node ∷ []) × (node.ways ≡ ways) × IsFresh node
+
+-- the keys that were walked to, parts before wholes, each with its node, of which nothing was made
+pub record AreMade (positions : List (List Disjunct)) (forest : Forest) (keys : List Key) (nodes : List Node) : Type 0 where
+  pub placed : ArePlaced positions forest keys
+  pub long : length nodes ≡ length keys
+  pub ways : (k : ℕ) (key : Key) (node : Node) → slice_get keys k ≡ Some key → slice_get nodes k ≡ Some node → HasWays positions forest keys k key node.ways.items
   pub fresh : (k : ℕ) (node : Node) → slice_get nodes k ≡ Some node → IsFresh node

@@ -7,9 +7,9 @@ ghost use Rattle.lg_region.specs.Laws.{HasKey};
 ghost use Rattle.lg_region.specs.Small.{IsSmall};
 ghost use Rattle.lg_region.specs.declared.key.Key.{Key as SeenKey};
 ghost use Rattle.lg_forest.specs.Forests.{IsForest};
-ghost use Rattle.lg_rank.specs.Fronts.{IsIn, Extends};
-ghost use Rattle.lg_rank.specs.Keyed.{subject_of, subjects_of, IsNothing, IsBefore, IsNumberFor, GetsNode, EachPart, ArePlaced, IsRootKey, near_link, far_link, IsAltFor, HasPartsBelow, AreWaysOf, AreNodesOf};
-ghost use Rattle.lg_rank.specs.Meanings.{joint_link, IsWord, Cutting, IsWayFor, IsCutting};
+ghost use Rattle.lg_rank.specs.Fronts.{Extends};
+ghost use Rattle.lg_rank.specs.Keyed.{AreMade, GetsNode, HasWays, IsAltFor, IsNothing, IsNumberFor, IsRootKey, IsWayOf, PutsNode, near_link, far_link};
+ghost use Rattle.lg_rank.specs.Meanings.{joint_link, IsWord, Cutting};
 ghost use Rattle.lg_rank.specs.Rankings.{IsListing};
 ghost use Rattle.lg_rank.specs.Small.{IsShort, HasShortEnds};
 ghost use Rattle.lg_rank.specs.Values.{nothing_of};
@@ -37,107 +37,170 @@ fn is_nothing(key: &Key) -> bool
     }
 }
 
-// Puts the key into the list, behind all keys of parts.
-#[cycle(walk)]
-fn visit(problem: &Problem, forest: &Forest, keys: &mut Keys, key: Key) -> Result<(), NoMemory>
-    requires forest { (from : ℕ) × IsForest problem.now from forest.now }
-    requires key { GetsNode problem.now forest.now key }
-    requires placed { ArePlaced problem.now forest.now keys.old }
-    ensures placed { OnOk result (ArePlaced problem.now forest.now keys.new) }
-    ensures grown { OnOk result (Extends keys.old keys.new) }
-    ensures there { OnOk result (IsIn keys.new key) }
-{
-    if keys.number(&key).is_some() {
-        return Ok(());
-    }
-    visit_below(problem, forest, keys, key)?;
-    keys.add(key)
+/// What was made of a forest: the keys that get nodes, parts before wholes, and the node of each.
+#[derive(Drop)]
+struct Made {
+    keys: Keys,
+    nodes: Vec<Node>,
 }
 
-// Puts the keys of the parts of all alternatives into the list.
+// The number of a key. Where it has none yet, its node is made, behind those of all its parts.
+#[cycle(walk)]
+fn visit(
+    alloc: Global,
+    problem: &Problem,
+    forest: &Forest,
+    made: &mut Made,
+    key: Key,
+) -> Result<usize, NoMemory>
+    requires forest { (from : ℕ) × IsForest problem.now from forest.now }
+    requires key { GetsNode problem.now forest.now key }
+    requires made { AreMade problem.now forest.now made.old.keys made.old.nodes.items }
+    ensures made { OnOk result (AreMade problem.now forest.now made.new.keys made.new.nodes.items) }
+    ensures grown { OnOk result (Extends made.old.keys made.new.keys) }
+    ensures number { IfOk result (λ number. slice_get made.new.keys number ≡ Some key) }
+{
+    if let Some(number) = made.keys.number(&key) {
+        return Ok(number);
+    }
+    let ways = visit_below(alloc, problem, forest, made, key)?;
+    let number = put_node(alloc, made, key, ways)?;
+    Ok(number)
+}
+
+// Puts a key and its node behind the others, and tells its number. Nothing changes where the key is there.
+fn put_node(
+    alloc: Global,
+    made: &mut Made,
+    key: Key,
+    ways: Vec<SmallWay>,
+) -> Result<usize, NoMemory>
+    ensures { IfOk result (λ number. PutsNode made.old.keys made.old.nodes.items key ways made.new.keys made.new.nodes.items number) }
+{
+    let (number, is_new) = made.keys.add(key)?;
+    if is_new {
+        made.nodes.push(Node::idle(alloc, ways))?;
+    }
+    Ok(number)
+}
+
+// The ways of the alternatives of a key, for whose parts nodes are made.
 #[cycle(walk)]
 fn visit_below(
+    alloc: Global,
     problem: &Problem,
     forest: &Forest,
-    keys: &mut Keys,
+    made: &mut Made,
     key: Key,
-) -> Result<(), NoMemory>
+) -> Result<Vec<SmallWay>, NoMemory>
     requires forest { (from : ℕ) × IsForest problem.now from forest.now }
     requires key { GetsNode problem.now forest.now key }
-    requires placed { ArePlaced problem.now forest.now keys.old }
-    ensures placed { OnOk result (ArePlaced problem.now forest.now keys.new) }
-    ensures grown { OnOk result (Extends keys.old keys.new) }
-    ensures there { OnOk result (EachPart forest.now key (IsIn keys.new)) }
+    requires made { AreMade problem.now forest.now made.old.keys made.old.nodes.items }
+    ensures made { OnOk result (AreMade problem.now forest.now made.new.keys made.new.nodes.items) }
+    ensures grown { OnOk result (Extends made.old.keys made.new.keys) }
+    ensures ways { IfOk result (λ ways. HasWays problem.now forest.now made.new.keys (length made.new.keys) key ways.items) }
 {
+    alternatives_are_small();
     numbers_tell_lists_apart();
+    // the call tells that the positions are those of a problem
+    let _positions = problem.positions();
     let Some(alts) = forest.alts(&key) else {
-        return Ok(());
+        return Ok(Vec::new(alloc));
     };
+    let mut ways = Vec::with_capacity(alloc, alts.len())?;
     for index in 0..alts.len() {
-        visit_alt(problem, forest, keys, alts.get(index))?;
+        let way = visit_alt(alloc, problem, forest, made, key, alts.get(index))?;
+        ways.push(way)?;
     }
-    Ok(())
+    Ok(ways)
 }
 
+// The way of an alternative of a key in which a word is linked.
 #[cycle(walk)]
-fn visit_alt(problem: &Problem, forest: &Forest, keys: &mut Keys, alt: Alt) -> Result<(), NoMemory>
-    requires forest { (from : ℕ) × IsForest problem.now from forest.now }
-    requires parts { (part : SeenKey) → HasKey alt part → (IsNothing part → ⊥) → GetsNode problem.now forest.now part }
-    requires placed { ArePlaced problem.now forest.now keys.old }
-    ensures placed { OnOk result (ArePlaced problem.now forest.now keys.new) }
-    ensures grown { OnOk result (Extends keys.old keys.new) }
-    ensures there { OnOk result ((part : SeenKey) → HasKey alt part → IsNothing part ⊎ IsIn keys.new part) }
-{
-    match alt {
-        Alt::AllNull => Ok(()),
-        Alt::Split { lkey, rkey, .. } => {
-            visit_part(problem, forest, keys, lkey)?;
-            visit_part(problem, forest, keys, rkey)
-        }
-    }
-}
-
-#[cycle(walk)]
-fn visit_part(
+fn visit_alt(
+    alloc: Global,
     problem: &Problem,
     forest: &Forest,
-    keys: &mut Keys,
+    made: &mut Made,
+    key: Key,
+    alt: Alt,
+) -> Result<SmallWay, NoMemory>
+    requires forest { (from : ℕ) × IsForest problem.now from forest.now }
+    requires parts { (part : SeenKey) → HasKey alt part → (IsNothing part → ⊥) → GetsNode problem.now forest.now part }
+    requires made { AreMade problem.now forest.now made.old.keys made.old.nodes.items }
+    requires cut { (lists : List (List Connector)) × (c : Cutting) × IsAltFor problem.now lists key c alt }
+    requires key { HasShortEnds key }
+    requires alt { IsSmall alt }
+    ensures made { OnOk result (AreMade problem.now forest.now made.new.keys made.new.nodes.items) }
+    ensures grown { OnOk result (Extends made.old.keys made.new.keys) }
+    ensures way { IfOk result (IsWayOf problem.now made.new.keys (length made.new.keys) key alt) }
+{
+    let Alt::Split {
+        word,
+        disjunct,
+        to_left,
+        to_right,
+        lkey,
+        rkey,
+    } = alt
+    else {
+        unreachable!()
+    };
+    let left = visit_part(alloc, problem, forest, made, lkey)?;
+    let right = visit_part(alloc, problem, forest, made, rkey)?;
+    let near = near_of(key, word, to_left);
+    let far = far_of(key, word, to_right);
+    let way = word_way(problem, word, disjunct, near, far, left, right)?;
+    Ok(way)
+}
+
+// The number of the key of a part; none where there is no key, or nothing can be linked.
+#[cycle(walk)]
+fn visit_part(
+    alloc: Global,
+    problem: &Problem,
+    forest: &Forest,
+    made: &mut Made,
     key: Option<Key>,
-) -> Result<(), NoMemory>
+) -> Result<Option<usize>, NoMemory>
     requires forest { (from : ℕ) × IsForest problem.now from forest.now }
     requires key { (part : SeenKey) → key ≡ Some part → (IsNothing part → ⊥) → GetsNode problem.now forest.now part }
-    requires placed { ArePlaced problem.now forest.now keys.old }
-    ensures placed { OnOk result (ArePlaced problem.now forest.now keys.new) }
-    ensures grown { OnOk result (Extends keys.old keys.new) }
-    ensures there { OnOk result ((part : SeenKey) → key ≡ Some part → IsNothing part ⊎ IsIn keys.new part) }
+    requires made { AreMade problem.now forest.now made.old.keys made.old.nodes.items }
+    ensures made { OnOk result (AreMade problem.now forest.now made.new.keys made.new.nodes.items) }
+    ensures grown { OnOk result (Extends made.old.keys made.new.keys) }
+    ensures number { IfOk result (IsNumberFor made.new.keys (length made.new.keys) key) }
 {
     match key {
-        None => Ok(()),
+        None => Ok(None),
         Some(key) => {
             if is_nothing(&key) {
-                Ok(())
-            } else {
-                visit(problem, forest, keys, key)
+                return Ok(None);
             }
+            let number = visit(alloc, problem, forest, made, key)?;
+            Ok(Some(number))
         }
     }
 }
 
-// The number of the key of the whole sentence; none where all positions are unlinked. Puts all keys that get nodes into the list.
-fn root_of(problem: &Problem, forest: &Forest, keys: &mut Keys) -> Result<Option<usize>, NoMemory>
+// The number of the key of the whole sentence; none where all positions are unlinked. Makes all nodes.
+fn root_of(
+    alloc: Global,
+    problem: &Problem,
+    forest: &Forest,
+    made: &mut Made,
+) -> Result<Option<usize>, NoMemory>
     requires forest { (from : ℕ) × IsForest problem.now from forest.now }
-    requires empty { keys.old ≡ [] }
-    ensures placed { OnOk result (ArePlaced problem.now forest.now keys.new) }
-    ensures root { IfOk result (IsRootKey problem.now keys.new forest.now.unused) }
+    requires made { AreMade problem.now forest.now made.old.keys made.old.nodes.items }
+    ensures made { OnOk result (AreMade problem.now forest.now made.new.keys made.new.nodes.items) }
+    ensures root { IfOk result (IsRootKey problem.now made.new.keys forest.now.unused) }
 {
     let nulls = forest.unused();
     let count = problem.positions().len();
     if nulls as usize == count {
         return Ok(None);
     }
-    let key = Key::Whole { nulls };
-    visit(problem, forest, keys, key)?;
-    Ok(keys.number(&key))
+    let number = visit(alloc, problem, forest, made, Key::Whole { nulls })?;
+    Ok(Some(number))
 }
 
 // The link of a joint of two words.
@@ -198,99 +261,6 @@ fn word_way(
     Ok(way)
 }
 
-// The number of the key of a part; none where there is no key, or nothing can be linked.
-fn part_number(keys: &Keys, key: Option<Key>) -> Option<usize>
-    ensures { (k : ℕ) → IfSome key (λ part. IsNothing part ⊎ IsBefore keys.now k part) → IsNumberFor keys.now k key result }
-{
-    match key {
-        None => None,
-        Some(key) => {
-            if is_nothing(&key) {
-                None
-            } else {
-                keys.number(&key)
-            }
-        }
-    }
-}
-
-// The way of an alternative in which a word is linked.
-fn way_of(problem: &Problem, keys: &Keys, key: Key, alt: Alt) -> Result<SmallWay, NoMemory>
-    requires cut { (lists : List (List Connector)) × (c : Cutting) × IsAltFor problem.now lists key c alt }
-    requires key { HasShortEnds key }
-    requires alt { IsSmall alt }
-    ensures { IfOk result (λ w. (lists : List (List Connector)) (k : ℕ) (c : Cutting) → IsAltFor problem.now lists key c alt → IsCutting problem.now (subject_of lists key) c → HasPartsBelow keys.now k alt → IsWayFor problem.now (subjects_of lists keys.now) k (subject_of lists key) w c) }
-{
-    regions_are_cut_once();
-    let Alt::Split {
-        word,
-        disjunct,
-        to_left,
-        to_right,
-        lkey,
-        rkey,
-    } = alt
-    else {
-        unreachable!()
-    };
-    let near = near_of(key, word, to_left);
-    let far = far_of(key, word, to_right);
-    let left = part_number(keys, lkey);
-    let right = part_number(keys, rkey);
-    let way = word_way(problem, word, disjunct, near, far, left, right)?;
-    Ok(way)
-}
-
-// The ways of node `k`: one for each alternative of its key.
-fn ways_of(
-    alloc: Global,
-    problem: &Problem,
-    forest: &Forest,
-    keys: &Keys,
-    k: usize,
-) -> Result<Vec<SmallWay>, NoMemory>
-    requires forest { (from : ℕ) × IsForest problem.now from forest.now }
-    requires placed { ArePlaced problem.now forest.now keys.now }
-    requires within { k < length keys.now }
-    ensures { IfOk result (λ ways. (from : ℕ) (is : IsForest problem.now from forest.now) → AreWaysOf problem.now (subjects_of is.lists keys.now) k ways.items) }
-{
-    alternatives_are_small();
-    alternatives_decide();
-    cuts_are_valid();
-    numbers_tell_lists_apart();
-    // the call tells that the positions are those of a problem
-    let _positions = problem.positions();
-    let key = keys.get(k);
-    let Some(alts) = forest.alts(&key) else {
-        return Ok(Vec::new(alloc));
-    };
-    let mut ways = Vec::with_capacity(alloc, alts.len())?;
-    for index in 0..alts.len() {
-        let way = way_of(problem, keys, key, alts.get(index))?;
-        ways.push(way)?;
-    }
-    Ok(ways)
-}
-
-// The nodes of the keys.
-fn nodes_of(
-    alloc: Global,
-    problem: &Problem,
-    forest: &Forest,
-    keys: &Keys,
-) -> Result<Vec<Node>, NoMemory>
-    requires forest { (from : ℕ) × IsForest problem.now from forest.now }
-    requires placed { ArePlaced problem.now forest.now keys.now }
-    ensures { IfOk result (λ nodes. (from : ℕ) (is : IsForest problem.now from forest.now) → AreNodesOf problem.now (subjects_of is.lists keys.now) (length keys.now) nodes.items) }
-{
-    let mut nodes = Vec::with_capacity(alloc, keys.len())?;
-    for k in 0..keys.len() {
-        let ways = ways_of(alloc, problem, forest, keys, k)?;
-        nodes.push(Node::idle(alloc, ways))?;
-    }
-    Ok(nodes)
-}
-
 /// What a listing goes by: the nodes, and the node of the whole sentence.
 #[derive(Drop)]
 pub(crate) struct Built {
@@ -303,11 +273,18 @@ pub(crate) fn build(alloc: Global, problem: &Problem, forest: &Forest) -> Result
     requires { (from : ℕ) × IsForest problem.now from forest.now }
     ensures { IfOk result (λ b. IsListing problem.now (nothing_of (length problem.now)) b.table.nodes.items forest.now.unused b.root) }
 {
+    alternatives_decide();
+    cuts_are_valid();
+    numbers_tell_lists_apart();
+    regions_are_cut_once();
     // the call tells that the positions are those of a problem
     let _positions = problem.positions();
-    let mut keys = Keys::new(alloc);
-    let root = root_of(problem, forest, &mut keys)?;
-    let nodes = nodes_of(alloc, problem, forest, &keys)?;
+    let mut made = Made {
+        keys: Keys::new(alloc),
+        nodes: Vec::new(alloc),
+    };
+    let root = root_of(alloc, problem, forest, &mut made)?;
+    let Made { nodes, .. } = made;
     Ok(Built {
         table: Table { nodes },
         root,

@@ -1,5 +1,5 @@
 //! Keys and their numbers.
-ghost use Rattle.std.specs.Prelude.{◌≡◌, ◌<◌, [], length, Some, slice_get, MatchOption, OnErr, OnOk};
+ghost use Rattle.std.specs.Prelude.{◌≡◌, ◌<◌, [], length, Some, slice_get, IfOk, MatchOption, OnErr};
 ghost use Rattle.lg_rank.specs.Fronts.{IsIn};
 ghost use Rattle.lg_rank.specs.Keyed.{IsFirstPlace, AddsKey};
 
@@ -56,12 +56,13 @@ impl Keys {
         self.items.get_index_of(key)
     }
 
-    /// Adds a key. Nothing changes where it is there. The only error is running out of memory, and then nothing has changed.
-    pub fn add(&mut self, key: Key) -> Result<(), NoMemory>
-        ensures added { OnOk result (AddsKey self.old key self.new) }
+    /// Adds a key, and tells its number, and whether it is new. Nothing changes where it is there. The only error is running out of
+    /// memory, and then nothing has changed.
+    pub fn add(&mut self, key: Key) -> Result<(usize, bool), NoMemory>
+        ensures added { IfOk result (λ both. AddsKey self.old key self.new both.0 both.1) }
         ensures unchanged { OnErr result (self.new ≡ self.old) }
     {
-        self.items.insert(key)?;
-        Ok(())
+        let (number, is_new) = self.items.insert_full(key)?;
+        Ok((number, is_new))
     }
 }

@@ -1,9 +1,8 @@
-use Rattle.std.proofs.Common.{◌≡◌, ◌++◌, ◌∷◌, [], List, length, None, Some, Option, subst, sym}
+use Rattle.std.proofs.Common.{◌≡◌, ◌++◌, ◌∷◌, [], List, length, subst}
 use Rattle.lg_rank.specs.Queues.{IsLeastOf, IsWaiting}
 use Rattle.lg_rank.specs.Tables.{held_by}
 use Rattle.lg_rank.specs.Values.{value_of}
 use Rattle.lg_rank.specs.declared.node.Row.{Row}
-use Rattle.lg_rank.specs.declared.queue.Waiting.{Waiting}
 use Rattle.lg_rank.proofs.Peeking.{first_least_with, least_with, ok_as}
 use Rattle.lg_rank.proofs.node.least_with.Goals as goal
 

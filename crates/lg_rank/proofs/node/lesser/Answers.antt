@@ -1,4 +1,4 @@
-use Rattle.std.proofs.Common.{◌≡◌, ◌==◌, inl, inr, refl, true≢false, Less, Some, ap, sym, ◌∙◌, subst}
+use Rattle.std.proofs.Common.{◌==◌, inl, inr, refl, true≢false, ap, sym, ◌∙◌, subst}
 use Rattle.std.specs.Ordering.{ordering_index}
 use Rattle.lg_rank.specs.Fronts.{AtMost}
 use Rattle.lg_rank.specs.Values.{value_cmp, value_of}

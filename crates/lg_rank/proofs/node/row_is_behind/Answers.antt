@@ -1,4 +1,4 @@
-use Rattle.std.proofs.Common.{◌≡◌, ℕ, Less, sym, ◌∙◌, subst}
+use Rattle.std.proofs.Common.{◌≡◌, ℕ, Less, sym, subst}
 use Rattle.lg_rank.specs.Candidates.{IsCandidate}
 use Rattle.lg_rank.specs.Sources.{value_in}
 use Rattle.lg_rank.specs.Values.{value_cmp, value_of}

@@ -1,4 +1,4 @@
-use Rattle.std.proofs.Common.{◌++◌, ap, subst}
+use Rattle.std.proofs.Common.{◌++◌, subst}
 use Rattle.std.specs.BinaryHeap.{heap_items}
 use Rattle.std.specs.List.Sorted.{IsPermutation}
 use Rattle.lg_rank.specs.Queues.{waiting_list}

@@ -1,6 +1,6 @@
-use Rattle.std.proofs.Common.{length, sym, subst}
+use Rattle.std.proofs.Common.{sym, subst}
 use Rattle.lg_rank.specs.Rankings.{IsListing}
-use Rattle.lg_rank.specs.Values.{Value, nothing_of}
+use Rattle.lg_rank.specs.Values.{Value}
 use Rattle.lg_rank.proofs.ranked.is_listed_at.Goals as goal
 
 pub has_linkage-requires : goal.has_linkage-requires
