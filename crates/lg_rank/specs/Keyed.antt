@@ -1,13 +1,13 @@
 -- Nodes for the keys of a forest.
 use Rattle.std.specs.BinaryHeap.{heap_items}
 use Rattle.std.specs.Prelude.{◌≡◌, ℕ, ◌<◌, ◌≤◌, Bool, true, false, List, [], ◌∷◌, ◌++◌, length, Option, None, Some, slice_get, slice_index_or, ◌⊎◌}
+use Rattle.std.specs.Global.{Vec}
+use Rattle.std.specs.List.{Contains}
+use Rattle.std.specs.Map.{keys_of}
 use Rattle.lg_gram.specs.Connectors.{Connector}
 use Rattle.lg_gram.specs.declared.disjunct.Disjunct.{Disjunct}
 use Rattle.lg_gram.specs.declared.linkage.Link.{Link}
 use Rattle.lg_region.specs.Cuts.{Split}
-use Rattle.std.specs.Global.{Vec}
-use Rattle.std.specs.List.{Contains}
-use Rattle.std.specs.Map.{keys_of}
 use Rattle.lg_region.specs.Keys.{region_of_numbers, IsDisjunctAt, IsFirstOf, IsSplitOf, IsValidKey}
 use Rattle.lg_region.specs.Laws.{HasKey}
 use Rattle.lg_region.specs.Parts.{Region}

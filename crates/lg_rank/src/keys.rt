@@ -1,5 +1,5 @@
 //! Keys and their numbers.
-ghost use Rattle.std.specs.Prelude.{◌≡◌, ◌<◌, [], length, Some, slice_get, IfOk, MatchOption, OnErr};
+ghost use Rattle.std.specs.Prelude.{◌≡◌, [], IfOk, MatchOption, OnErr};
 ghost use Rattle.lg_rank.specs.Fronts.{IsIn};
 ghost use Rattle.lg_rank.specs.Keyed.{IsFirstPlace, AddsKey};
 
@@ -32,21 +32,6 @@ impl Keys {
         Keys {
             items: IndexSet::new(alloc),
         }
-    }
-
-    /// How many there are.
-    pub fn len(&self) -> usize
-        ensures { result ≡ length self.now }
-    {
-        self.items.len()
-    }
-
-    /// The key of a number.
-    pub fn get(&self, number: usize) -> Key
-        requires { number < length self.now }
-        ensures { slice_get self.now number ≡ Some result }
-    {
-        self.items[number]
     }
 
     /// The number of a key. None where the key is not there.
