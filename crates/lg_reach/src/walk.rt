@@ -147,6 +147,23 @@ pub(crate) fn reach(
     }
 }
 
+// As `reach` does. Most members are leaves, so that these are looked at on the spot.
+#[cycle(reach)]
+fn reach_member(
+    alloc: Global,
+    e: &Expr,
+    stand: &Stand<'_>,
+    start: Least,
+    sites: &mut Sites,
+) -> Result<Option<Left<Expr>>, NoMemory>
+    ensures { IfOk result (λ left. Walks sites.old sites.new stand.now start (choices_of (tree_of e.now)) (seen left)) }
+{
+    match e {
+        Expr::Conn(connector) => reach_leaf(connector, stand, start, sites),
+        _ => reach(alloc, e, stand, start, sites),
+    }
+}
+
 fn reach_nothing(stand: &Stand<'_>, start: Least, sites: &Sites) -> Option<Left<Expr>>
     ensures { Walks sites.now sites.now stand.now start (no_connectors ∷ []) (seen result) }
 {
@@ -196,7 +213,7 @@ fn reach_all(
     let mut kept = Vec::with_capacity(alloc, members.items().len())?;
     let mut least = start;
     for member in members.items() {
-        let Some(left) = reach(alloc, member, stand, least, sites)? else {
+        let Some(left) = reach_member(alloc, member, stand, least, sites)? else {
             return Ok(None);
         };
         kept.push(left.what)?;
@@ -221,7 +238,7 @@ fn reach_any(
     let mut kept = Vec::new(alloc);
     let mut least: Option<Least> = None;
     for member in members.items() {
-        let Some(left) = reach(alloc, member, stand, start, sites)? else {
+        let Some(left) = reach_member(alloc, member, stand, start, sites)? else {
             continue;
         };
         kept.push(left.what)?;

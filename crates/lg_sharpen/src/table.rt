@@ -87,7 +87,7 @@ pub(crate) fn column_of<'a>(cells: &'a Cells<Site>, site: &Site) -> Column<'a>
 
 /// Whether the table has a partner of a site of the position, of a list to the right, or to the left, over this distance. Most cells
 /// have no site, and then little is done.
-#[inline]
+#[inline(always)]
 pub(crate) fn has_partner(
     right: bool,
     most: u64,
@@ -110,6 +110,7 @@ pub(crate) fn has_partner(
 }
 
 // The same of the sites that lie this far away.
+#[inline(never)]
 fn has_partner_in(
     right: bool,
     most: u64,

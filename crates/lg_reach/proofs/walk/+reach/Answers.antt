@@ -19,7 +19,7 @@ reach_all-loop-member-init t c =
 pub reach_all-loop-member-preserved : goal.reach_all-loop-member-preserved
 reach_all-loop-member-preserved t c =
     let at = c.loop-member in
-    let new = c.reach.new.sites in
+    let new = c.reach_member.new.sites in
     let stand = c.args.stand.now in
     let start = c.args.start in
     let all = trees_in (expr_items c.args.members.now) in
@@ -33,7 +33,7 @@ reach_all-loop-member-preserved t c =
 pub reach_all-returns-in_default : goal.reach_all-returns-in_default
 reach_all-returns-in_default t c =
     let at = c.loop-member in
-    let new = c.reach.new.sites in
+    let new = c.reach_member.new.sites in
     let stand = c.args.stand.now in
     let e = c.member-item.result in
     all_none c.args.sites.now at.sites new stand c.args.start at.least (trees_in (expr_items c.args.members.now)) c.items-member-items.result.now at.member-index e c.loop-member-test.true c.member-item.is
@@ -57,7 +57,7 @@ pub reach_any-loop-member-preserved : goal.reach_any-loop-member-preserved
 reach_any-loop-member-preserved t c =
     let at = c.loop-member in
     let old = c.args.sites.now in
-    let new = c.reach.new.sites in
+    let new = c.reach_member.new.sites in
     let stand = c.args.stand.now in
     let start = c.args.start in
     let es = c.items-member-items.result.now in
@@ -71,7 +71,7 @@ reach_any-loop-member-preserved t c =
 pub reach_any-loop-member-preserved-in_default : goal.reach_any-loop-member-preserved-in_default
 reach_any-loop-member-preserved-in_default t c =
     let at = c.loop-member in
-    let new = c.reach.new.sites in
+    let new = c.reach_member.new.sites in
     let stand = c.args.stand.now in
     let e = c.member-item.result in
     to_same c.args.sites.now at.sites new stand c.args.start c.items-member-items.result.now at.member-index e c.loop-member-test.true c.member-item.is at.kept.items at.least at.invariant
