@@ -1,5 +1,7 @@
 pub mod Joining
 pub mod Placing
+pub mod Replacing
+pub mod Copying
 pub mod Narrowing
 pub mod Adding
 pub mod Meeting

@@ -1,5 +1,5 @@
 -- Words that were narrowed, one after another and time after time.
-use Rattle.std.proofs.Common.{◌≡◌, inl, inr, refl, sym, ◌∙◌, subst, List, ◌∷◌, ◌++◌, Contains}
+use Rattle.std.proofs.Common.{◌≡◌, inl, inr, refl, sym, ◌∙◌, subst, List, [], ◌∷◌, ◌++◌, Contains}
 use Rattle.lg_base.proofs.Elements.{contains_cases, contains_none, contains_here, contains_later}
 use Rattle.lg_eprune.specs.Live.{WordTree}
 use Rattle.lg_gram.specs.Measures.{Choice, choices_of}
@@ -28,6 +28,10 @@ narrows_then Used _ _ lasts nothing k = k
 narrows_then Used _ _ lasts (kept old new olds news named less more others) k =
     kept_then Used old new olds news lasts named less more (λ later h. narrows_then Used olds news later others h) (goes_on Used new news lasts k)
 narrows_then Used _ _ lasts (dropped old olds news none others) k = dropped old olds lasts none (narrows_then Used olds news lasts others k)
+
+pub narrows_itself : (Used : Choice → Type 0) (ws : List WordTree) → Narrows Used ws ws
+narrows_itself Used [] = nothing
+narrows_itself Used (w ∷ ws) = kept w w ws ws refl (λ c m. m) (λ c m used. m) (narrows_itself Used ws)
 
 pub narrows_append : (Used : Choice → Type 0) (olds news more_olds more_news : List WordTree) → Narrows Used olds news → Narrows Used more_olds more_news
     → Narrows Used (olds ++ more_olds) (news ++ more_news)

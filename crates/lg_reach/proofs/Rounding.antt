@@ -1,9 +1,9 @@
 -- Walks through the words of all positions, and rounds of them.
-use Rattle.std.proofs.Common.{◌≡◌, ◌≢◌, ◌∙◌, refl, sym, ap, subst, ℕ, zero, suc, ◌+◌, ◌<◌, ◌≤◌, ◌⊎◌, inl, inr, Bool, true, false, cond, Option, Some, None, List, [], ◌∷◌, ◌++◌, length, get_or, slice_get, slice_index_or, Contains, arith}
+use Rattle.std.proofs.Common.{◌≡◌, ◌≢◌, ◌∙◌, refl, sym, ap, subst, ℕ, zero, suc, ◌+◌, ◌<◌, ◌≤◌, ◌⊎◌, inl, inr, Bool, true, false, cond, Option, Some, None, List, [], ◌∷◌, ◌++◌, length, slice_get, slice_index_or, Contains, arith}
 use Rattle.std.specs.Borrow.{Bor}
 use Rattle.std.proofs.Math.Seq.{get_or-append_seam}
-use Rattle.std.proofs.lemmas.List.{get_or_append_left, get_or_past, length-append}
-use Rattle.std.proofs.lemmas.Option.{get_or_from_slice_get, slice_get_read, slice_get_within}
+use Rattle.std.proofs.lemmas.List.{get_or_append_left, get_or_at, get_or_past, length-append}
+use Rattle.std.proofs.lemmas.Option.{get_or_from_slice_get, slice_get_within}
 use Rattle.lg_base.proofs.Elements.{contains_none}
 use Rattle.lg_eprune.specs.Live.{WordTree}
 use Rattle.lg_gram.specs.Connectors.{Connector}
@@ -19,12 +19,12 @@ use Rattle.lg_sharpen.specs.Ways.{HasWay}
 use Rattle.lg_sharpen.proofs.Under.{ways_allow}
 use Rattle.lg_reach.specs.Ends.{AreKnown, HaveChosen, IsKnown, IsLinkageOf, Knows, KnowsAt, Suits, Uses}
 use Rattle.lg_reach.specs.Narrowed.{AreNarrowed}
-use Rattle.lg_reach.specs.Reach.{HaveUsed, Narrows, Never, nothing}
+use Rattle.lg_reach.specs.Reach.{HaveFewer, HaveUsed, Narrows, Never, nothing}
 use Rattle.lg_reach.specs.Rounds.{AreWalked, IsAmong}
 use Rattle.lg_reach.specs.declared.nearest.Stand.{Stand}
 use Rattle.lg_reach.specs.declared.known.Known.{Known}
 use Rattle.lg_reach.specs.declared.site.Sites.{Sites}
-use Rattle.lg_reach.proofs.Narrowing.{narrows_finds, narrows_then}
+use Rattle.lg_reach.proofs.Narrowing.{narrows_finds, narrows_itself, narrows_then}
 use Rattle.lg_reach.proofs.Wording.{known_still}
 
 abbrev at : List (List WordTree) → ℕ → List WordTree
@@ -161,7 +161,7 @@ module _ (n most : ℕ) (words kept again : List (List WordTree)) (counted : n �
       let learned = v.knows g among tt in
       subst (λ k. IsKnown k g) (sym same) (record { sites = learned.sites_know; gaps = ways_allow n most g among.fits (λ some. counted some ∙ v.fewer.same_length ∙ sym among.same_length) ways learned.ways_know gaps shuts })
 
-  walked_again : AreWalked most words again None more longer
+  pub walked_again : AreWalked most words again None more longer
   walked_again = record {
     fewer = record {
       same_length = w.fewer.same_length ∙ v.fewer.same_length;
@@ -171,11 +171,15 @@ module _ (n most : ℕ) (words kept again : List (List WordTree)) (counted : n �
     knows = λ g among is. w.knows g (now g among) (known_so g among);
   }
 
--- what is read at a position
-pub read_at : (words : List (List WordTree)) (n : ℕ) (ws : List WordTree) → n < length words → ws ≡ get_or words n ws → ws ≡ slice_index_or words n []
-read_at words n ws within is = sym (get_or_from_slice_get words n ws [] (slice_get_read words (length words) n ws refl within is))
+-- what stands behind so many
+pub stands_at : (words first rest : List (List WordTree)) (ws : List WordTree) (n : ℕ) → first ++ ws ∷ rest ≡ words → length first ≡ n → ws ≡ at words n
+stands_at words first rest ws n all long = sym (get_or_at first ws rest [] n long) ∙ ap (λ xs. at xs n) all
 
-pub walked_next : (n most : ℕ) (words kept given again : List (List WordTree)) → (n ≢ 0 → n ≡ length kept) → (sites more : Sites) (ways longer : List (List ℕ)) (gaps : Gaps) → Shuts n most ways gaps → (known : Bor Known) → given ≡ kept
-    → known.now ≡ record { sites = sites; gaps = gaps } → AreWalked most words kept None sites ways → AreWalked most given again (Some known) more longer → AreWalked most words again None more longer
-walked_next n most words kept given again counted sites more ways longer gaps shuts known is same v w =
-    walked_again n most words kept again counted sites more ways longer gaps shuts known same v (subst (λ ws. AreWalked most ws again (Some known) more longer) is w)
+-- what is left, or all in its place
+pub fewer_or_all : (words left all : List (List WordTree)) → (all ≡ left) ⊎ (all ≡ words) → HaveFewer words left → HaveFewer words all
+fewer_or_all words left all (inl is) fewer = subst (HaveFewer words) (sym is) fewer
+fewer_or_all words left all (inr is) fewer = subst (HaveFewer words) (sym is) (record { same_length = refl; each = λ i. narrows_itself Never (at words i) })
+
+pub used_or_all : (g : Linkage) (words left all : List (List WordTree)) → (all ≡ left) ⊎ (all ≡ words) → HaveUsed g words left → HaveUsed g words all
+used_or_all g words left all (inl is) used = subst (HaveUsed g words) (sym is) used
+used_or_all g words left all (inr is) used = subst (HaveUsed g words) (sym is) (λ i. narrows_itself (Uses g i) (at words i))

@@ -1,7 +1,6 @@
 -- Words that are walked through one after another.
-use Rattle.std.proofs.Common.{◌≡◌, ◌∙◌, refl, sym, ap, subst, ℕ, ◌+◌, ◌-◌, ◌<◌, ◌≤◌, arith, Bool, true, false, cond, Option, Some, None, List, [], ◌∷◌, ◌++◌, length, get_or, take, slice_get, Contains, ◌⊎◌, inl, inr}
+use Rattle.std.proofs.Common.{◌≡◌, ◌∙◌, refl, sym, ap, subst, ℕ, ◌-◌, ◌≤◌, arith, Bool, true, false, cond, Option, Some, None, List, [], ◌∷◌, ◌++◌, slice_get, Contains, inl, inr}
 use Rattle.std.specs.List.{AllZip}
-use Rattle.std.proofs.lemmas.List.{take_more}
 use Rattle.std.proofs.lemmas.List.Elements.{Contains-append_cases}
 use Rattle.std.proofs.lemmas.Slice.Zip.{AllZip-left}
 use Rattle.lg_base.proofs.Elements.{contains_cases, contains_none}
@@ -65,14 +64,6 @@ narrowed_then old now new before between after stand firsts bs cs ds v w = recor
         | inr m ↦ w.known g suits d chosen u m uses
       ];
 }
-
--- one word more
-pub narrowed_more : (old now new : Sites) (before between after : List (List ℕ)) (stand : Stand) (words : List WordTree) (i : ℕ) (word : WordTree) → i < length words → word ≡ get_or words i word
-    → (done left : List WordTree) → AreNarrowed old now before between stand (take i words) done → AreNarrowed now new between after stand (word ∷ []) left
-    → AreNarrowed old new before after stand (take (i + 1) words) (done ++ left)
-narrowed_more old now new before between after stand words i word within read done left v w =
-    subst (λ ws. AreNarrowed old new before after stand ws (done ++ left)) (ap (λ x. take i words ++ x ∷ []) read ∙ sym (take_more words i word within))
-    (narrowed_then old now new before between after stand (take i words) done (word ∷ []) left v w)
 
 -- what holds place by place holds at a place of both
 at_place : (R : Connector → ℕ → Type 0) (cs : List Connector) (ns : List ℕ) → AllZip R cs ns → (i : ℕ) (c : Connector) (n : ℕ) → slice_get cs i ≡ Some c → slice_get ns i ≡ Some n → R c n
@@ -150,7 +141,7 @@ module _ (old new : Sites) (stand : Stand) (word : WordTree) where
           right_met = met_less g true stand.position (least.right.least - 1) (end.right.least - 1) (omega (arith, b)) r;
         }
 
-    -- a word with these choices, or with more of its own
+    -- a word with these choices
     narrowed_to : (left : WordTree) → left.word ≡ word.word → ((c : Choice) → Contains (choices_of left.tree) c → Contains (choices_of word.tree) c)
         → ((c : Choice) → Contains cs c → Contains (choices_of left.tree) c) → AreNarrowed old new before after stand (word ∷ []) (left ∷ [])
     narrowed_to left same from to = record {
@@ -163,10 +154,8 @@ module _ (old new : Sites) (stand : Stand) (word : WordTree) where
           (known g suits d chosen here, way g suits d chosen here);
     }
 
-  -- with the tree of what is left, or with its own
+  -- with the tree of what is left
   pub narrowed_by : (before after : List (List ℕ)) (what : Tree) (least : Least) (left : WordTree) → Walks old new stand at_first (choices_of word.tree) (Some (choices_of what, least))
-      → Notes stand.position (least.left.least - 1) (least.right.least - 1) before after → left.word ≡ word.word → (left.tree ≡ what) ⊎ (left.tree ≡ word.tree) → AreNarrowed old new before after stand (word ∷ []) (left ∷ [])
-  narrowed_by before after what least left w notes named (inl same) =
+      → Notes stand.position (least.left.least - 1) (least.right.least - 1) before after → left.word ≡ word.word → left.tree ≡ what → AreNarrowed old new before after stand (word ∷ []) (left ∷ [])
+  narrowed_by before after what least left w notes named same =
       narrowed_to before after (choices_of what) least w notes left named (λ c m. w.fewer c (subst (λ t. Contains (choices_of t) c) same m)) (λ c m. subst (λ t. Contains (choices_of t) c) (sym same) m)
-  narrowed_by before after what least left w notes named (inr same) =
-      narrowed_to before after (choices_of what) least w notes left named (λ c m. subst (λ t. Contains (choices_of t) c) same m) (λ c m. subst (λ t. Contains (choices_of t) c) (sym same) (w.fewer c m))

@@ -5,6 +5,7 @@
 //! to reach back as far. What one walk learns the next one uses.
 #![tactic(auto)]
 
+mod formulas;
 mod known;
 mod nearest;
 mod rounds;

@@ -1,14 +1,15 @@
 //! Rounds of walks through all formulas of a sentence.
-ghost use Rattle.std.specs.Prelude.{◌≡◌, ◌≢◌, ◌≤◌, ◌+◌, length, IfOk};
+ghost use Rattle.std.specs.Prelude.{◌≡◌, ◌≢◌, ◌≤◌, ◌+◌, IfOk};
 ghost use Rattle.lg_gram.specs.Linkages.{Linkage, unlinked};
 ghost use Rattle.lg_reach.specs.Ends.{IsLinkageOf};
 ghost use Rattle.lg_reach.specs.Reach.{HaveFewer, HaveUsed};
 ghost use Rattle.lg_reach.specs.Rounds.{AreWalked};
 
+use crate::formulas::{formulas_of, parts_of};
 use crate::known::Known;
 use crate::nearest::Stand;
 use crate::site::Sites;
-use crate::words::reach_words;
+use crate::words::{Parts, reach_words};
 use lg_base::NoMemory;
 use lg_eprune::{PositionExprs, WordExprs};
 use lg_sharpen::{Gaps, Ways};
@@ -34,57 +35,53 @@ pub fn within_reach(
     ensures used { (g : Linkage) → IsLinkageOf positions.now g → unlinked g ≤ nulls → IfOk result (HaveUsed g positions.now) }
 {
     let most = nulls as usize + 1;
-    let mut round = walk_through(alloc, positions, most, None)?;
+    let all = parts_of(alloc, positions)?;
+    let mut round = walk_through(alloc, all, most, None)?;
     for _round in 0..ROUNDS {
         let Round { kept, sites, ways } = round;
-        let gaps = Gaps::of(alloc, count_of(&kept), most as u64, &ways)?;
+        let gaps = Gaps::of(alloc, count_of(kept.len()), most as u64, &ways)?;
         let known = Known { sites, gaps };
-        round = walk_through(alloc, &kept, most, Some(&known))?;
+        round = walk_through(alloc, kept, most, Some(&known))?;
     }
-    Ok(PositionExprs::of(round.kept))
+    let left = formulas_of(alloc, positions, round.kept)?;
+    Ok(left)
 }
 
 /// What a round has left, and what it has learned.
 #[derive(Drop)]
-struct Round {
-    kept: Vec<WordExprs>,
+struct Round<'a> {
+    kept: Vec<Parts<'a>>,
     sites: Sites,
     ways: Ways,
 }
 
-fn walk_through(
+fn walk_through<'a>(
     alloc: Global,
-    positions: &[WordExprs],
+    positions: Vec<Parts<'a>>,
     most: usize,
     known: Option<&Known>,
-) -> Result<Round, NoMemory>
-    ensures { IfOk result (λ round. AreWalked most positions.now round.kept.items known.entry round.sites round.ways) }
+) -> Result<Round<'a>, NoMemory>
+    ensures { IfOk result (λ round. AreWalked most positions.entry.items round.kept.items known.entry round.sites round.ways) }
 {
     let words = positions.len();
-    let mut sites = Sites::new(alloc, count_of(positions))?;
-    let mut ways = Ways::none(alloc, count_of(positions))?;
+    let mut sites = Sites::new(alloc, count_of(words))?;
+    let mut ways = Ways::none(alloc, count_of(words))?;
     let mut kept = Vec::with_capacity(alloc, words)?;
-    for position in 0..words {
+    for parts in positions {
         let stand = Stand {
-            position,
+            position: kept.len(),
             words,
             most,
             known,
         };
-        kept.push(reach_words(
-            alloc,
-            positions[position].items(),
-            &stand,
-            &mut sites,
-            &mut ways,
-        )?)?;
+        kept.push(reach_words(alloc, parts, &stand, &mut sites, &mut ways)?)?;
     }
     Ok(Round { kept, sites, ways })
 }
 
 // The number of positions. Where it is too great to be counted, which that of no sentence is, it is 0: then no gap is shut.
-fn count_of(positions: &[WordExprs]) -> u32
-    ensures { result ≢ 0 → result ≡ length positions.now }
+fn count_of(words: usize) -> u32
+    ensures { result ≢ 0 → result ≡ words }
 {
-    u32::try_from(positions.len()).unwrap_or(0)
+    u32::try_from(words).unwrap_or(0)
 }

@@ -10,7 +10,7 @@ use crate::nearest::Stand;
 use crate::site::Sites;
 use lg_base::{Cost, NoMemory};
 use lg_gram::{Connector, Expr, Exprs};
-use std::alloc::Global;
+use std::mem;
 
 /// How long the next link of a side is at least, and whether none of that side comes before it.
 #[derive(Clone, Copy, Debug)]
@@ -124,43 +124,19 @@ pub(crate) struct Left<T> {
 /// The expression without the choices whose links cannot reach a partner. The sites get the connectors of what is left.
 #[cycle(reach)]
 pub(crate) fn reach(
-    alloc: Global,
-    e: &Expr,
+    e: Expr,
     stand: &Stand<'_>,
     start: Least,
     sites: &mut Sites,
 ) -> Result<Option<Left<Expr>>, NoMemory>
-    ensures { IfOk result (λ left. Walks sites.old sites.new stand.now start (choices_of (tree_of e.now)) (seen left)) }
+    ensures { IfOk result (λ left. Walks sites.old sites.new stand.now start (choices_of (tree_of e)) (seen left)) }
 {
     match e {
         Expr::Empty => Ok(reach_nothing(stand, start, sites)),
-        Expr::Conn(connector) => reach_leaf(connector, stand, start, sites),
-        Expr::And(members) => reach_all(alloc, members, stand, start, sites),
-        Expr::Or(members) => reach_any(alloc, members, stand, start, sites),
-        Expr::Priced(inner, cost) => match reach(alloc, inner, stand, start, sites)? {
-            Some(left) => Ok(Some(Left {
-                what: priced(alloc, left.what, *cost)?,
-                least: left.least,
-            })),
-            None => Ok(None),
-        },
-    }
-}
-
-// As `reach` does. Most members are leaves, so that these are looked at on the spot.
-#[cycle(reach)]
-fn reach_member(
-    alloc: Global,
-    e: &Expr,
-    stand: &Stand<'_>,
-    start: Least,
-    sites: &mut Sites,
-) -> Result<Option<Left<Expr>>, NoMemory>
-    ensures { IfOk result (λ left. Walks sites.old sites.new stand.now start (choices_of (tree_of e.now)) (seen left)) }
-{
-    match e {
-        Expr::Conn(connector) => reach_leaf(connector, stand, start, sites),
-        _ => reach(alloc, e, stand, start, sites),
+        Expr::Conn(connector) => reach_leaf(&connector, stand, start, sites),
+        Expr::And(members) => reach_all(members.into_items(), stand, start, sites),
+        Expr::Or(members) => reach_any(members.into_items(), stand, start, sites),
+        Expr::Priced(inner, cost) => reach_priced(inner, cost, stand, start, sites),
     }
 }
 
@@ -200,54 +176,79 @@ fn is_alone(first: bool, connector: &Connector) -> bool
     first && !connector.is_multi()
 }
 
+// What is left of an expression in brackets stands where it stood.
 #[cycle(reach)]
-fn reach_all(
-    alloc: Global,
-    members: &Exprs,
+fn reach_priced(
+    mut inner: Box<Expr>,
+    cost: Cost,
     stand: &Stand<'_>,
     start: Least,
     sites: &mut Sites,
 ) -> Result<Option<Left<Expr>>, NoMemory>
-    ensures { IfOk result (λ left. Walks sites.old sites.new stand.now start (picks_of (trees_in (expr_items members.now))) (seen left)) }
+    ensures { IfOk result (λ left. Walks sites.old sites.new stand.now start (choices_of (priced (tree_of inner.value) cost)) (seen left)) }
 {
-    let mut kept = Vec::with_capacity(alloc, members.items().len())?;
+    let e = mem::replace(&mut *inner, Expr::Empty);
+    let Some(left) = reach(e, stand, start, sites)? else {
+        return Ok(None);
+    };
+    *inner = left.what;
+    Ok(Some(Left {
+        what: Expr::Priced(inner, cost),
+        least: left.least,
+    }))
+}
+
+// What is left of each member stands where the member stood.
+#[cycle(reach)]
+fn reach_all(
+    mut members: Vec<Expr>,
+    stand: &Stand<'_>,
+    start: Least,
+    sites: &mut Sites,
+) -> Result<Option<Left<Expr>>, NoMemory>
+    ensures { IfOk result (λ left. Walks sites.old sites.new stand.now start (picks_of (trees_in members.items)) (seen left)) }
+{
     let mut least = start;
-    for member in members.items() {
-        let Some(left) = reach_member(alloc, member, stand, least, sites)? else {
+    for place in 0..members.len() {
+        let member = mem::replace(&mut members[place], Expr::Empty);
+        let Some(left) = reach(member, stand, least, sites)? else {
             return Ok(None);
         };
-        kept.push(left.what)?;
+        members[place] = left.what;
         least = left.least;
     }
     Ok(Some(Left {
-        what: all_of(Exprs::of(kept)),
+        what: all_of(Exprs::of(members)),
         least,
     }))
 }
 
+// What is left of the members stands at the first places.
 #[cycle(reach)]
 fn reach_any(
-    alloc: Global,
-    members: &Exprs,
+    mut members: Vec<Expr>,
     stand: &Stand<'_>,
     start: Least,
     sites: &mut Sites,
 ) -> Result<Option<Left<Expr>>, NoMemory>
-    ensures { IfOk result (λ left. Walks sites.old sites.new stand.now start (choices_of_any (trees_in (expr_items members.now))) (seen left)) }
+    ensures { IfOk result (λ left. Walks sites.old sites.new stand.now start (choices_of_any (trees_in members.items)) (seen left)) }
 {
-    let mut kept = Vec::new(alloc);
+    let mut kept = 0;
     let mut least: Option<Least> = None;
-    for member in members.items() {
-        let Some(left) = reach_member(alloc, member, stand, start, sites)? else {
+    for place in 0..members.len() {
+        let member = mem::replace(&mut members[place], Expr::Empty);
+        let Some(left) = reach(member, stand, start, sites)? else {
             continue;
         };
-        kept.push(left.what)?;
+        members[kept] = left.what;
+        kept += 1;
         least = Some(nearer(least, left.least));
     }
+    members.truncate(kept);
     match least {
         None => Ok(None),
         Some(least) => Ok(Some(Left {
-            what: one_of(Exprs::of(kept)),
+            what: one_of(Exprs::of(members)),
             least,
         })),
     }
@@ -275,10 +276,4 @@ fn one_of(members: Exprs) -> Expr
     ensures { tree_of result ≡ one_of (trees_in (expr_items members)) }
 {
     Expr::Or(members)
-}
-
-fn priced(alloc: Global, e: Expr, cost: Cost) -> Result<Expr, NoMemory>
-    ensures { IfOk result (λ all. tree_of all ≡ priced (tree_of e) cost) }
-{
-    Ok(Expr::Priced(Box::new(alloc, e)?, cost))
 }
